@@ -10,12 +10,11 @@ use Rattle.std.proofs.Math.Seq.{get_or-append_seam, take-append_seam}
 use Rattle.std.specs.List.{flat_map, list_all, list_any}
 use Rattle.envimage.specs.Data.{Pair}
 use Rattle.envtools.specs.Environment.{same}
-use Rattle.envtools.specs.Printing.{all_found}
 use Rattle.hushcheck.specs.Names.{Text, run_by_name, run_by_value}
 use Rattle.hushcheck.specs.Rules.{Rules}
 use Rattle.rehearse_terms.specs.declared.shell.Shell.{Shell}
 use Rattle.hushcheck.specs.Order.{IsReached, is_asked, is_run, once, with_name, with_names}
-use Rattle.hushcheck.specs.Report.{BeginsCheck, Checks, is_fine, is_sound, lines_of}
+use Rattle.hushcheck.specs.Report.{BeginsCheck, ChecksNames, is_fine, lines_of}
 use Rattle.hushcheck.proofs.OrderLemmas.{with_names-append}
 
 -- ---- names that are added after others
@@ -161,23 +160,23 @@ left-turn shell (p ∷ env) done n new =
 
 -- ---- one turn
 
-module _ (rules : Rules) (env : List Pair) (asked : List Text) (names : List Text) (at : ℕ) where
+module _ (rules : Rules) (env : List Pair) (asked : List Text) (names : List Text) (at : ℕ) (so_far : Bool) where
   -- the names so far are in order, and so is what was reported of the names before a place
   pub record Standing (told : Text) (sound : Bool) : Type 0 where
     pub within : at ≤ length names
     pub in_turn : names ≡ once (asked ++ flat_map (run_by_name rules.shell env) (take at names))
     pub reached : (m : Text) → Contains names m → IsReached rules.shell env asked m
     pub told_is : told ≡ flat_map (lines_of rules env) (take at names)
-    pub sound_is : sound ≡ is_sound rules env asked (take at names)
+    pub sound_is : sound ≡ (so_far && list_all (is_fine rules env) (take at names))
 
 -- before the first turn
-pub standing_first : (rules : Rules) (env : List Pair) (asked names : List Text) (told : Text) (sound : Bool) → names ≡ once asked → told ≡ [] → sound ≡ all_found env asked → Standing rules env asked names 0 told sound
-standing_first rules env asked names told sound e t s = record {
+pub standing_first : (rules : Rules) (env : List Pair) (asked names : List Text) (so_far : Bool) (told : Text) (sound : Bool) → names ≡ once asked → told ≡ [] → sound ≡ so_far → Standing rules env asked names 0 so_far told sound
+standing_first rules env asked names so_far told sound e t s = record {
   within = omega arith;
   in_turn = e ∙ ap once (sym (append-nil asked));
   reached = subst (λ ns. (m : Text) → Contains ns m → IsReached rules.shell env asked m) (sym e) (good-with_names (IsReached rules.shell env asked) [] asked (λ m c. absurd (let h = c.1 in omega (arith, h))) (λ m c. is_asked m c));
   told_is = t;
-  sound_is = s ∙ sym (and_true (all_found env asked));
+  sound_is = s ∙ sym (and_true so_far);
 }
   where
     and_true : (b : Bool) → (b && true) ≡ b
@@ -204,12 +203,12 @@ one_more : {X : Type 0} (f : Text → List X) (xs : List Text) (x : Text) → fl
 one_more f xs x = flat_map-append f xs (x ∷ []) ∙ ap (λ ys. flat_map f xs ++ ys) (append-nil (f x))
 
 -- after one more turn
-pub standing_next : (rules : Rules) (env : List Pair) (asked names names' : List Text) (at : ℕ) (told told' : Text) (sound sound' : Bool) → at < length names → Standing rules env asked names at told sound
+pub standing_next : (rules : Rules) (env : List Pair) (asked names names' : List Text) (at : ℕ) (so_far : Bool) (told told' : Text) (sound sound' : Bool) → at < length names → Standing rules env asked names at so_far told sound
     → names' ≡ with_names names (run_by_name rules.shell env (get_or names at []))
     → told' ≡ told ++ lines_of rules env (get_or names at [])
     → sound' ≡ (sound && is_fine rules env (get_or names at []))
-    → Standing rules env asked names' (at + 1) told' sound'
-standing_next rules env asked names names' at told told' sound sound' within s e t w =
+    → Standing rules env asked names' (at + 1) so_far told' sound'
+standing_next rules env asked names names' at so_far told told' sound sound' within s e t w =
     let n = get_or names at [] in
     let more = run_by_name rules.shell env n in
     let front : take (at + 1) names' ≡ take at names ++ n ∷ [] = ap (take (at + 1)) e ∙ take_turn names more at within in
@@ -225,8 +224,8 @@ standing_next rules env asked names names' at told told' sound sound' within s e
           (good-with_names (IsReached rules.shell env asked) names more s.reached (λ m c. is_run n m (s.reached n (at, within, refl_at names at within)) c));
       told_is = t ∙ ap (λ ts. ts ++ lines_of rules env n) s.told_is ∙ sym (ap (flat_map (lines_of rules env)) front ∙ one_more (lines_of rules env) (take at names) n);
       sound_is =
-          w ∙ ap (λ b. b && is_fine rules env n) s.sound_is ∙ and_assoc (all_found env asked) (list_all (is_fine rules env) (take at names)) (is_fine rules env n)
-          ∙ ap (λ b. all_found env asked && b) (sym (ap (list_all (is_fine rules env)) front ∙ list_all-append (is_fine rules env) (take at names) (n ∷ []) ∙ and_end (list_all (is_fine rules env) (take at names)) (is_fine rules env n)));
+          w ∙ ap (λ b. b && is_fine rules env n) s.sound_is ∙ and_assoc so_far (list_all (is_fine rules env) (take at names)) (is_fine rules env n)
+          ∙ ap (λ b. so_far && b) (sym (ap (list_all (is_fine rules env)) front ∙ list_all-append (is_fine rules env) (take at names) (n ∷ []) ∙ and_end (list_all (is_fine rules env) (take at names)) (is_fine rules env n)));
     }
   where
     refl_at : (xs : List Text) (k : ℕ) → k < length xs → get_or xs k (get_or xs k []) ≡ get_or xs k []
@@ -235,10 +234,10 @@ standing_next rules env asked names names' at told told' sound sound' within s e
     refl_at (y ∷ ys) (suc k) h = refl_at ys k (omega (arith, h))
 
 -- fewer names are left
-pub left_less : (rules : Rules) (env : List Pair) (asked names names' : List Text) (at : ℕ) (told : Text) (sound : Bool) → at < length names → Standing rules env asked names at told sound
+pub left_less : (rules : Rules) (env : List Pair) (asked names names' : List Text) (at : ℕ) (so_far : Bool) (told : Text) (sound : Bool) → at < length names → Standing rules env asked names at so_far told sound
     → names' ≡ with_names names (run_by_name rules.shell env (get_or names at []))
     → left rules.shell env (take (at + 1) names') + (length names' - (at + 1)) < left rules.shell env (take at names) + (length names - at)
-left_less rules env asked names names' at told sound within s e =
+left_less rules env asked names names' at so_far told sound within s e =
     let n = get_or names at [] in
     let more = run_by_name rules.shell env n in
     let front : take (at + 1) names' ≡ take at names ++ n ∷ [] = ap (take (at + 1)) e ∙ take_turn names more at within in
@@ -248,8 +247,8 @@ left_less rules env asked names names' at told sound within s e =
     omega (arith, fewer, long, within)
 
 -- after the last turn
-pub standing_last : (rules : Rules) (env : List Pair) (asked names : List Text) (at : ℕ) (told : Text) (sound : Bool) → length names ≤ at → Standing rules env asked names at told sound → Checks rules env asked told sound
-standing_last rules env asked names at told sound past s =
+pub standing_last : (rules : Rules) (env : List Pair) (asked names : List Text) (at : ℕ) (so_far : Bool) (told : Text) (sound : Bool) → length names ≤ at → Standing rules env asked names at so_far told sound → ChecksNames rules env asked so_far told sound
+standing_last rules env asked names at so_far told sound past s =
     let all : take at names ≡ names = take_all at names past in
     record {
       order = names;
@@ -258,7 +257,7 @@ standing_last rules env asked names at told sound past s =
         reached = s.reached;
       };
       told_is = s.told_is ∙ ap (flat_map (lines_of rules env)) all;
-      sound_is = s.sound_is ∙ ap (is_sound rules env asked) all;
+      sound_is = s.sound_is ∙ ap (λ ns. so_far && list_all (is_fine rules env) ns) all;
     }
 
 -- before the first turn nothing is told
@@ -272,12 +271,12 @@ begins_first rules env asked = record {
 }
 
 -- in a turn
-pub begins_next : (rules : Rules) (env : List Pair) (asked names : List Text) (at : ℕ) (told : Text) (sound : Bool) → at < length names → Standing rules env asked names at told sound
+pub begins_next : (rules : Rules) (env : List Pair) (asked names : List Text) (at : ℕ) (so_far : Bool) (told : Text) (sound : Bool) → at < length names → Standing rules env asked names at so_far told sound
     → BeginsCheck rules env asked (told ++ lines_of rules env (get_or names at []))
-begins_next rules env asked names at told sound within s =
+begins_next rules env asked names at so_far told sound within s =
     let n = get_or names at [] in
     let more = run_by_name rules.shell env n in
-    let next = standing_next rules env asked names (with_names names more) at told (told ++ lines_of rules env n) sound (sound && is_fine rules env n) within s refl refl refl in
+    let next = standing_next rules env asked names (with_names names more) at so_far told (told ++ lines_of rules env n) sound (sound && is_fine rules env n) within s refl refl refl in
     let all = with_names names more in
     record {
       turns = take (at + 1) all;

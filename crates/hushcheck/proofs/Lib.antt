@@ -8,6 +8,7 @@ pub mod CallsLemmas
 pub mod AskedLemmas
 pub mod TellingLemmas
 pub mod ByShellLemmas
+pub mod ScriptLemmas
 pub mod CheckExamples
 pub mod CallsExamples
 pub mod WarningsExamples

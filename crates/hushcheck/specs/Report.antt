@@ -7,7 +7,7 @@ use Rattle.envtools.specs.Printing.{all_found}
 use Rattle.hushlang.specs.Tree.{Script}
 use Rattle.hushlang.specs.declared.token.SyntaxError.{SyntaxError}
 use Rattle.hushlang.specs.declared.token.SyntaxError.TheVariants.{OpenQuote, LoneBackslash, OpenBrace, BadVariable, SingleAmp, SinglePipe, Unexpected, MissingWord, AssignmentBeforeCommand, TooDeep, Memory}
-use Rattle.hushcheck.specs.Names.{Text, read_by, run_by_name}
+use Rattle.hushcheck.specs.Names.{Text, read_by, run_by_name, run_by_text}
 use Rattle.hushcheck.specs.Order.{IsOrder, IsReached, once}
 use Rattle.hushcheck.specs.Places.{lines_at}
 use Rattle.hushcheck.specs.Calls.{calls_of, found_lines}
@@ -90,17 +90,18 @@ is_fine_value rules (Some text) = is_fine_text rules text
 abbrev pub is_fine : Rules → List Pair → Text → Bool
 is_fine rules env name = is_fine_value rules (value_of env name)
 
--- all is well: each name that is asked for is set, and each text that is reached is fine
-abbrev pub is_sound : Rules → List Pair → (asked order : List Text) → Bool
-is_sound rules env asked order = all_found env asked && list_all (is_fine rules env) order
-
--- the lines of the names that are reached, in their order, and whether all is well
-pub record Checks (rules : Rules) (env : List Pair) (asked : List Text) (told : Text) (sound : Bool) :
+-- the lines of the names that are reached, in their order, and whether all is well: it was so far, and each text that is
+-- reached is fine
+pub record ChecksNames (rules : Rules) (env : List Pair) (asked : List Text) (so_far : Bool) (told : Text) (sound : Bool) :
     Type 0 where
   pub order : List Text
   pub is_order : IsOrder rules.shell env asked order
   pub told_is : told ≡ flat_map (lines_of rules env) order
-  pub sound_is : sound ≡ is_sound rules env asked order
+  pub sound_is : sound ≡ (so_far && list_all (is_fine rules env) order)
+
+-- the same where each name that is asked for has to be set
+abbrev pub Checks : Rules → List Pair → (asked : List Text) → (told : Text) → (sound : Bool) → Type 0
+Checks rules env asked told sound = ChecksNames rules env asked (all_found env asked) told sound
 
 -- What is told of a check that does not come to its end: the lines of the names whose turn has come, which are the first
 -- of those that are asked for and that the texts of these run.
@@ -110,6 +111,26 @@ pub record BeginsCheck (rules : Rules) (env : List Pair) (asked : List Text) (to
   pub in_turn : once (asked ++ flat_map (run_by_name rules.shell env) turns) ≡ turns ++ behind
   pub reached : (name : Text) → Contains turns name → IsReached rules.shell env asked name
   pub told_is : told ≡ flat_map (lines_of rules env) turns
+
+-- ---- a script that is no variable's text
+
+-- what has its turn after a script: the names that are asked for, and then those that the script runs
+abbrev pub behind_script : Rules → (text : Text) → (asked : List Text) → List Text
+behind_script rules text asked = asked ++ run_by_text rules.shell text
+
+-- The lines of the script under its name, then those of the names behind it; and whether all is well: each name that is
+-- asked for is set, and each text is fine, that of the script too.
+pub record ChecksScript (rules : Rules) (env : List Pair) (name text : Text) (asked : List Text) (told : Text) (sound : Bool) :
+    Type 0 where
+  pub rest : Text
+  pub told_is : told ≡ lines_of_text rules name text ++ rest
+  pub checks : ChecksNames rules env (behind_script rules text asked) (all_found env asked && is_fine_text rules text) rest sound
+
+-- what is told if that does not come to its end
+pub record BeginsScript (rules : Rules) (env : List Pair) (name text : Text) (asked : List Text) (told : Text) : Type 0 where
+  pub rest : Text
+  pub told_is : told ≡ lines_of_text rules name text ++ rest
+  pub begins : BeginsCheck rules env (behind_script rules text asked) rest
 
 -- ---- which names are asked for
 

@@ -5,7 +5,8 @@ use Rattle.output.specs.Sink.{Sink, BrokeOff, Wrote}
 use Rattle.output.specs.Outputs.{WroteFront}
 use Rattle.hushcheck.specs.Names.{Text}
 use Rattle.hushcheck.specs.Rules.{Rules}
-use Rattle.hushcheck.specs.Report.{BeginsCheck, Checks}
+use Rattle.envtools.specs.Printing.{all_found}
+use Rattle.hushcheck.specs.Report.{BeginsCheck, BeginsScript, ChecksNames, ChecksScript}
 use Rattle.hushcheck.specs.declared.check_error.CheckError.{CheckError}
 use Rattle.hushcheck.specs.declared.check_error.CheckError.TheVariants.{Memory, Write}
 
@@ -21,6 +22,20 @@ Writes (Err error) old new text = Stops error old new text
 
 -- What a check wrote: all lines, and whether all is well. Or the output failed, or memory ran out, within the lines of
 -- the names whose turn had come.
+abbrev pub WritesNames : Rules → List Pair → (asked : List Text) → (so_far : Bool) → Result Bool CheckError → Sink → Sink → Type 0
+WritesNames rules env asked so_far (Ok sound) old new =
+    (told : Text) × ChecksNames rules env asked so_far told sound × Wrote old new told
+WritesNames rules env asked so_far (Err error) old new =
+    (told : Text) × BeginsCheck rules env asked told × Stops error old new told
+
+-- the same where each name that is asked for has to be set
 abbrev pub WritesCheck : Rules → List Pair → (asked : List Text) → Result Bool CheckError → Sink → Sink → Type 0
-WritesCheck rules env asked (Ok sound) old new = (told : Text) × Checks rules env asked told sound × Wrote old new told
-WritesCheck rules env asked (Err error) old new = (told : Text) × BeginsCheck rules env asked told × Stops error old new told
+WritesCheck rules env asked answer old new = WritesNames rules env asked (all_found env asked) answer old new
+
+-- the same of a script, and of the names behind it
+abbrev pub WritesScript : Rules → List Pair → (name text : Text) → (asked : List Text) → Result Bool CheckError → Sink → Sink →
+    Type 0
+WritesScript rules env name text asked (Ok sound) old new =
+    (told : Text) × ChecksScript rules env name text asked told sound × Wrote old new told
+WritesScript rules env name text asked (Err error) old new =
+    (told : Text) × BeginsScript rules env name text asked told × Stops error old new told

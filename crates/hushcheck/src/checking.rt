@@ -1,10 +1,10 @@
 //! The texts that are reached, and what is reported of each.
-ghost use Rattle.std.specs.Prelude.{◌≡◌, ◌&&◌, ◌<◌, [], length, map, option_map, IfOk, OnOk, slice_index_or};
+ghost use Rattle.std.specs.Prelude.{◌≡◌, ◌&&◌, ◌++◌, ◌<◌, [], length, map, option_map, IfOk, OnOk, slice_index_or};
 ghost use Rattle.envtools.specs.Printing.{all_found};
 ghost use Rattle.hushcheck.specs.Names.{run_by_found, run_by_name, run_by_text};
-ghost use Rattle.hushcheck.specs.Order.{with_names};
+ghost use Rattle.hushcheck.specs.Order.{once, with_names};
 ghost use Rattle.hushcheck.specs.Report.{is_fine, is_fine_text, lines_of, lines_of_text};
-ghost use Rattle.hushcheck.specs.Telling.{Writes, WritesCheck};
+ghost use Rattle.hushcheck.specs.Telling.{Writes, WritesCheck, WritesNames, WritesScript};
 
 use crate::by_shell::{TextRead, read_by, warnings_by};
 use crate::calls::calls_of;
@@ -148,6 +148,42 @@ fn take_turn<O: Out>(
     Ok(fine)
 }
 
+/// The names that are asked for, and then those that a script runs, if there is one; each once.
+fn names_behind(alloc: Global, asked: &[&[u8]], script: Option<Script>) -> Result<Names, AllocError>
+    ensures { IfOk result (λ names. names
+        ≡ once (map (λ name. name.now) asked.now ++ run_by_found script)) }
+{
+    let mut names = asked_names(alloc, asked)?;
+    add_found(alloc, script, &mut names)?;
+    Ok(names)
+}
+
+/// Checks the variables that are asked for, and those that a script runs, if there is one, and then those
+/// that the text of each in turn runs. Returns whether all is well, as it was so far.
+fn check_names<O: Out>(
+    alloc: Global,
+    rules: &Rules<'_>,
+    env: &Env,
+    asked: &[&[u8]],
+    script: Option<Script>,
+    so_far: bool,
+    out: &mut O,
+) -> Result<bool, CheckError>
+    ensures { WritesNames rules.now env.now
+        (map (λ name. name.now) asked.now ++ run_by_found script) so_far result
+        (O.sink out.old) (O.sink out.new) }
+{
+    let mut names = names_behind(alloc, asked, script)?;
+    let mut sound = so_far;
+    let mut at = 0;
+    'names: while at < names.len() {
+        let fine = take_turn(alloc, rules, env, &mut names, at, out)?;
+        sound = both(sound, fine);
+        at += 1;
+    }
+    Ok(sound)
+}
+
 /// Checks the variables that are asked for, and then the variables that the text of each in turn
 /// runs by a name that is written out, each once. Writes for each whether its text is well-formed,
 /// and if not, where it breaks; what U-Boot's shells read otherwise in it, or if a shell is named,
@@ -166,13 +202,26 @@ pub fn check<O: Out>(
     ensures { WritesCheck rules.now env.now
         (map (λ name. name.now) asked.now) result (O.sink out.old) (O.sink out.new) }
 {
-    let mut names = asked_names(alloc, asked)?;
-    let mut sound = are_set(env, asked);
-    let mut at = 0;
-    'names: while at < names.len() {
-        let fine = take_turn(alloc, rules, env, &mut names, at, out)?;
-        sound = both(sound, fine);
-        at += 1;
-    }
-    Ok(sound)
+    let are_set = are_set(env, asked);
+    check_names(alloc, rules, env, asked, None, are_set, out)
+}
+
+/// Checks a script that is no variable's text, under this name, and then as `check` the variables that are
+/// asked for and those that the script runs. Returns whether all is well: as `check` says, and the script is
+/// well-formed and the device list lacks no command of it. Errors: those of `check`.
+pub fn check_script<O: Out>(
+    alloc: Global,
+    rules: &Rules<'_>,
+    env: &Env,
+    name: &[u8],
+    text: &[u8],
+    asked: &[&[u8]],
+    out: &mut O,
+) -> Result<bool, CheckError>
+    ensures { WritesScript rules.now env.now name.now text.now
+        (map (λ name. name.now) asked.now) result (O.sink out.old) (O.sink out.new) }
+{
+    let checked = check_text(alloc, rules.devices, rules.shell, name, text, out)?;
+    let so_far = both(are_set(env, asked), checked.fine);
+    check_names(alloc, rules, env, asked, checked.script, so_far, out)
 }

@@ -23,6 +23,6 @@ mod watch;
 
 pub use asked::asked_names;
 pub use check_error::CheckError;
-pub use checking::check;
+pub use checking::{check, check_script};
 pub use place::{Place, place_of};
 pub use rules::Rules;

@@ -6,7 +6,7 @@ use Rattle.hushcheck_main.specs.CommandAnswers.{Answers, Says, asked}
 use Rattle.hushcheck_main.specs.CommandLine.{hushcheck}
 use Rattle.tool_words.specs.Answered.{IsAccepted, Refuses}
 use Rattle.tool_words.specs.declared.ask.UseError.{UseError}
-use Rattle.tool_words.specs.declared.ask.UseError.TheVariants.{HeaderNeedsOne, Line, LockNeedsFolder, Memory, Misnamed, NeedName, ScriptAndName, TooManyDevices, WordAlone}
+use Rattle.tool_words.specs.declared.ask.UseError.TheVariants.{BadFill, BadSize, HeaderNeedsOne, Line, LockNeedsFolder, Memory, Misnamed, NeedName, ScriptAndName, TooManyDevices, WordAlone}
 
 pub hushcheck_simple : is_simple hushcheck ≡ true
 unfolding clap_on_literals hushcheck
@@ -26,9 +26,11 @@ clap-refused words ScriptAndName h = absurd h
 clap-refused words HeaderNeedsOne h = absurd h
 clap-refused words WordAlone h = absurd h
 clap-refused words TooManyDevices h = absurd h
+clap-refused words BadSize h = absurd h
+clap-refused words BadFill h = absurd h
 clap-refused words (Misnamed error) h = absurd h
 
--- a name that no shell has, or words that name no images
+-- a name that no shell has, a variable beside a script, or words that name no images
 pub entries-refused : (words : List Text) (error : UseError) → IsAccepted hushcheck words → Says (asked words) (Err error) → Answers words (Err error)
 entries-refused words (Line text) accepted h = inr (accepted, h)
 entries-refused words Memory accepted h = tt
@@ -38,4 +40,6 @@ entries-refused words ScriptAndName accepted h = absurd h
 entries-refused words HeaderNeedsOne accepted h = absurd h
 entries-refused words WordAlone accepted h = absurd h
 entries-refused words TooManyDevices accepted h = absurd h
+entries-refused words BadSize accepted h = absurd h
+entries-refused words BadFill accepted h = absurd h
 entries-refused words (Misnamed error) accepted h = (accepted, h)

@@ -10,38 +10,52 @@ use Rattle.hushcheck_main.specs.Asked.{Asked}
 use Rattle.hushcheck_main.specs.declared.fault.CheckFault.{CheckFault}
 use Rattle.hushcheck_main.specs.declared.fault.CheckFault.TheVariants.{DeviceList, Shared}
 use Rattle.hushcheck.specs.Names.{Text}
-use Rattle.hushcheck.specs.Report.{BeginsCheck, Checks, asked_names}
+use Rattle.hushcheck.specs.Report.{BeginsCheck, BeginsScript, Checks, ChecksScript, asked_names}
 use Rattle.hushcheck.specs.Rules.{Rules}
+use Rattle.hushcheck.specs.Telling.{Stops}
+use Rattle.hushcheck.specs.declared.check_error.CheckError.{CheckError}
 use Rattle.rehearse_terms.specs.declared.shell.Shell.{Shell}
 use Rattle.device_list.specs.DeviceList.{Devices, listed}
 use Rattle.device_list.specs.declared.devices_error.DevicesError.{DevicesError}
 use Rattle.tool_files.specs.CallOrder.{OnlyReads}
-use Rattle.tool_files.specs.Told.{Told}
+use Rattle.tool_files.specs.Told.{Told, file_at}
+use Rattle.tool_files.specs.declared.files.Action.TheVariants.{ReadAll}
 use Rattle.tool_images.specs.declared.error.ToolError.TheVariants.{Image, Write}
 use Rattle.tool_images.specs.declared.fault.Fault.{Fault}
 use Rattle.tool_images.specs.declared.fault.Fault.TheVariants.{Memory, Tool}
 use Rattle.tool_steps.specs.Images.{Copy}
 use Rattle.tool_steps.specs.Origins.{HasReadImages, IsOriginFault}
 use Rattle.tool_steps.specs.PrintingFiles.{environment}
-use Rattle.tool_steps.specs.ReadingFiles.{ReadsText}
-use Rattle.tool_steps.specs.Sources.{AreRead, IsUnlisted}
+use Rattle.tool_steps.specs.ReadingFiles.{Reads, ReadsText}
+use Rattle.tool_steps.specs.Scripts.{HasReadNamed, IsNamedFault}
+use Rattle.tool_steps.specs.Sources.{IsUnlisted}
 use Rattle.tool_words.specs.Asked.{OriginShown}
 
 -- ---- what is checked
 
--- the environment that was found, the device list if there is one, the names that the call gives, whether every
--- variable is checked after them, and the shell that is named, if one is
+-- a script that is checked in place of a variable: its name, and its text
+abbrev pub Named : Type 0
+Named = Text × Text
+
+-- the script of this text under this name, if there are both
+abbrev pub under : (name text : Option Text) → Option Named
+under (Some name) (Some text) = Some (name, text)
+under name text = None
+
+-- the environment that was found, the device list and the script if there are any, the names that the call gives, whether
+-- every variable is checked after them, and the shell that is named, if one is
 pub record Given : Type 0 where
   pub env : Result (List Pair) ImageError
   pub devices : Result (Option Devices) DevicesError
+  pub script : Option Named
   pub names : List Text
   pub all : Bool
   pub shell : Option Shell
 
-abbrev pub given : Result (List Pair) ImageError → Result (Option Devices) DevicesError → List Text → Bool →
+abbrev pub given : Result (List Pair) ImageError → Result (Option Devices) DevicesError → Option Named → List Text → Bool →
     Option Shell → Given
-given env devices names all shell =
-    record { env = env; devices = devices; names = names; all = all; shell = shell }
+given env devices script names all shell =
+    record { env = env; devices = devices; script = script; names = names; all = all; shell = shell }
 
 abbrev pub with_list : Result Devices DevicesError → Result (Option Devices) DevicesError
 with_list (Ok devices) = Ok (Some devices)
@@ -53,12 +67,31 @@ list_in None = Ok None
 list_in (Some text) = with_list (listed text)
 
 -- the same for copies and the text of a device list
-abbrev pub given_by : ByteOrder → List Copy → (list : Option Text) → List Text → Bool → Option Shell → Given
-given_by order found list names all shell = given (environment order found) (list_in list) names all shell
+abbrev pub given_by : ByteOrder → List Copy → (list : Option Text) → Option Named → List Text → Bool → Option Shell → Given
+given_by order found list script names all shell = given (environment order found) (list_in list) script names all shell
 
 -- what the texts are held to
 abbrev pub rules_in : Option Devices → Given → Rules
 rules_in devices g = record { devices = devices; shell = g.shell }
+
+-- ---- a script, or none
+
+-- what is reported of the script, if there is one, and of the names that are asked for, and whether all is well
+abbrev pub ChecksAll : Rules → List Pair → Option Named → (asked : List Text) → (told : Text) → (sound : Bool) → Type 0
+ChecksAll rules env None asked told sound = Checks rules env asked told sound
+ChecksAll rules env (Some script) asked told sound = ChecksScript rules env script.0 script.1 asked told sound
+
+-- the first lines of that
+abbrev pub BeginsAll : Rules → List Pair → Option Named → (asked : List Text) → (told : Text) → Type 0
+BeginsAll rules env None asked told = BeginsCheck rules env asked told
+BeginsAll rules env (Some script) asked told = BeginsScript rules env script.0 script.1 asked told
+
+-- what is written then
+abbrev pub WritesAll : Rules → List Pair → Option Named → (asked : List Text) → Result Bool CheckError → Sink → Sink → Type 0
+WritesAll rules env script asked (Ok sound) old new =
+    (told : Text) × ChecksAll rules env script asked told sound × Wrote old new told
+WritesAll rules env script asked (Err error) old new =
+    (told : Text) × BeginsAll rules env script asked told × Stops error old new told
 
 -- ---- one environment
 
@@ -75,7 +108,7 @@ pub record AreTexts (g : Given) (told : Text) (sound : Bool) : Type 0 where
   pub there : g.env ≡ Ok env
   pub devices : Option Devices
   pub are_listed : g.devices ≡ Ok devices
-  pub checks : Checks (rules_in devices g) env (asked_names g.all env g.names) told sound
+  pub checks : ChecksAll (rules_in devices g) env g.script (asked_names g.all env g.names) told sound
 
 -- The environment is right, and the device list is refused for this.
 pub record IsBadList (g : Given) (fault : DevicesError) : Type 0 where
@@ -89,7 +122,7 @@ pub record BeginTexts (g : Given) (told : Text) : Type 0 where
   pub there : g.env ≡ Ok env
   pub devices : Option Devices
   pub are_listed : g.devices ≡ Ok devices
-  pub begins : BeginsCheck (rules_in devices g) env (asked_names g.all env g.names) told
+  pub begins : BeginsAll (rules_in devices g) env g.script (asked_names g.all env g.names) told
 
 -- all that is reported was written
 abbrev pub TellsAll : Given → (old new : Sink) → (sound : Bool) → Type 0
@@ -121,31 +154,53 @@ ReadsList (Some path) old new (Ok (Some text)) = ReadsText path old new (Ok text
 ReadsList (Some path) old new (Err fault) = ReadsText path old new (Err fault)
 ReadsList path old new _ = ⊥
 
--- The images were read, and this holds of them.
-pub record FromImages (origin : OriginShown) (old new : Told) (IsSo : List Copy → Type 0) : Type 0 where
-  pub found : List Copy
-  pub read : HasReadImages origin old new found
-  pub so : IsSo found
+-- the device list was read, if one is named
+abbrev pub HasReadList : Option Text → Told → Told → Option Text → Type 0
+HasReadList None old new None = new ≡ old
+HasReadList (Some path) old new (Some text) = Reads (path, ReadAll) (file_at path old.stored) old new text
+HasReadList path old new _ = ⊥
 
--- the images were read, and then the device list if one is named, and this holds of what they give
-abbrev pub AreFound : (origin : OriginShown) → (list : Option Text) → (old new : Told) →
-    (List Copy → Option Text → Type 0) → Type 0
-AreFound origin None old new IsSo = FromImages origin old new (λ found. IsSo found None)
-AreFound origin (Some list) old new IsSo = AreRead origin list old new (λ found text. IsSo found (Some text))
+-- The images were read, and then the device list, if one is named.
+pub record AreListed (asked : Asked) (old new : Told) (found : List Copy) (list : Option Text) : Type 0 where
+  pub after_images : Told
+  pub read : HasReadImages asked.origin old after_images found
+  pub listed : HasReadList asked.device_list after_images new list
+
+-- And then the script was read, if one is named, and this holds of what they give.
+pub record AreFound (asked : Asked) (old new : Told) (IsSo : List Copy → (list script : Option Text) → Type 0) : Type 0 where
+  pub found : List Copy
+  pub list : Option Text
+  pub after_list : Told
+  pub listed : AreListed asked old after_list found list
+  pub script : Option Text
+  pub scripted : HasReadNamed asked.script after_list new script
+  pub so : IsSo found list script
+
+-- the images were read, and the device list is refused for this
+abbrev pub IsListless : (origin : OriginShown) → (list : Option Text) → Told → Fault → Type 0
+IsListless origin None old fault = ⊥
+IsListless origin (Some list) old fault = IsUnlisted origin list old fault
+
+-- They were read, and the script is refused for this.
+pub record IsScriptless (asked : Asked) (old : Told) (fault : Fault) : Type 0 where
+  pub found : List Copy
+  pub list : Option Text
+  pub after_list : Told
+  pub listed : AreListed asked old after_list found list
+  pub refused : IsNamedFault asked.script old.stored fault
 
 -- why a file is refused that is read
-abbrev pub IsUnread : (origin : OriginShown) → (list : Option Text) → Told → Fault → Type 0
-IsUnread origin None old fault = IsOriginFault origin old.stored fault
-IsUnread origin (Some list) old fault = IsOriginFault origin old.stored fault ⊎ IsUnlisted origin list old fault
+abbrev pub IsUnread : Asked → Told → Fault → Type 0
+IsUnread asked old fault = IsOriginFault asked.origin old.stored fault
+    ⊎ (IsListless asked.origin asked.device_list old fault ⊎ IsScriptless asked old fault)
 
 -- and what is checked then has this property
 abbrev pub FromFiles : Asked → (old new : Told) → (Given → Type 0) → Type 0
-FromFiles asked old new IsSo =
-    AreFound asked.origin asked.device_list old new (λ found list.
-    IsSo (given_by asked.order found list asked.names asked.all asked.shell))
+FromFiles asked old new IsSo = AreFound asked old new (λ found list script.
+    IsSo (given_by asked.order found list (under asked.script script) asked.names asked.all asked.shell))
 
--- The images and the device list were read and the texts checked, or the image or the list is refused; or a read is
--- refused, and files were only read. Memory may run out at any time, also when lines were written.
+-- The files were read and the texts checked, or the image or the device list is refused; or a read is refused, and files
+-- were only read. Memory may run out at any time, also when lines were written.
 abbrev pub ChecksFrom : Asked → (out out' : Sink) → (old new : Told) → Result Bool CheckFault → Type 0
 ChecksFrom asked out out' old new (Ok sound) = FromFiles asked old new (λ g. TellsAll g out out' sound)
 ChecksFrom asked out out' old new (Err (Shared (Tool (Image error)))) = FromFiles asked old new (λ g. g.env ≡ Err error)
@@ -153,7 +208,7 @@ ChecksFrom asked out out' old new (Err (DeviceList fault)) = FromFiles asked old
 ChecksFrom asked out out' old new (Err (Shared (Tool Write))) = FromFiles asked old new (λ g. BreaksOff g out out')
 ChecksFrom asked out out' old new (Err (Shared Memory)) =
     OnlyReads old new × ((out' ≡ out) ⊎ FromFiles asked old new (λ g. WritesFront g out out'))
-ChecksFrom asked out out' old new (Err (Shared fault)) = OnlyReads old new × IsUnread asked.origin asked.device_list old fault
+ChecksFrom asked out out' old new (Err (Shared fault)) = OnlyReads old new × IsUnread asked old fault
 
 -- a refusal leaves the output as it was, unless it says that the output failed or that memory ran out
 abbrev pub LeavesOutput : Result Bool CheckFault → (old new : Sink) → Type 0

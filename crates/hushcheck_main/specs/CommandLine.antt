@@ -1,11 +1,11 @@
--- The command line that `clap` is given: seven options and a flag, and names. The options but `--all` are those of
+-- The command line that `clap` is given: eight options and two flags, and names. The options but `--all` are those of
 -- `ubtool`. It is ours.
 use Rattle.std.specs.Prelude.{[], ◌∷◌, false, true, codes}
 use Rattle.clap.specs.Words.{App, Rule, Shape, new_app}
 use Rattle.clap.specs.Simple.{on_top}
 use Rattle.tool_words.specs.Arguments.{long_flag, with_rules}
 use Rattle.tool_words.specs.CommandLine as ubtool
-use Rattle.tool_words.specs.CommandLine.{big_endian, config, image, names, second, shell, text_file}
+use Rattle.tool_words.specs.CommandLine.{big_endian, config, image, names, script_file, second, shell, text_file}
 
 -- the program, which has a version and no words of its own
 abbrev pub base : App
@@ -19,6 +19,8 @@ device_list = record ubtool.device_list { required = false }
 abbrev pub all : Rule
 all = long_flag (codes "all")
 
--- `[-c FILE] [-i FILE] [--second FILE] [--text FILE] [--big-endian] [-d FILE] [--all] [--shell NAME] [NAME]..`
+-- `[-c FILE] [-i FILE] [--second FILE] [--text FILE] [--big-endian] [-d FILE] [--script FILE] [--all] [--shell NAME]
+-- [NAME]..`
 unfoldable pub hushcheck : App
-hushcheck = with_rules base (config ∷ image ∷ second ∷ text_file ∷ big_endian ∷ device_list ∷ all ∷ shell ∷ names ∷ [])
+hushcheck = with_rules base
+    (config ∷ image ∷ second ∷ text_file ∷ big_endian ∷ device_list ∷ script_file ∷ all ∷ shell ∷ names ∷ [])

@@ -3,5 +3,6 @@ pub mod Asked
 pub mod CommandAnswers
 pub mod Faults
 pub mod Checking
+pub mod Shown
 pub mod Doing
 pub mod Statuses

@@ -17,12 +17,14 @@ pub struct Ask {
     pub order: ByteOrder,
 }
 
-/// The variables to check.
+/// The variables to check, and the script.
 #[derive(Debug, Drop)]
 pub struct CheckAsk {
+    /// The path of the script that is checked in place of a variable, if one is given. No variable is named beside it.
+    pub script: Option<String>,
     /// The variables that are named, in this order.
     pub names: Vec<String>,
-    /// Whether every variable is checked after them.
+    /// Whether every variable is checked after them, or after the script.
     pub all: bool,
     /// The shell that is named, if one is.
     pub shell: Option<Shell>,

@@ -6,8 +6,8 @@ ghost use Rattle.tool_words.specs.Made.{IsMade};
 use clap::Command;
 use std::alloc::{AllocError, Global};
 use tool_words::{
-    Argument, BIG_ENDIAN, CONFIG, DEVICE_LIST, Form, IMAGE, NAMES, SECOND, TEXT, VERSION,
-    with_arguments,
+    Argument, BIG_ENDIAN, CONFIG, DEVICE_LIST, Form, IMAGE, NAMES, SCRIPT_FILE, SECOND, TEXT,
+    VERSION, with_arguments,
 };
 
 const NOTES: &str = "\
@@ -16,6 +16,10 @@ variables that they run by a plain name, as in 'run NAME', each once. For each
 there is a line: 'NAME: ok', 'NAME: not set', or 'NAME:LINE:COLUMN: what is
 wrong' with the line of the text, at most 80 bytes of it, and a mark under the
 byte. Lines and columns count from 1. The image is read and never written.
+
+With --script the text of a file is checked in place of a variable, under the
+name FILE. It is a script, or a script image for U-Boot's 'source'. Without
+-c, -i or --text beside it the environment is empty.
 
 A line with 'warning:' names a place that a shell of U-Boot reads otherwise than
 ubtool does by itself, and says how. It changes no status.
@@ -35,6 +39,8 @@ Examples:
   hushcheck -c fw_env.config --big-endian
   hushcheck --shell old
   hushcheck --text env.txt
+  hushcheck --script boot.cmd
+  hushcheck --script boot.scr --text env.txt -d devices
 ";
 
 /// The program, without its words.
@@ -49,7 +55,7 @@ fn base<'a>(alloc: Global) -> Result<Command<'a>, AllocError>
     Ok(command.no_binary_name(true))
 }
 
-const ARGUMENTS: [Argument<'static>; 9] = [
+const ARGUMENTS: [Argument<'static>; 10] = [
     CONFIG,
     IMAGE,
     SECOND,
@@ -60,6 +66,7 @@ const ARGUMENTS: [Argument<'static>; 9] = [
         help: "Device list, at most 1048576 bytes, that the commands are looked up in [default: none]",
         ..DEVICE_LIST
     },
+    SCRIPT_FILE,
     Argument {
         id: "all",
         form: Form::Flag,

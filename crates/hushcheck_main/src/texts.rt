@@ -1,8 +1,10 @@
 //! The texts of images, checked.
-ghost use Rattle.std.specs.Prelude.{Ok, map, option_map, string_bytes};
+ghost use Rattle.std.specs.Prelude.{◌≡◌, Ok, map, option_map, string_bytes};
 ghost use Rattle.std.specs.Option.{option_copied};
 ghost use Rattle.hushcheck_main.specs.Asked.{asked_by};
-ghost use Rattle.hushcheck_main.specs.Checking.{ChecksFrom, ChecksText, LeavesOutput, Lists, ReadsList, given, given_by, list_in};
+ghost use Rattle.hushcheck_main.specs.Checking.{ChecksFrom, ChecksText, LeavesOutput, Lists, ReadsList, WritesAll, given, given_by, list_in, under};
+ghost use Rattle.hushcheck_main.specs.Shown.{script_shown};
+ghost use Rattle.tool_steps.specs.Scripts.{ReadsNamed};
 ghost use Rattle.tool_files.specs.Told.{IfTold};
 ghost use Rattle.tool_steps.specs.Faults.{CountsTold};
 ghost use Rattle.hushcheck_main.specs.Faults.{CountsShared};
@@ -13,14 +15,43 @@ use crate::fault::CheckFault;
 use device_list::{Devices, DevicesError};
 use envimage::ByteOrder;
 use envtools::Env;
-use hushcheck::{CheckError, Rules, asked_names, check};
+use hushcheck::{CheckError, Rules, asked_names, check, check_script};
 use output::Out;
 use rehearse_terms::Shell;
 use std::alloc::Global;
 use tool_files::Files;
 use tool_images::{Fault, ToolError, env_of_image};
-use tool_steps::{Images, read_origin, read_text, slices_of};
+use tool_steps::{Images, read_list, read_named_script, read_origin, slices_of};
 use tool_words::Origin;
+
+/// A script that is checked in place of a variable.
+#[derive(Clone, Copy)]
+struct Script<'a> {
+    /// The name under which it is checked: the path of its file.
+    name: &'a [u8],
+    /// Its text.
+    text: &'a [u8],
+}
+
+/// The bytes of a path, if there is one.
+fn bytes_of(path: &Option<String>) -> Option<&[u8]>
+    ensures { option_copied result ≡ option_map string_bytes path.now }
+{
+    match path {
+        Some(path) => Some(path.as_bytes()),
+        None => None,
+    }
+}
+
+/// A script under the name that is given, if there are both.
+fn under<'a>(name: Option<&'a [u8]>, text: Option<&'a [u8]>) -> Option<Script<'a>>
+    ensures { script_shown result ≡ under (option_copied name.entry) (option_copied text.entry) }
+{
+    match (name, text) {
+        (Some(name), Some(text)) => Some(Script { name, text }),
+        _ => None,
+    }
+}
 
 /// The device list of a text, if there is one.
 fn list_of(alloc: Global, text: Option<&[u8]>) -> Result<Option<Devices>, CheckFault>
@@ -36,25 +67,45 @@ fn list_of(alloc: Global, text: Option<&[u8]>) -> Result<Option<Devices>, CheckF
     }
 }
 
-/// Checks the texts of an environment, with this device list if there is one, and writes what is
-/// reported of them. Returns false if a text is not well-formed, a name is not set, or the device
-/// list lacks a command.
+/// Checks the script, if there is one, and the variables of these names.
+fn check_names<O: Out>(
+    alloc: Global,
+    rules: &Rules<'_>,
+    env: &Env,
+    script: Option<Script<'_>>,
+    names: &[&[u8]],
+    out: &mut O,
+) -> Result<bool, CheckError>
+    ensures { WritesAll rules.now env.now (script_shown script.entry)
+        (map (λ n. n.now) names.now) result (O.sink out.old) (O.sink out.new) }
+{
+    match script {
+        Some(Script { name, text }) => check_script(alloc, rules, env, name, text, names, out),
+        None => check(alloc, rules, env, names, out),
+    }
+}
+
+/// Checks the texts of an environment and the script, if there is one, with this device list if there is
+/// one, and writes what is reported of them. Returns false if a text is not well-formed, a name is not set,
+/// or the device list lacks a command.
 fn check_with<O: Out>(
     alloc: Global,
     devices: Option<&Devices>,
     env: &Env,
+    script: Option<Script<'_>>,
     names: &[&[u8]],
     all: bool,
     shell: Option<Shell>,
     out: &mut O,
 ) -> Result<bool, CheckFault>
     ensures { ChecksText (given (Ok env.now) (Ok (option_map (λ d. d.now) devices.entry))
-        (map (λ n. n.now) names.now) all shell) (O.sink out.old) (O.sink out.new) result }
+        (script_shown script.entry) (map (λ n. n.now) names.now) all shell)
+        (O.sink out.old) (O.sink out.new) result }
 {
     let Ok(names) = asked_names(alloc, env, names, all) else {
         return Err(CheckFault::Shared(Fault::Memory));
     };
-    match check(alloc, &Rules { devices, shell }, env, &names, out) {
+    match check_names(alloc, &Rules { devices, shell }, env, script, &names, out) {
         Ok(sound) => Ok(sound),
         Err(CheckError::Write) => Err(CheckFault::Shared(Fault::Tool(ToolError::Write))),
         Err(CheckError::Memory) => Err(CheckFault::Shared(Fault::Memory)),
@@ -66,16 +117,18 @@ fn check_env<O: Out>(
     alloc: Global,
     env: &Env,
     list: Option<&[u8]>,
+    script: Option<Script<'_>>,
     names: &[&[u8]],
     all: bool,
     shell: Option<Shell>,
     out: &mut O,
 ) -> Result<bool, CheckFault>
     ensures { ChecksText (given (Ok env.now) (list_in (option_copied list.entry))
-        (map (λ n. n.now) names.now) all shell) (O.sink out.old) (O.sink out.new) result }
+        (script_shown script.entry) (map (λ n. n.now) names.now) all shell)
+        (O.sink out.old) (O.sink out.new) result }
 {
     let devices = list_of(alloc, list)?;
-    check_with(alloc, devices.as_ref(), env, names, all, shell, out)
+    check_with(alloc, devices.as_ref(), env, script, names, all, shell, out)
 }
 
 /// The same for images that were read, a single one or a pair.
@@ -83,12 +136,13 @@ fn check_images<O: Out>(
     alloc: Global,
     images: &Images,
     list: Option<&[u8]>,
+    script: Option<Script<'_>>,
     what: &CheckAsk,
     order: ByteOrder,
     out: &mut O,
 ) -> Result<bool, CheckFault>
     ensures { ChecksText (given_by order (copies images.now) (option_copied list.entry)
-        (map string_bytes what.now.names.items) what.now.all what.now.shell)
+        (script_shown script.entry) (map string_bytes what.now.names.items) what.now.all what.now.shell)
         (O.sink out.old) (O.sink out.new) result }
 {
     let Ok(names) = slices_of(alloc, &what.names) else {
@@ -96,11 +150,11 @@ fn check_images<O: Out>(
     };
     let second = images.second_bytes();
     let env = env_of_image(alloc, &images.first.bytes, second, order)?;
-    check_env(alloc, &env, list, &names, what.all, what.shell, out)
+    check_env(alloc, &env, list, script, &names, what.all, what.shell, out)
 }
 
 /// Reads the text of the device list, if one is named.
-fn read_list<F: Files>(
+fn read_named_list<F: Files>(
     alloc: Global,
     files: &mut F,
     path: Option<String>,
@@ -110,14 +164,34 @@ fn read_list<F: Files>(
         (λ old new. ReadsList (option_map string_bytes path) old new result) }
 {
     match path {
-        Some(path) => Ok(Some(read_text(alloc, files, path)?)),
+        Some(path) => Ok(Some(read_list(alloc, files, path)?)),
         None => Ok(None),
     }
 }
 
-/// Checks the scripts of the images that this names. Reads the images, then the device list if one is
-/// named, and then writes the lines. Errors: those of `read_origin` and of `read_text`; the image, and
-/// after it the device list, is refused; the output failed; or memory ran out.
+/// Reads the script of the file at the path, if there is one.
+fn read_script_at<F: Files>(
+    alloc: Global,
+    files: &mut F,
+    path: &Option<String>,
+) -> Result<Option<Vec<u8>>, Fault>
+    ensures count { CountsTold (F.faults files.old) (F.faults files.new) result }
+    ensures told { IfTold (F.told files.old) (F.told files.new)
+        (λ old new. ReadsNamed (option_map string_bytes path.now) old new result) }
+{
+    let Some(path) = path else {
+        return read_named_script(alloc, files, None);
+    };
+    let Ok(path) = path.clone() else {
+        return Err(Fault::Memory);
+    };
+    read_named_script(alloc, files, Some(path))
+}
+
+/// Checks the scripts of the images that this names, and the script of a file, if one is given. Reads the
+/// images, then the device list if one is named, then the script, and then writes the lines. Errors: those of
+/// `read_origin`, of `read_list` and of `read_named_script`; the image, and after it the device list, is
+/// refused; the output failed; or memory ran out.
 pub fn check_files<F: Files, O: Out>(
     alloc: Global,
     files: &mut F,
@@ -134,6 +208,8 @@ pub fn check_files<F: Files, O: Out>(
     ensures output { LeavesOutput result (O.sink out.old) (O.sink out.new) }
 {
     let images = read_origin(alloc, files, origin)?;
-    let list = read_list(alloc, files, list)?;
-    check_images(alloc, &images, list.as_deref(), what, order, out)
+    let list = read_named_list(alloc, files, list)?;
+    let text = read_script_at(alloc, files, &what.script)?;
+    let script = under(bytes_of(&what.script), text.as_deref());
+    check_images(alloc, &images, list.as_deref(), script, what, order, out)
 }
