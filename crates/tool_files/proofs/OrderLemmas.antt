@@ -1,12 +1,12 @@
--- Calls one after another on files whose contents are known: reads, and then a write.
+-- Calls one after another on files whose contents are known: reads, and then a write, or a file that is made.
 use Rattle.std.proofs.Common.{◌≡◌, ◌∙◌, ℕ, true, refl, sym, ap, List, [], ◌∷◌, ◌++◌, append_assoc, append-nil, Ok, Err}
 use Rattle.std.specs.Prelude.{Result, Vec}
 use Rattle.std.specs.declared.alloc.Global.{Global}
 use Rattle.std.proofs.lemmas.List.Folds.{list_all-append}
-use Rattle.tool_files.specs.CallOrder.{OnlyReads, WritesLast, are_reads, is_read}
+use Rattle.tool_files.specs.CallOrder.{CreatesLast, OnlyReads, WritesLast, are_reads, is_read}
 use Rattle.tool_files.specs.Told.{ReadsAll, ReadsAt, Told}
 use Rattle.tool_files.specs.declared.files.Action.{Action}
-use Rattle.tool_files.specs.declared.files.Action.TheVariants.{ReadAll, ReadAt, WriteAt}
+use Rattle.tool_files.specs.declared.files.Action.TheVariants.{Create, ReadAll, ReadAt, WriteAt}
 use Rattle.tool_files.specs.declared.files.FileFault.{FileFault}
 use Rattle.tool_files.specs.declared.files.FileFault.TheVariants.{Failed, Short, TooLong, Memory}
 
@@ -57,5 +57,14 @@ pub WritesLast-then : (path : List ℕ) (offset size : ℕ) (x y z : Told) → O
 WritesLast-then path offset size x y z first calls = record {
   reads = first.reads;
   calls = calls ∙ ap (λ (cs : List (List ℕ × Action)). cs ++ (path, WriteAt offset size) ∷ []) first.calls ∙ append_assoc x.calls first.reads ((path, WriteAt offset size) ∷ []);
+  all = first.all;
+}
+
+-- reads, and then a file that was made
+pub CreatesLast-then : (path : List ℕ) (size : ℕ) (x y z : Told) → OnlyReads x y → z.calls ≡ y.calls ++ (path, Create size) ∷ []
+    → CreatesLast path size x z
+CreatesLast-then path size x y z first calls = record {
+  reads = first.reads;
+  calls = calls ∙ ap (λ (cs : List (List ℕ × Action)). cs ++ (path, Create size) ∷ []) first.calls ∙ append_assoc x.calls first.reads ((path, Create size) ∷ []);
   all = first.all;
 }

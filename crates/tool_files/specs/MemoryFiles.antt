@@ -78,6 +78,12 @@ abbrev pub write_answer : Bool → Option (List ℕ) → ℕ → List ℕ → Re
 write_answer fails file offset bytes =
     if not fails && reaches file offset (length bytes) then Ok tt else Err Failed
 
+-- the answer to a file that is to be made
+abbrev pub create_answer : Bool → Option (List ℕ) → Result Bool FileFault
+create_answer true file = Err Failed
+create_answer false None = Ok true
+create_answer false (Some all) = Ok false
+
 -- the answer has these bytes or this fault, or memory ran out
 abbrev pub Gives : Result (List ℕ) FileFault → Result (Vec ℕ Global) FileFault → Type 0
 Gives wanted (Ok bytes) = wanted ≡ Ok bytes.items

@@ -1,13 +1,13 @@
 -- Files whose contents are known, with the calls made on them, and what one call does to both. How files are reached is
 -- ours.
-use Rattle.std.specs.Prelude.{◌≡◌, ◌+◌, ◌<◌, ◌≤◌, ℕ, List, [], ◌∷◌, ◌++◌, length, take, drop}
+use Rattle.std.specs.Prelude.{◌≡◌, ◌⊎◌, ◌+◌, ◌<◌, ◌≤◌, ℕ, Bool, true, false, List, [], ◌∷◌, ◌++◌, length, take, drop}
 use Rattle.std.specs.Prelude.{Option, Some, None, Result, Ok, Err, Vec, IsSomeAnd}
 use Rattle.std.specs.Option.{option_map_or}
 use Rattle.std.specs.Str.{bytes_eq}
 use Rattle.std.specs.Map.{lookup, set_value}
 use Rattle.std.specs.declared.alloc.Global.{Global}
 use Rattle.tool_files.specs.declared.files.Action.{Action}
-use Rattle.tool_files.specs.declared.files.Action.TheVariants.{ReadAll, ReadAt, WriteAt}
+use Rattle.tool_files.specs.declared.files.Action.TheVariants.{Create, ReadAll, ReadAt, WriteAt}
 use Rattle.tool_files.specs.declared.files.FileFault.{FileFault}
 use Rattle.tool_files.specs.declared.files.FileFault.TheVariants.{Failed, Short, TooLong, Memory}
 
@@ -47,6 +47,10 @@ abbrev pub calls_after : {T : Type 0} → List (List ℕ × Action) → List ℕ
 calls_after calls path action (Err Memory) = calls
 calls_after calls path action _ = calls ++ (path, action) ∷ []
 
+-- the files with one more, if there is none at its path
+abbrev pub made : (path bytes : List ℕ) → Stored → Stored
+made path bytes stored = option_map_or (λ _. stored) (file_at path stored) (stored ++ (path, bytes) ∷ [])
+
 -- the most bytes that are read of a whole file: one mebibyte
 abbrev pub read_limit : ℕ
 read_limit = 1048576
@@ -76,6 +80,15 @@ IsWritten path offset bytes old new (Err Failed) =
 IsWritten path offset bytes old new (Err Memory) = new ≡ old
 IsWritten path offset bytes old new (Err _) = ⊥
 
+-- whether a file was made, and the files then; if the device failed, there may be a new file with any prefix of the bytes
+abbrev pub IsMade : (path bytes : List ℕ) → Stored → Stored → Result Bool FileFault → Type 0
+IsMade path bytes old new (Ok true) = (file_at path old ≡ None) × (new ≡ made path bytes old)
+IsMade path bytes old new (Ok false) = IsSomeAnd (file_at path old) (λ _. new ≡ old)
+IsMade path bytes old new (Err Failed) =
+    (new ≡ old) ⊎ ((n : ℕ) × (new ≡ made path (take n bytes) old))
+IsMade path bytes old new (Err Memory) = new ≡ old
+IsMade path bytes old new (Err _) = ⊥
+
 pub record ReadsAll (path : List ℕ) (old new : Told) (answer : Result (Vec ℕ Global) FileFault)
     : Type 0 where
   pub whole : IsWhole (file_at path old.stored) answer
@@ -92,3 +105,7 @@ pub record WritesAt (path : List ℕ) (offset : ℕ) (bytes : List ℕ) (old new
     (answer : Result (Unit {0}) FileFault) : Type 0 where
   pub calls : new.calls ≡ calls_after old.calls path (WriteAt offset (length bytes)) answer
   pub stored : IsWritten path offset bytes old.stored new.stored answer
+
+pub record Creates (path bytes : List ℕ) (old new : Told) (answer : Result Bool FileFault) : Type 0 where
+  pub calls : new.calls ≡ calls_after old.calls path (Create (length bytes)) answer
+  pub stored : IsMade path bytes old.stored new.stored answer

@@ -61,13 +61,15 @@ pub enum Action {
     ReadAt { offset: u64, size: usize },
     /// Writes `size` bytes from byte `offset` on.
     WriteAt { offset: u64, size: usize },
+    /// Makes a file of `size` bytes.
+    Create { size: usize },
 }
 
 /// Files by their paths: the machine's files, or files in memory. No failed call is repeated. A file
 /// is written only after the lock was taken.
 pub trait Files {
     ghost use Rattle.tool_files.specs.FailureCounts.{CountsFault};
-    ghost use Rattle.tool_files.specs.Told.{IfTold, ReadsAll, ReadsAt, Told, WritesAt, read_limit};
+    ghost use Rattle.tool_files.specs.Told.{Creates, IfTold, ReadsAll, ReadsAt, Told, WritesAt, read_limit};
     ghost use Rattle.tool_files.specs.declared.files.FileFault.TheVariants.{Short, TooLong};
 
     /// How often the device has failed.
@@ -92,6 +94,17 @@ pub trait Files {
     ///
     /// Refusals: `Failed`, `TooLong`, `Memory`.
     fn read_all(&mut self, alloc: Global, path: &str) -> Result<Vec<u8>, FileFault>
+        ensures count { CountsFault (faults self.old) (faults self.new) result }
+        ensures bound { IfOk result (λ bytes. vec_len bytes ≤ read_limit) }
+        ensures never_short { result ≢ Err Short }
+        ensures lock { locked self.new ≡ locked self.old }
+        ensures told { IfTold (told self.old) (told self.new)
+            (λ old new. ReadsAll path.now old new result) };
+
+    /// The same, where a folder may be at the path: then its files are read as one text, in the order of their names.
+    ///
+    /// Refusals: `Failed`, `TooLong`, `Memory`.
+    fn read_list(&mut self, alloc: Global, path: &str) -> Result<Vec<u8>, FileFault>
         ensures count { CountsFault (faults self.old) (faults self.new) result }
         ensures bound { IfOk result (λ bytes. vec_len bytes ≤ read_limit) }
         ensures never_short { result ≢ Err Short }
@@ -128,4 +141,16 @@ pub trait Files {
         ensures lock { locked self.new ≡ locked self.old }
         ensures told { IfTold (told self.old) (told self.new)
             (λ old new. WritesAt path.now offset bytes.now old new result) };
+
+    /// Makes a file of these bytes. Returns whether it was made: if there is anything at the path, also a
+    /// link, nothing is changed. If the device fails, a file with a prefix of the bytes may be left.
+    ///
+    /// Refusals: `Failed`, `Memory`.
+    fn create(&mut self, path: &str, bytes: &[u8]) -> Result<bool, FileFault>
+        ensures count { CountsFault (faults self.old) (faults self.new) result }
+        ensures never_short { result ≢ Err Short }
+        ensures never_long { result ≢ Err TooLong }
+        ensures lock { locked self.new ≡ locked self.old }
+        ensures told { IfTold (told self.old) (told self.new)
+            (λ old new. Creates path.now bytes.now old new result) };
 }

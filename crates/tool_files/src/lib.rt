@@ -3,7 +3,9 @@
 #![tactic(auto)]
 
 mod boot_partition;
+mod create;
 mod files;
+mod folder;
 mod input;
 mod lock;
 mod machine;

@@ -4,7 +4,9 @@ ghost use Rattle.tool_files.specs.FailedReads.{file_fault_of};
 ghost use Rattle.tool_files.specs.declared.files.FileFault.TheVariants.{Failed, Memory};
 
 use crate::boot_partition::Switch;
+use crate::create::is_created;
 use crate::files::{FileFault, Files, LIMIT, LockFault};
+use crate::folder::{is_folder, read_folder};
 use crate::input::{ReadFault, read_up_to};
 use crate::lock::{Lock, usual_lock};
 use crate::program::Program;
@@ -95,7 +97,7 @@ fn opened<R: rt::Files>(rt: &R, path: &str, offset: u64, writes: bool) -> Option
 
 /// Reads the bytes from `offset` up to the file's end, or the first `size` of them. Errors:
 /// `Failed`, `Memory`.
-fn read_from<R: rt::Files>(
+pub(crate) fn read_from<R: rt::Files>(
     rt: &R,
     alloc: Global,
     path: &str,
@@ -171,7 +173,8 @@ fn write_to<R: rt::Files<File = File> + AllocGlobal, W: Write>(
     written
 }
 
-impl<R: rt::Files<File = File> + Clock + AllocGlobal, W: Write> Files for Machine<'_, R, W> {
+impl<R: rt::Files<File = File> + Clock + AllocGlobal + Clone + Drop, W: Write> Files
+    for Machine<'_, R, W> {
     ghost use Rattle.tool_files.specs.MachineShown.{faults_of, is_locked};
 
     ghost faults = { faults_of };
@@ -197,6 +200,18 @@ impl<R: rt::Files<File = File> + Clock + AllocGlobal, W: Write> Files for Machin
         Ok(bytes)
     }
 
+    fn read_list(&mut self, alloc: Global, path: &str) -> Result<Vec<u8>, FileFault> {
+        if !is_folder(self.rt, path) {
+            return self.read_all(alloc, path);
+        }
+        let read = read_folder(self.rt, alloc, path);
+        let bytes = self.counted(read)?;
+        if bytes.len() > LIMIT {
+            return Err(FileFault::TooLong);
+        }
+        Ok(bytes)
+    }
+
     fn read_at(
         &mut self,
         alloc: Global,
@@ -215,5 +230,10 @@ impl<R: rt::Files<File = File> + Clock + AllocGlobal, W: Write> Files for Machin
     fn write_at(&mut self, path: &str, offset: u64, bytes: &[u8]) -> Result<(), FileFault> {
         let written = write_to(self.rt, &mut self.program, path, offset, bytes);
         self.counted(written)
+    }
+
+    fn create(&mut self, path: &str, bytes: &[u8]) -> Result<bool, FileFault> {
+        let made = is_created(self.rt, path, bytes);
+        self.counted(made)
     }
 }

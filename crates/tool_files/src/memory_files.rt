@@ -4,8 +4,8 @@ ghost use Rattle.std.specs.List.{position};
 ghost use Rattle.std.specs.Option.{option_copied};
 ghost use Rattle.std.specs.Str.{bytes_eq};
 ghost use Rattle.tool_files.specs.FailureCounts.{CountsFault};
-ghost use Rattle.tool_files.specs.MemoryFiles.{Gives, IsUnlessMemory, call_of, failing_of, faults_of, file_of, is_due, is_locked, part_answer, put, reaches, memory_files_shown, taken, whole_answer, with_file, write_answer};
-ghost use Rattle.tool_files.specs.Told.{ReadsAll, ReadsAt, WritesAt, calls_after, file_at, overwritten, read_limit};
+ghost use Rattle.tool_files.specs.MemoryFiles.{Gives, IsUnlessMemory, call_of, create_answer, failing_of, faults_of, file_of, is_due, is_locked, part_answer, put, reaches, memory_files_shown, taken, whole_answer, with_file, write_answer};
+ghost use Rattle.tool_files.specs.Told.{Creates, ReadsAll, ReadsAt, WritesAt, calls_after, file_at, made, overwritten, read_limit};
 ghost use Rattle.tool_files.specs.declared.files.FileFault.TheVariants.{Memory, Short, TooLong};
 
 use crate::files::{Action, FileFault, Files, LIMIT, LockFault};
@@ -250,6 +250,20 @@ impl Files for MemoryFiles {
         self.answered(path, Action::ReadAll, whole)
     }
 
+    /// There are no folders.
+    fn read_list(&mut self, alloc: Global, path: &str) -> Result<Vec<u8>, FileFault>
+        ensures count { CountsFault (faults_of self.old) (faults_of self.new) result }
+        ensures bound { IfOk result (λ bytes. vec_len bytes ≤ read_limit) }
+        ensures never_short { result ≢ Err Short }
+        ensures lock { is_locked self.new ≡ is_locked self.old }
+        ensures told { ReadsAll path.now (memory_files_shown self.old) (memory_files_shown self.new)
+            result }
+        ensures exact { Gives (whole_answer (is_due self.old)
+            (file_at path.now (memory_files_shown self.old).stored)) result }
+    {
+        self.read_all(alloc, path)
+    }
+
     fn read_at(
         &mut self,
         alloc: Global,
@@ -300,5 +314,39 @@ impl Files for MemoryFiles {
         }
         self.faults = self.faults.saturating_add(1);
         Err(FileFault::Failed)
+    }
+
+    /// A file that is made by the call that is to fail has the first half of its bytes.
+    fn create(&mut self, path: &str, bytes: &[u8]) -> Result<bool, FileFault>
+        ensures count { CountsFault (faults_of self.old) (faults_of self.new) result }
+        ensures never_short { result ≢ Err Short }
+        ensures never_long { result ≢ Err TooLong }
+        ensures lock { is_locked self.new ≡ is_locked self.old }
+        ensures told { Creates path.now bytes.now (memory_files_shown self.old)
+            (memory_files_shown self.new) result }
+        ensures exact { IsUnlessMemory (create_answer (is_due self.old)
+            (file_at path.now (memory_files_shown self.old).stored)) result }
+        ensures kept { result ≢ Err Memory → (memory_files_shown self.new).stored
+            ≡ made path.now (taken (is_due self.old) bytes.now)
+            (memory_files_shown self.old).stored }
+    {
+        let fails = self.is_due();
+        let action = Action::Create { size: bytes.len() };
+        let is_new = self.bytes(path).is_none();
+        let answer = if fails {
+            Err(FileFault::Failed)
+        } else {
+            Ok(is_new)
+        };
+        if !is_new {
+            return self.answered(path, action, answer);
+        }
+        let kept = if fails { bytes.len() / 2 } else { bytes.len() };
+        self.add(path, &bytes[..kept])?;
+        let answered = self.answered(path, action, answer);
+        if let Err(FileFault::Memory) = answered {
+            let _ = self.files.pop();
+        }
+        answered
     }
 }
