@@ -7,3 +7,5 @@ pub mod SpareLemmas
 pub mod DumpLemmas
 mod DumpExamples
 pub mod TextLemmas
+pub mod NewImageLemmas
+mod NewImageExamples

@@ -6,3 +6,4 @@ pub mod FileFaults
 pub mod FaultLines
 pub mod Dump
 pub mod TextImages
+pub mod NewImages

@@ -1,6 +1,6 @@
 -- The image that stands for a text. How a text is read is mkenvimage's (U-Boot, tools/mkenvimage.c, `main`), but for the last
 -- lines of a console (`Dump.antt`). That an image of the same variables is made of it is ours.
-use Rattle.std.specs.Prelude.{◌≡◌, ◌<◌, List, ℕ, None, Result, Ok, Err, Vec}
+use Rattle.std.specs.Prelude.{◌≡◌, ◌<◌, List, [], ℕ, None, Result, Ok, Err, Vec}
 use Rattle.std.specs.declared.alloc.Global.{Global}
 use Rattle.envimage.specs.Data.{Pair}
 use Rattle.envimage.specs.Encoding.{needed}
@@ -43,6 +43,11 @@ IsTextsFault text _ = ⊥
 abbrev pub MakesImage : ByteOrder → (text : List ℕ) → Result (Vec ℕ Global) Fault → Type 0
 MakesImage order text (Ok image) = StandsFor order text image.items
 MakesImage order text (Err fault) = IsTextsFault text fault
+
+-- an image without variables, or why there is none: memory ran out
+abbrev pub MakesEmpty : ByteOrder → Result (Vec ℕ Global) Fault → Type 0
+MakesEmpty order (Ok image) = environment_in order image.items None ≡ Ok []
+MakesEmpty order (Err fault) = fault ≡ Memory
 
 -- the same of an environment
 abbrev pub IsUnmade : List Pair → ImageError → Type 0

@@ -4,6 +4,7 @@ use crate::error::ToolError;
 use crate::word_form::WordForm;
 use envimage::ConfigError;
 use envtools::TextError;
+use script_file::ScriptFault;
 use thiserror::Error;
 use tool_files::{FileFault, LockFault};
 
@@ -31,12 +32,18 @@ pub enum Fault {
     /// The device failed while the file was written.
     #[error("cannot write {0}")]
     CannotWrite(WordForm),
+    /// A file was to be made, and there is something at its path.
+    #[error("{0} exists already")]
+    Exists(WordForm),
     /// The file ends before the bytes that were asked for.
     #[error("{0} is too short")]
     FileShort(WordForm),
     /// The file has more bytes than are read.
     #[error("{0} is too long")]
     FileTooLong(WordForm),
+    /// The file has no script.
+    #[error("{0}: {1}")]
+    NoScript(WordForm, ScriptFault),
     /// The two files of a pair, of which each is one whole copy, are not of one size.
     #[error("image sizes differ")]
     UnequalSizes,
@@ -82,6 +89,7 @@ impl From<LockFault> for Fault {
 impl Fault {
     ghost use Rattle.std.specs.Prelude.{◌≡◌};
     ghost use Rattle.tool_images.specs.FileFaults.{path_form, read_fault, written_fault};
+    ghost use Rattle.tool_images.specs.declared.fault.Fault.TheVariants.{NoScript};
 
     /// What is reported if the file at the path could not be read.
     pub fn of_read(path: String, fault: FileFault) -> Fault
@@ -105,5 +113,12 @@ impl Fault {
             FileFault::TooLong => Fault::FileTooLong(WordForm(path)),
             FileFault::Memory => Fault::Memory,
         }
+    }
+
+    /// What is reported if the file at the path has no script.
+    pub fn of_script(path: String, fault: ScriptFault) -> Fault
+        ensures { result ≡ NoScript (path_form path) fault }
+    {
+        Fault::NoScript(WordForm(path), fault)
     }
 }

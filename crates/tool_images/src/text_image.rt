@@ -4,7 +4,7 @@ ghost use Rattle.envtools.specs.Environment.{env_of};
 ghost use Rattle.envtools.specs.FromText.{IsReadFromText};
 ghost use Rattle.tool_images.specs.Dump.{read_text};
 ghost use Rattle.tool_images.specs.PrintingImages.{environment_in};
-ghost use Rattle.tool_images.specs.TextImages.{IsUnmade, MakesImage};
+ghost use Rattle.tool_images.specs.TextImages.{IsUnmade, MakesEmpty, MakesImage};
 
 use crate::dump::dumped_text;
 use crate::fault::Fault;
@@ -39,6 +39,16 @@ fn image_of(alloc: Global, env: &Env, order: ByteOrder) -> Result<Vec<u8>, Image
     }
     let pairs = env.pairs()?;
     encode(alloc, &pairs, size, None, order)
+}
+
+/// A single image without variables, with its CRC in this byte order. Errors: `Memory`.
+pub fn empty_image(alloc: Global, order: ByteOrder) -> Result<Vec<u8>, Fault>
+    ensures { MakesEmpty order result }
+{
+    match image_of(alloc, &Env::new(alloc), order) {
+        Ok(image) => Ok(image),
+        Err(_) => Err(Fault::Memory),
+    }
 }
 
 /// A single image of a text's environment, with its CRC in this byte order.
