@@ -1,0 +1,4 @@
+pub mod UsedLemmas
+pub mod GuessLemmas
+mod ReportExamples
+mod GuessExamples

@@ -1,0 +1,4 @@
+pub mod Report
+pub mod Guesses
+pub mod CopiesShown
+pub mod Inspecting
