@@ -16,7 +16,7 @@ use Rattle.tool_words.specs.declared.answer.Answer.{Answer}
 use Rattle.tool_words.specs.declared.answer.Answer.TheVariants.{Asks, Help, Version}
 use Rattle.tool_words.specs.declared.ask.UseError.{UseError}
 use Rattle.tool_words.specs.declared.called.CalledAs.{CalledAs}
-use Rattle.tool_words.specs.declared.ask.UseError.TheVariants.{Line, LockNeedsFolder, NeedName, ScriptAndName, HeaderNeedsOne, Misnamed, WordAlone, TooManyDevices, Memory}
+use Rattle.tool_words.specs.declared.ask.UseError.TheVariants.{BadFill, BadSize, Line, LockNeedsFolder, NeedName, ScriptAndName, HeaderNeedsOne, Misnamed, WordAlone, TooManyDevices, Memory}
 use Rattle.tool_words.specs.Asked.{Asked, asked_of, lock_of}
 use Rattle.tool_words.specs.CommandAnswers.{Answers, NamesLock, Says, asked}
 use Rattle.tool_words.specs.Answered.{AnswersBy, IsAccepted, Refuses, Reports}
@@ -36,14 +36,18 @@ accepted_answer called words a (Ok (ask.Help text)) fine is says = absurd says
 accepted_answer called words a (Ok ask.Version) fine is says = absurd says
 accepted_answer called words a (Ok (ask.Print origin what order one_copy)) fine is says = (fine, says ∙ is)
 accepted_answer called words a (Ok (ask.Setenv origin change order one_copy)) fine is says = (fine, says ∙ is)
-accepted_answer called words a (Ok (ask.Rehearse origin list what order)) fine is says = (fine, says ∙ is)
-accepted_answer called words a (Ok (ask.Endings origin list what order)) fine is says = (fine, says ∙ is)
-accepted_answer called words a (Ok (ask.Causes origin list what order)) fine is says = (fine, says ∙ is)
+accepted_answer called words a (Ok (ask.Rehearse inputs what order)) fine is says = (fine, says ∙ is)
+accepted_answer called words a (Ok (ask.Endings inputs what order)) fine is says = (fine, says ∙ is)
+accepted_answer called words a (Ok (ask.Causes inputs what order)) fine is says = (fine, says ∙ is)
+accepted_answer called words a (Ok (ask.Image text output what)) fine is says = (fine, says ∙ is)
+accepted_answer called words a (Ok (ask.Inspect origin order)) fine is says = (fine, says ∙ is)
 accepted_answer called words a (Err LockNeedsFolder) fine is says = (fine, says ∙ is)
 accepted_answer called words a (Err NeedName) fine is says = (fine, says ∙ is)
 accepted_answer called words a (Err ScriptAndName) fine is says = (fine, says ∙ is)
 accepted_answer called words a (Err HeaderNeedsOne) fine is says = (fine, says ∙ is)
 accepted_answer called words a (Err (Misnamed error)) fine is says = (fine, says ∙ is)
+accepted_answer called words a (Err BadSize) fine is says = (fine, says ∙ is)
+accepted_answer called words a (Err BadFill) fine is says = (fine, says ∙ is)
 accepted_answer called words a (Err WordAlone) fine is says = (fine, says ∙ is)
 accepted_answer called words a (Err TooManyDevices) fine is says = (fine, says ∙ is)
 accepted_answer called words a (Err (Line text)) fine is says = inr (fine, says ∙ is)
@@ -58,6 +62,8 @@ refused_answer called words NeedName is = absurd is
 refused_answer called words ScriptAndName is = absurd is
 refused_answer called words HeaderNeedsOne is = absurd is
 refused_answer called words (Misnamed error) is = absurd is
+refused_answer called words BadSize is = absurd is
+refused_answer called words BadFill is = absurd is
 refused_answer called words WordAlone is = absurd is
 refused_answer called words TooManyDevices is = absurd is
 
@@ -86,6 +92,8 @@ reported app words Means k (Err NeedName) among is = absurd is
 reported app words Means k (Err ScriptAndName) among is = absurd is
 reported app words Means k (Err HeaderNeedsOne) among is = absurd is
 reported app words Means k (Err (Misnamed error)) among is = absurd is
+reported app words Means k (Err BadSize) among is = absurd is
+reported app words Means k (Err BadFill) among is = absurd is
 reported app words Means k (Err WordAlone) among is = absurd is
 reported app words Means k (Err TooManyDevices) among is = absurd is
 

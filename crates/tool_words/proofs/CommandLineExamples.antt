@@ -11,7 +11,7 @@ use Rattle.tool_words.specs.Answered.{IsAccepted}
 use Rattle.tool_words.specs.declared.ask.OriginError.TheVariants.{ImageAndConfig, SecondAndOneCopy, SecondNeedsImage}
 use Rattle.tool_words.specs.declared.called.CalledAs.{CalledAs}
 use Rattle.tool_words.specs.declared.called.CalledAs.TheVariants.{FwSetenv, Ubtool}
-use Rattle.tool_words.specs.Asked.{Asked, causing, configured, ending, header_needs_one, input_scripted, lock_needs_folder, lock_of, misnamed, needs_name, page_with, printing, rehearsing, script_and_name, scripted, setting, too_many_devices, whole, word_alone}
+use Rattle.tool_words.specs.Asked.{Asked, InputsShown, OriginShown, causing, configured, ending, header_needs_one, input_scripted, lock_needs_folder, lock_of, misnamed, needs_name, page_with, printing, rehearsing, script_and_name, scripted, setting, too_many_devices, whole, word_alone}
 use Rattle.rehearse_terms.specs.declared.shell.Shell.TheVariants.{Old2023, Old2025, Profile}
 use Rattle.rehearse_terms.specs.Asking.{Alone, Listed, whole_page}
 use Rattle.tool_words.specs.CommandLine.{ubtool}
@@ -24,6 +24,10 @@ AsksForAs called words what = IsAccepted ubtool words × (asked called words ≡
 abbrev pub AsksFor : List Text → Asked → Type 0
 AsksFor words what = AsksForAs Ubtool words what
 
+-- these files are read, and no script
+abbrev pub read_from : OriginShown → (device_list : Text) → InputsShown
+read_from origin device_list = record { origin = origin; device_list = device_list; script = None }
+
 -- the value alone
 abbrev pub bare : PrintForm
 bare = record plain { header = false }
@@ -33,13 +37,13 @@ abbrev IsUnread : List Text → Type 0
 IsUnread words = IsAccepted ubtool words × (asked Ubtool words ≡ None)
 
 -- the words are refused
-abbrev IsRefused : List Text → Type 0
+abbrev pub IsRefused : List Text → Type 0
 IsRefused words = nat_lt 0 (length (fault_of ubtool words)) ≡ true
 
 -- rehearse -d d.txt --limit 1 z
 rehearsal : AsksFor
     (codes "rehearse" ∷ codes "-d" ∷ codes "d.txt" ∷ codes "--limit" ∷ codes "1" ∷ codes "z" ∷ [])
-    (rehearsing (configured (codes "/etc/fw_env.config")) (codes "d.txt") (record {
+    (rehearsing (read_from (configured (codes "/etc/fw_env.config")) (codes "d.txt")) (record {
       variable = codes "bootcmd";
       bounds = record { devices = 16; steps = 10000; failures = None; shell = Profile };
       wanted = Listed None (page_with (Some 1));
@@ -185,7 +189,7 @@ input_beside_name = (refl, refl)
 -- rehearse -d d --devices 32 --steps 0 --after . --big-endian
 bounded : AsksFor
     (codes "rehearse" ∷ codes "-d" ∷ codes "d" ∷ codes "--devices" ∷ codes "32" ∷ codes "--steps" ∷ codes "0" ∷ codes "--after" ∷ codes "." ∷ codes "--big-endian" ∷ [])
-    (rehearsing (configured (codes "/etc/fw_env.config")) (codes "d") (record {
+    (rehearsing (read_from (configured (codes "/etc/fw_env.config")) (codes "d")) (record {
       variable = codes "bootcmd";
       bounds = record { devices = 32; steps = 0; failures = None; shell = Profile };
       wanted = Listed (Some (codes ".")) whole_page;
@@ -318,7 +322,7 @@ input_script_of_image = (refl, refl)
 
 -- rehearse -d d -i f
 image_rehearsed : AsksFor (codes "rehearse" ∷ codes "-d" ∷ codes "d" ∷ codes "-i" ∷ codes "f" ∷ [])
-    (rehearsing (whole (codes "f") None) (codes "d") (record {
+    (rehearsing (read_from (whole (codes "f") None) (codes "d")) (record {
       variable = codes "bootcmd";
       bounds = record { devices = 16; steps = 10000; failures = None; shell = Profile };
       wanted = Listed None whole_page;
@@ -329,7 +333,7 @@ image_rehearsed = (refl, refl)
 
 -- endings -i f --second g -d d
 pair_ended : AsksFor (codes "endings" ∷ codes "-i" ∷ codes "f" ∷ codes "--second" ∷ codes "g" ∷ codes "-d" ∷ codes "d" ∷ [])
-    (ending (whole (codes "f") (Some (codes "g"))) (codes "d") (record {
+    (ending (read_from (whole (codes "f") (Some (codes "g"))) (codes "d")) (record {
       variable = codes "bootcmd";
       bounds = record { devices = 1000; steps = 1000000; failures = None; shell = Profile };
       states = 1000000;
@@ -356,7 +360,7 @@ more_devices_than_listed = (refl, refl)
 
 -- rehearse -d d --word 01 z
 one_run : AsksFor (codes "rehearse" ∷ codes "-d" ∷ codes "d" ∷ codes "--word" ∷ codes "01" ∷ codes "z" ∷ [])
-    (rehearsing (configured (codes "/etc/fw_env.config")) (codes "d") (record {
+    (rehearsing (read_from (configured (codes "/etc/fw_env.config")) (codes "d")) (record {
       variable = codes "bootcmd";
       bounds = record { devices = 1000; steps = 1000000; failures = None; shell = Profile };
       wanted = Alone (codes "01");
@@ -372,7 +376,7 @@ word_beside_limit = (refl, refl)
 
 -- rehearse -d d --failures 3 --devices 1000
 few_failures : AsksFor (codes "rehearse" ∷ codes "-d" ∷ codes "d" ∷ codes "--failures" ∷ codes "3" ∷ codes "--devices" ∷ codes "1000" ∷ [])
-    (rehearsing (configured (codes "/etc/fw_env.config")) (codes "d") (record {
+    (rehearsing (read_from (configured (codes "/etc/fw_env.config")) (codes "d")) (record {
       variable = codes "bootcmd";
       bounds = record { devices = 1000; steps = 10000; failures = Some 3; shell = Profile };
       wanted = Listed None whole_page;
@@ -408,7 +412,7 @@ limit_of_none = refl
 
 -- endings -d d
 all_endings : AsksFor (codes "endings" ∷ codes "-d" ∷ codes "d" ∷ [])
-    (ending (configured (codes "/etc/fw_env.config")) (codes "d") (record {
+    (ending (read_from (configured (codes "/etc/fw_env.config")) (codes "d")) (record {
       variable = codes "bootcmd";
       bounds = record { devices = 1000; steps = 1000000; failures = None; shell = Profile };
       states = 1000000;
@@ -421,7 +425,7 @@ all_endings = (refl, refl)
 -- endings -c f -d d -b q --devices 0 --steps 7 --states 0 --flow --big-endian
 few_endings : AsksFor
     (codes "endings" ∷ codes "-c" ∷ codes "f" ∷ codes "-d" ∷ codes "d" ∷ codes "-b" ∷ codes "q" ∷ codes "--devices" ∷ codes "0" ∷ codes "--steps" ∷ codes "7" ∷ codes "--states" ∷ codes "0" ∷ codes "--flow" ∷ codes "--big-endian" ∷ [])
-    (ending (configured (codes "f")) (codes "d") (record {
+    (ending (read_from (configured (codes "f")) (codes "d")) (record {
       variable = codes "q";
       bounds = record { devices = 0; steps = 7; failures = None; shell = Profile };
       states = 0;
@@ -433,7 +437,7 @@ few_endings = (refl, refl)
 
 -- endings bootargs -d d fdtfile
 endings_of_names : AsksFor (codes "endings" ∷ codes "bootargs" ∷ codes "-d" ∷ codes "d" ∷ codes "fdtfile" ∷ [])
-    (ending (configured (codes "/etc/fw_env.config")) (codes "d") (record {
+    (ending (read_from (configured (codes "/etc/fw_env.config")) (codes "d")) (record {
       variable = codes "bootcmd";
       bounds = record { devices = 1000; steps = 1000000; failures = None; shell = Profile };
       states = 1000000;
@@ -485,7 +489,7 @@ signed_limit = (refl, refl)
 
 -- rehearse -d d --shell old-2023.01
 rehearsed_in_old_2023 : AsksFor (codes "rehearse" ∷ codes "-d" ∷ codes "d" ∷ codes "--shell" ∷ codes "old-2023.01" ∷ [])
-    (rehearsing (configured (codes "/etc/fw_env.config")) (codes "d") (record {
+    (rehearsing (read_from (configured (codes "/etc/fw_env.config")) (codes "d")) (record {
       variable = codes "bootcmd";
       bounds = record { devices = 16; steps = 10000; failures = None; shell = Old2023 };
       wanted = Listed None whole_page;
@@ -496,7 +500,7 @@ rehearsed_in_old_2023 = (refl, refl)
 
 -- rehearse -d d --shell=old --failures 1
 failures_in_newest_old : AsksFor (codes "rehearse" ∷ codes "-d" ∷ codes "d" ∷ codes "--shell=old" ∷ codes "--failures" ∷ codes "1" ∷ [])
-    (rehearsing (configured (codes "/etc/fw_env.config")) (codes "d") (record {
+    (rehearsing (read_from (configured (codes "/etc/fw_env.config")) (codes "d")) (record {
       variable = codes "bootcmd";
       bounds = record { devices = 16; steps = 10000; failures = Some 1; shell = Old2025 };
       wanted = Listed None whole_page;
@@ -507,7 +511,7 @@ failures_in_newest_old = (refl, refl)
 
 -- rehearse -d d --word 01 --shell old-2025.01
 word_in_old_2025 : AsksFor (codes "rehearse" ∷ codes "-d" ∷ codes "d" ∷ codes "--word" ∷ codes "01" ∷ codes "--shell" ∷ codes "old-2025.01" ∷ [])
-    (rehearsing (configured (codes "/etc/fw_env.config")) (codes "d") (record {
+    (rehearsing (read_from (configured (codes "/etc/fw_env.config")) (codes "d")) (record {
       variable = codes "bootcmd";
       bounds = record { devices = 1000; steps = 1000000; failures = None; shell = Old2025 };
       wanted = Alone (codes "01");
@@ -518,7 +522,7 @@ word_in_old_2025 = (refl, refl)
 
 -- rehearse -d d --shell profile --after 0
 after_in_profile : AsksFor (codes "rehearse" ∷ codes "-d" ∷ codes "d" ∷ codes "--shell" ∷ codes "profile" ∷ codes "--after" ∷ codes "0" ∷ [])
-    (rehearsing (configured (codes "/etc/fw_env.config")) (codes "d") (record {
+    (rehearsing (read_from (configured (codes "/etc/fw_env.config")) (codes "d")) (record {
       variable = codes "bootcmd";
       bounds = record { devices = 16; steps = 10000; failures = None; shell = Profile };
       wanted = Listed (Some (codes "0")) whole_page;
@@ -529,7 +533,7 @@ after_in_profile = (refl, refl)
 
 -- endings -d d --shell old-2023.01 --flow
 flow_in_old_2023 : AsksFor (codes "endings" ∷ codes "-d" ∷ codes "d" ∷ codes "--shell" ∷ codes "old-2023.01" ∷ codes "--flow" ∷ [])
-    (ending (configured (codes "/etc/fw_env.config")) (codes "d") (record {
+    (ending (read_from (configured (codes "/etc/fw_env.config")) (codes "d")) (record {
       variable = codes "bootcmd";
       bounds = record { devices = 1000; steps = 1000000; failures = None; shell = Old2023 };
       states = 1000000;
@@ -541,7 +545,7 @@ flow_in_old_2023 = (refl, refl)
 
 -- endings -d d --shell old
 endings_in_newest_old : AsksFor (codes "endings" ∷ codes "-d" ∷ codes "d" ∷ codes "--shell" ∷ codes "old" ∷ [])
-    (ending (configured (codes "/etc/fw_env.config")) (codes "d") (record {
+    (ending (read_from (configured (codes "/etc/fw_env.config")) (codes "d")) (record {
       variable = codes "bootcmd";
       bounds = record { devices = 1000; steps = 1000000; failures = None; shell = Old2025 };
       states = 1000000;
@@ -585,7 +589,7 @@ printed_in_a_shell = refl
 
 -- causes -d d
 all_causes : AsksFor (codes "causes" ∷ codes "-d" ∷ codes "d" ∷ [])
-    (causing (configured (codes "/etc/fw_env.config")) (codes "d") (record {
+    (causing (read_from (configured (codes "/etc/fw_env.config")) (codes "d")) (record {
       variable = codes "bootcmd";
       bounds = record { devices = 1000; steps = 1000000; failures = Some 2; shell = Profile };
       check = false;
@@ -595,7 +599,7 @@ all_causes = (refl, refl)
 
 -- causes -c f -d d -b q --devices 0 --steps 7 --failures 0 --check --big-endian
 few_causes : AsksFor (codes "causes" ∷ codes "-c" ∷ codes "f" ∷ codes "-d" ∷ codes "d" ∷ codes "-b" ∷ codes "q" ∷ codes "--devices" ∷ codes "0" ∷ codes "--steps" ∷ codes "7" ∷ codes "--failures" ∷ codes "0" ∷ codes "--check" ∷ codes "--big-endian" ∷ [])
-    (causing (configured (codes "f")) (codes "d") (record {
+    (causing (read_from (configured (codes "f")) (codes "d")) (record {
       variable = codes "q";
       bounds = record { devices = 0; steps = 7; failures = Some 0; shell = Profile };
       check = true;
@@ -605,7 +609,7 @@ few_causes = (refl, refl)
 
 -- causes -d d --failures=3 --devices 1000 --steps 1000000
 most_causes : AsksFor (codes "causes" ∷ codes "-d" ∷ codes "d" ∷ codes "--failures=3" ∷ codes "--devices" ∷ codes "1000" ∷ codes "--steps" ∷ codes "1000000" ∷ [])
-    (causing (configured (codes "/etc/fw_env.config")) (codes "d") (record {
+    (causing (read_from (configured (codes "/etc/fw_env.config")) (codes "d")) (record {
       variable = codes "bootcmd";
       bounds = record { devices = 1000; steps = 1000000; failures = Some 3; shell = Profile };
       check = false;
@@ -615,7 +619,7 @@ most_causes = (refl, refl)
 
 -- causes -i f --second g -d d
 causes_of_pair : AsksFor (codes "causes" ∷ codes "-i" ∷ codes "f" ∷ codes "--second" ∷ codes "g" ∷ codes "-d" ∷ codes "d" ∷ [])
-    (causing (whole (codes "f") (Some (codes "g"))) (codes "d") (record {
+    (causing (read_from (whole (codes "f") (Some (codes "g"))) (codes "d")) (record {
       variable = codes "bootcmd";
       bounds = record { devices = 1000; steps = 1000000; failures = Some 2; shell = Profile };
       check = false;
@@ -625,7 +629,7 @@ causes_of_pair = (refl, refl)
 
 -- causes -d d --shell old
 causes_in_newest_old : AsksFor (codes "causes" ∷ codes "-d" ∷ codes "d" ∷ codes "--shell" ∷ codes "old" ∷ [])
-    (causing (configured (codes "/etc/fw_env.config")) (codes "d") (record {
+    (causing (read_from (configured (codes "/etc/fw_env.config")) (codes "d")) (record {
       variable = codes "bootcmd";
       bounds = record { devices = 1000; steps = 1000000; failures = Some 2; shell = Old2025 };
       check = false;
@@ -635,7 +639,7 @@ causes_in_newest_old = (refl, refl)
 
 -- causes --check -d d --shell old-2023.01 --failures 1
 checked : AsksFor (codes "causes" ∷ codes "--check" ∷ codes "-d" ∷ codes "d" ∷ codes "--shell" ∷ codes "old-2023.01" ∷ codes "--failures" ∷ codes "1" ∷ [])
-    (causing (configured (codes "/etc/fw_env.config")) (codes "d") (record {
+    (causing (read_from (configured (codes "/etc/fw_env.config")) (codes "d")) (record {
       variable = codes "bootcmd";
       bounds = record { devices = 1000; steps = 1000000; failures = Some 1; shell = Old2023 };
       check = true;

@@ -4,6 +4,9 @@ pub mod EntryLemmas
 pub mod AnswerLemmas
 pub mod CommandLineExamples
 mod TextExamples
+mod ScriptExamples
+mod ImageExamples
+mod InspectExamples
 pub mod CalledLemmas
 mod CalledExamples
 mod LongForms

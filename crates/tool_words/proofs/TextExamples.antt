@@ -7,7 +7,7 @@ use Rattle.envimage.specs.declared.image.ByteOrder.TheVariants.{Big, Little}
 use Rattle.envtools.specs.Printing.{plain}
 use Rattle.rehearse_terms.specs.Asking.{Listed, whole_page}
 use Rattle.rehearse_terms.specs.declared.shell.Shell.TheVariants.{Profile}
-use Rattle.tool_words.proofs.CommandLineExamples.{AsksFor, bare}
+use Rattle.tool_words.proofs.CommandLineExamples.{AsksFor, bare, read_from}
 use Rattle.tool_words.specs.Asked.{ending, header_needs_one, misnamed, printing, rehearsing, texts}
 use Rattle.tool_words.specs.CommandLine.{ubtool}
 use Rattle.tool_words.specs.declared.ask.OriginError.TheVariants.{TextAlone}
@@ -72,7 +72,7 @@ text_twice = refl
 
 -- rehearse --text f -d d
 text_rehearsed : AsksFor (codes "rehearse" ∷ codes "--text" ∷ codes "f" ∷ codes "-d" ∷ codes "d" ∷ [])
-    (rehearsing (texts (codes "f") Little) (codes "d") (record {
+    (rehearsing (read_from (texts (codes "f") Little) (codes "d")) (record {
       variable = codes "bootcmd";
       bounds = record { devices = 16; steps = 10000; failures = None; shell = Profile };
       wanted = Listed None whole_page;
@@ -83,7 +83,7 @@ text_rehearsed = (refl, refl)
 
 -- endings --text f -d d
 text_ended : AsksFor (codes "endings" ∷ codes "--text" ∷ codes "f" ∷ codes "-d" ∷ codes "d" ∷ [])
-    (ending (texts (codes "f") Little) (codes "d") (record {
+    (ending (read_from (texts (codes "f") Little) (codes "d")) (record {
       variable = codes "bootcmd";
       bounds = record { devices = 1000; steps = 1000000; failures = None; shell = Profile };
       states = 1000000;

@@ -11,7 +11,7 @@ use Rattle.envimage.specs.declared.image.ByteOrder.{ByteOrder}
 use Rattle.envimage.specs.declared.image.ByteOrder.TheVariants.{Big, Little}
 use Rattle.envtools.specs.declared.print_form.PrintForm.{PrintForm}
 use Rattle.tool_words.specs.declared.ask.OriginError.{OriginError}
-use Rattle.tool_words.specs.declared.ask.OriginError.TheVariants.{ImageAndConfig, SecondNeedsImage, SecondAndOneCopy, TextAlone}
+use Rattle.tool_words.specs.declared.ask.OriginError.TheVariants.{ImageAndConfig, ScriptAndVariable, SecondNeedsImage, SecondAndOneCopy, TextAlone}
 use Rattle.tool_words.specs.declared.called.CalledAs.{CalledAs}
 use Rattle.tool_words.specs.Called.{is_tool}
 use Rattle.rehearse_terms.specs.Asking.{Asking, Wanted, Listed, Alone}
@@ -19,14 +19,24 @@ use Rattle.rehearse_terms.specs.declared.wanted.Page.{Page}
 use Rattle.rehearse_terms.specs.Bounds.{BoundsShown, bounds_of, in_shell, run_bounds_of, most_run_devices, most_steps}
 use Rattle.rehearse_terms.specs.declared.shell.Shell.{Shell}
 use Rattle.rehearse_terms.specs.declared.shell.Shell.TheVariants.{Old2023, Old2025, Profile}
+use Rattle.tool_words.specs.Numbers.{any_number, byte_of}
+use Rattle.tool_words.specs.declared.ask.ImageAsk.{ImageAsk}
 use Rattle.tool_words.specs.CommandLine.{most_cause_failures, most_failures, most_records, most_states}
 
 -- what names the images: a configuration; or files, of which each is one whole copy: a single image, or the two copies
--- of a pair; or a text of variables, of which an image is made, whose CRC is stored so
+-- of a pair; or a text of variables, of which an image is made, whose CRC is stored so; or nothing, and the environment
+-- is empty
 pub data OriginShown : Type 0 where
   configured : (config : Text) → OriginShown
   whole : (first : Text) → (second : Option Text) → OriginShown
   texts : (path : Text) → (order : ByteOrder) → OriginShown
+  no_images : (order : ByteOrder) → OriginShown
+
+-- what a rehearsal reads: the images, a device list, and a script that runs in place of a variable
+pub record InputsShown : Type 0 where
+  pub origin : OriginShown
+  pub device_list : Text
+  pub script : Option Text
 
 -- what `endings` is asked for
 pub record Endings : Type 0 where
@@ -49,9 +59,13 @@ pub data Asked : Type 0 where
   setting : (origin : OriginShown) (name : Text) (words : List Text) (order : ByteOrder) (one_copy : Bool) → Asked
   scripted : (origin : OriginShown) (script : Text) (order : ByteOrder) (one_copy : Bool) → Asked
   input_scripted : (origin : OriginShown) (order : ByteOrder) (one_copy : Bool) → Asked
-  rehearsing : (origin : OriginShown) (device_list : Text) (what : Asking) (order : ByteOrder) → Asked
-  ending : (origin : OriginShown) (device_list : Text) (what : Endings) (order : ByteOrder) → Asked
-  causing : (origin : OriginShown) (device_list : Text) (what : Causes) (order : ByteOrder) → Asked
+  rehearsing : (inputs : InputsShown) (what : Asking) (order : ByteOrder) → Asked
+  ending : (inputs : InputsShown) (what : Endings) (order : ByteOrder) → Asked
+  causing : (inputs : InputsShown) (what : Causes) (order : ByteOrder) → Asked
+  making : (text output : Text) (what : ImageAsk) → Asked
+  inspecting : (origin : OriginShown) (order : ByteOrder) → Asked
+  bad_size : Asked
+  bad_fill : Asked
   lock_needs_folder : Asked
   needs_name : Asked
   script_and_name : Asked
@@ -141,12 +155,23 @@ abbrev pub origin_asked : List Row → Result OriginShown OriginError
 origin_asked rows = named_in (first_of (codes "text") rows) (first_of (codes "config") rows)
     (first_of (codes "image") rows) (first_of (codes "second") rows) (order_of rows) (one_copy rows)
 
--- what is asked of the images that are named, or the refusal of their names
-abbrev pub of_images : Result OriginShown OriginError → (OriginShown → Asked) → Asked
-of_images (Ok origin) asked = asked origin
-of_images (Err error) asked = misnamed error
+-- beside a script that runs in place of a variable none of them need be given: the environment is then empty
+abbrev pub named_beside : (script : Bool) → (text config image second : Option Text) → ByteOrder → (one_copy : Bool) →
+    Result OriginShown OriginError
+named_beside true None None None None order one_copy = Ok (no_images order)
+named_beside script text config image second order one_copy = named_in text config image second order one_copy
 
--- ---- the five subcommands
+abbrev pub origin_beside : List Row → Result OriginShown OriginError
+origin_beside rows = named_beside (is_some (first_of (codes "script") rows)) (first_of (codes "text") rows)
+    (first_of (codes "config") rows) (first_of (codes "image") rows) (first_of (codes "second") rows) (order_of rows)
+    (one_copy rows)
+
+-- what is asked of what is named, or the refusal of the words that name it
+abbrev pub of_named : {T : Type 0} → Result T OriginError → (T → Asked) → Asked
+of_named (Ok it) asked = asked it
+of_named (Err error) asked = misnamed error
+
+-- ---- the seven subcommands
 
 -- how a variable is printed
 abbrev pub print_form : List Row → PrintForm
@@ -161,7 +186,7 @@ printing_asked rows =
     let names = values_of (codes "names") rows in
     let form = print_form rows in
     if not form.header && not (length names == 1) then header_needs_one
-    else of_images (origin_asked rows) (λ origin. printing origin form names (order_of rows) (one_copy rows))
+    else of_named (origin_asked rows) (λ origin. printing origin form names (order_of rows) (one_copy rows))
 
 abbrev pub print_asked : List Row → Asked
 print_asked rows = if has_no_folder rows then lock_needs_folder else printing_asked rows
@@ -176,9 +201,9 @@ script_asked called path origin order one_copy =
 -- from the script and the name that were given
 abbrev pub change_asked : CalledAs → Option Text → Option Text → List Row → Asked
 change_asked called (Some script) None rows =
-    of_images (images_asked rows) (λ origin. script_asked called script origin (order_of rows) (one_copy rows))
+    of_named (images_asked rows) (λ origin. script_asked called script origin (order_of rows) (one_copy rows))
 change_asked called (Some script) (Some name) rows = script_and_name
-change_asked called None (Some name) rows = of_images (images_asked rows) (λ origin.
+change_asked called None (Some name) rows = of_named (images_asked rows) (λ origin.
     setting origin name (values_of (codes "values") rows) (order_of rows) (one_copy rows))
 change_asked called None None rows = needs_name
 
@@ -186,8 +211,24 @@ abbrev pub set_asked : CalledAs → List Row → Asked
 set_asked called rows = if has_no_folder rows then lock_needs_folder else
     change_asked called (first_of (codes "script") rows) (first_of (codes "name") rows) rows
 
+abbrev pub variable_named : List Row → Text
+variable_named rows = unwrap_or (first_of (codes "variable") rows) (codes "bootcmd")
+
+-- what runs: the script that is given, or else the variable
 abbrev pub variable_of : List Row → Text
-variable_of rows = unwrap_or (first_of (codes "variable") rows) (codes "bootcmd")
+variable_of rows = unwrap_or (first_of (codes "script") rows) (variable_named rows)
+
+-- what a rehearsal reads: a script takes no variable beside it
+abbrev pub inputs_with : (device_list : Text) → (script : Option Text) → Result OriginShown OriginError →
+    Result InputsShown OriginError
+inputs_with device_list script (Err error) = Err error
+inputs_with device_list script (Ok origin) =
+    Ok (record { origin = origin; device_list = device_list; script = script })
+
+abbrev pub inputs_asked : (device_list : Text) → List Row → Result InputsShown OriginError
+inputs_asked device_list rows =
+    if is_some (first_of (codes "script") rows) && is_some (first_of (codes "variable") rows) then Err ScriptAndVariable
+    else inputs_with device_list (first_of (codes "script") rows) (origin_beside rows)
 
 -- the bounds if none are given
 abbrev pub usual_devices : ℕ
@@ -258,8 +299,8 @@ wanted_asked page failures rows =
 
 -- by the rules of this shell
 abbrev pub rehearsal_of : (device_list : Text) → Shell → List Row → WantedAsked → Asked
-rehearsal_of device_list shell rows (Ok within) = of_images (origin_asked rows) (λ origin.
-    rehearsing origin device_list (record {
+rehearsal_of device_list shell rows (Ok within) = of_named (inputs_asked device_list rows) (λ inputs.
+    rehearsing inputs (record {
       variable = variable_of rows;
       bounds = in_shell shell within.0;
       wanted = within.1;
@@ -290,7 +331,7 @@ usual_states = 1000000
 -- with a device list, bounds and a number of states that can be read
 abbrev pub endings_with : Option Text → Option BoundsShown → Option (Option ℕ) → Shell → List Row → Option Asked
 endings_with (Some device_list) (Some bounds) (Some states) shell rows =
-    Some (of_images (origin_asked rows) (λ origin. ending origin device_list (record {
+    Some (of_named (inputs_asked device_list rows) (λ inputs. ending inputs (record {
       variable = variable_of rows;
       bounds = in_shell shell bounds;
       states = unwrap_or states usual_states;
@@ -320,7 +361,7 @@ cause_bounds_asked rows =
 -- with a device list, and bounds that can be read
 abbrev pub causes_with : Option Text → Option BoundsShown → Shell → List Row → Option Asked
 causes_with (Some device_list) (Some bounds) shell rows =
-    Some (of_images (origin_asked rows) (λ origin. causing origin device_list (record {
+    Some (of_named (inputs_asked device_list rows) (λ inputs. causing inputs (record {
       variable = variable_of rows;
       bounds = in_shell shell bounds;
       check = is_set (codes "check") rows;
@@ -332,6 +373,40 @@ causes_asked rows =
     option_and_then (λ shell. causes_with (first_of (codes "device-list") rows) (cause_bounds_asked rows) shell rows)
     (shell_of rows)
 
+-- the size of a new image, which each call has; nothing if it is no number
+abbrev pub size_of : List Row → Option (Option ℕ)
+size_of rows = option_map any_number (first_of (codes "size") rows)
+
+-- the free bytes of a new image are 255 if no byte is given
+abbrev pub fill_of : List Row → Option ℕ
+fill_of rows = option_map_or byte_of (first_of (codes "fill") rows) (Some 255)
+
+-- an image of this size, whose free bytes are this one
+abbrev pub image_of : List Row → (size fill : ℕ) → ImageAsk
+image_of rows size fill = record {
+  size = size;
+  redundant = is_set (codes "redundant") rows;
+  order = order_of rows;
+  fill = fill;
+}
+
+abbrev pub making_asked : (text output : Text) → (size fill : Option ℕ) → List Row → Asked
+making_asked text output None fill rows = bad_size
+making_asked text output (Some size) None rows = bad_fill
+making_asked text output (Some size) (Some fill) rows = making text output (image_of rows size fill)
+
+-- with a text, an output and a size
+abbrev pub image_with : (text output : Option Text) → (size : Option (Option ℕ)) → List Row → Option Asked
+image_with (Some text) (Some output) (Some size) rows = Some (making_asked text output size (fill_of rows) rows)
+image_with _ _ _ rows = None
+
+abbrev pub image_asked : List Row → Option Asked
+image_asked rows =
+    image_with (first_of (codes "text") rows) (first_of (codes "output") rows) (size_of rows) rows
+
+abbrev pub inspect_asked : List Row → Asked
+inspect_asked rows = of_named (images_asked rows) (λ origin. inspecting origin (order_of rows))
+
 -- what the entries of the subcommand of this name ask for
 abbrev pub asked_of : CalledAs → Text → List Row → Option Asked
 asked_of called name rows =
@@ -339,4 +414,6 @@ asked_of called name rows =
     else (if bytes_eq name (codes "setenv") then Some (set_asked called rows)
     else (if bytes_eq name (codes "rehearse") then rehearse_asked rows
     else (if bytes_eq name (codes "endings") then endings_asked rows
-    else (if bytes_eq name (codes "causes") then causes_asked rows else None))))
+    else (if bytes_eq name (codes "causes") then causes_asked rows
+    else (if bytes_eq name (codes "image") then image_asked rows
+    else (if bytes_eq name (codes "inspect") then Some (inspect_asked rows) else None))))))

@@ -6,11 +6,12 @@ use Rattle.clap.specs.declared.error.kind.ErrorKind.{ErrorKind}
 use Rattle.clap.specs.declared.error.kind.ErrorKind.TheVariants.{DisplayHelp, DisplayVersion}
 use Rattle.envimage.specs.declared.image.ByteOrder.{ByteOrder}
 use Rattle.tool_words.specs.declared.ask.Ask.{Ask}
-use Rattle.tool_words.specs.declared.ask.Ask.TheVariants.{Print, Setenv, Rehearse, Endings, Causes, Help, Version}
+use Rattle.tool_words.specs.declared.ask.Ask.TheVariants.{Print, Setenv, Rehearse, Endings, Causes, Image, Inspect, Help, Version}
 use Rattle.tool_words.specs.declared.ask.CausesAsk.{CausesAsk}
 use Rattle.tool_words.specs.declared.ask.Change.{Change}
 use Rattle.tool_words.specs.declared.ask.Change.TheVariants.{Input, One, Script}
 use Rattle.tool_words.specs.declared.ask.EndingsAsk.{EndingsAsk}
+use Rattle.tool_words.specs.declared.ask.Inputs.{Inputs}
 use Rattle.tool_words.specs.declared.called.CalledAs.{CalledAs}
 use Rattle.tool_words.specs.declared.ask.Origin.{Origin}
 use Rattle.tool_words.specs.declared.ask.Origin.TheVariants as named
@@ -18,10 +19,10 @@ use Rattle.tool_words.specs.declared.ask.OriginError.{OriginError}
 use Rattle.tool_words.specs.declared.ask.RehearseAsk.{RehearseAsk}
 use Rattle.tool_words.specs.declared.ask.UseError.{UseError}
 use Rattle.rehearse_terms.specs.declared.wanted.Wanted.{Wanted}
-use Rattle.tool_words.specs.declared.ask.UseError.TheVariants.{Line, LockNeedsFolder, NeedName, ScriptAndName, HeaderNeedsOne, Memory, Misnamed, TooManyDevices, WordAlone}
+use Rattle.tool_words.specs.declared.ask.UseError.TheVariants.{BadFill, BadSize, Line, LockNeedsFolder, NeedName, ScriptAndName, HeaderNeedsOne, Memory, Misnamed, TooManyDevices, WordAlone}
 use Rattle.tool_words.specs.Answered.{IsAccepted, IsMistaken}
 use Rattle.tool_words.specs.Asked as what
-use Rattle.tool_words.specs.Asked.{Asked, WantedAsked, OriginShown, asked_of, causing, configured, ending, input_scripted, lock_of, printing, setting, scripted, rehearsing, lock_needs_folder, needs_name, script_and_name, header_needs_one, misnamed, texts, too_many_devices, whole, word_alone}
+use Rattle.tool_words.specs.Asked.{Asked, InputsShown, WantedAsked, OriginShown, asked_of, bad_fill, bad_size, causing, configured, ending, input_scripted, inspecting, lock_of, making, no_images, printing, setting, scripted, rehearsing, lock_needs_folder, needs_name, script_and_name, header_needs_one, misnamed, texts, too_many_devices, whole, word_alone}
 use Rattle.tool_words.specs.CommandLine.{ubtool}
 use Rattle.rehearse_terms.specs.WantedShown.{wanted_bounds, wanted_strings}
 use Rattle.rehearse_terms.specs.Asking.{Asking}
@@ -54,6 +55,14 @@ abbrev pub origin_shown : Origin → OriginShown
 origin_shown (named.Config config) = configured (string_bytes config)
 origin_shown (named.Files first second) = whole (string_bytes first) (option_map string_bytes second)
 origin_shown (named.Text path order) = texts (string_bytes path) order
+origin_shown (named.Empty order) = no_images order
+
+abbrev pub inputs_shown : Inputs → InputsShown
+inputs_shown inputs = record {
+  origin = origin_shown inputs.origin;
+  device_list = string_bytes inputs.device_list;
+  script = option_map string_bytes inputs.script;
+}
 
 abbrev pub change_of : OriginShown → Change → ByteOrder → (one_copy : Bool) → Asked
 change_of origin (One name words) order one_copy =
@@ -67,12 +76,11 @@ meaning_of (Print origin what order one_copy) =
     Some (printing (origin_shown origin) what.form (map string_bytes what.names.items) order one_copy)
 meaning_of (Setenv origin change order one_copy) =
     Some (change_of (origin_shown origin) change order one_copy)
-meaning_of (Rehearse origin list what order) =
-    Some (rehearsing (origin_shown origin) (string_bytes list) (asking_of what) order)
-meaning_of (Endings origin list what order) =
-    Some (ending (origin_shown origin) (string_bytes list) (endings_of what) order)
-meaning_of (Causes origin list what order) =
-    Some (causing (origin_shown origin) (string_bytes list) (causes_of what) order)
+meaning_of (Rehearse inputs what order) = Some (rehearsing (inputs_shown inputs) (asking_of what) order)
+meaning_of (Endings inputs what order) = Some (ending (inputs_shown inputs) (endings_of what) order)
+meaning_of (Causes inputs what order) = Some (causing (inputs_shown inputs) (causes_of what) order)
+meaning_of (Image text output what) = Some (making (string_bytes text) (string_bytes output) what)
+meaning_of (Inspect origin order) = Some (inspecting (origin_shown origin) order)
 meaning_of (Help text) = None
 meaning_of Version = None
 
@@ -81,7 +89,8 @@ abbrev pub asked : CalledAs → List Text → Option Asked
 asked called words = option_and_then (λ s. asked_of called s.0 s.1) (subcommand_of ubtool words)
 
 -- The answer to words. A line without a mistake is that of a number with a sign, or of a name that no shell has, which
--- `clap` accepts. It accepts no `rehearse`, `endings` or `causes` without a device list, and no number out of its range.
+-- `clap` accepts. It accepts no `rehearse`, `endings` or `causes` without a device list, no `image` without a size, an output
+-- and a text, and no number out of its range.
 abbrev pub Answers : CalledAs → List Text → Result Ask UseError → Type 0
 Answers called words (Ok (Help text)) = IsAmong DisplayHelp (fault_of ubtool words)
 Answers called words (Ok Version) = IsAmong DisplayVersion (fault_of ubtool words)
@@ -92,6 +101,8 @@ Answers called words (Err NeedName) = IsAccepted ubtool words × (Some needs_nam
 Answers called words (Err ScriptAndName) = IsAccepted ubtool words × (Some script_and_name ≡ asked called words)
 Answers called words (Err HeaderNeedsOne) = IsAccepted ubtool words × (Some header_needs_one ≡ asked called words)
 Answers called words (Err (Misnamed error)) = IsAccepted ubtool words × (Some (misnamed error) ≡ asked called words)
+Answers called words (Err BadSize) = IsAccepted ubtool words × (Some bad_size ≡ asked called words)
+Answers called words (Err BadFill) = IsAccepted ubtool words × (Some bad_fill ≡ asked called words)
 Answers called words (Err WordAlone) = IsAccepted ubtool words × (Some word_alone ≡ asked called words)
 Answers called words (Err TooManyDevices) = IsAccepted ubtool words × (Some too_many_devices ≡ asked called words)
 Answers called words (Err (Line text)) = IsMistaken ubtool words ⊎ (IsAccepted ubtool words × (None ≡ asked called words))
@@ -113,6 +124,8 @@ Says a (Err NeedName) = Some needs_name ≡ a
 Says a (Err ScriptAndName) = Some script_and_name ≡ a
 Says a (Err HeaderNeedsOne) = Some header_needs_one ≡ a
 Says a (Err (Misnamed error)) = Some (misnamed error) ≡ a
+Says a (Err BadSize) = Some bad_size ≡ a
+Says a (Err BadFill) = Some bad_fill ≡ a
 Says a (Err WordAlone) = Some word_alone ≡ a
 Says a (Err TooManyDevices) = Some too_many_devices ≡ a
 Says a (Err (Line text)) = None ≡ a
@@ -133,6 +146,13 @@ SaysOrigin a (Ok origin) = Ok (origin_shown origin) ≡ a
 SaysOrigin a (Err (Misnamed error)) = Err error ≡ a
 SaysOrigin a (Err Memory) = Unit {0}
 SaysOrigin a (Err error) = ⊥
+
+-- the same for what a rehearsal reads
+abbrev pub SaysInputs : Result InputsShown OriginError → Result Inputs UseError → Type 0
+SaysInputs a (Ok inputs) = Ok (inputs_shown inputs) ≡ a
+SaysInputs a (Err (Misnamed error)) = Err error ≡ a
+SaysInputs a (Err Memory) = Unit {0}
+SaysInputs a (Err error) = ⊥
 
 -- a line, or memory ran out
 abbrev pub IsUnread : UseError → Type 0

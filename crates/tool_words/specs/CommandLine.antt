@@ -1,4 +1,4 @@
--- The command line that `clap` is given: five subcommands with their options and names. It is ours, but `-c`, `-l`,
+-- The command line that `clap` is given: seven subcommands with their options and names. It is ours, but `-c`, `-l`,
 -- `-n` and `-s` and their long forms are those of fw_printenv and fw_setenv (U-Boot, tools/env README), and
 -- `--no-header` is libubootenv's.
 use Rattle.std.specs.Prelude.{ℕ, [], ◌∷◌, true, codes}
@@ -35,6 +35,10 @@ second = long_option (codes "second")
 -- `--text FILE`, in place of images
 abbrev pub text_file : Rule
 text_file = long_option (codes "text")
+
+-- `--script FILE`, in place of a variable
+abbrev pub script_file : Rule
+script_file = long_option (codes "script")
 
 abbrev pub big_endian : Rule
 big_endian = long_flag (codes "big-endian")
@@ -114,7 +118,7 @@ limit = number_option (codes "limit") 1 most_records
 
 abbrev pub rehearse : App
 rehearse = command (codes "rehearse")
-    (config ∷ image ∷ second ∷ text_file ∷ big_endian ∷ device_list ∷ variable ∷ devices ∷ steps ∷ shell ∷ word ∷ failures ∷ after ∷ limit ∷ names ∷ [])
+    (config ∷ image ∷ second ∷ text_file ∷ big_endian ∷ device_list ∷ variable ∷ script_file ∷ devices ∷ steps ∷ shell ∷ word ∷ failures ∷ after ∷ limit ∷ names ∷ [])
 
 -- how many states may be searched, and the greatest number of them that can be allowed
 abbrev pub most_states : ℕ
@@ -129,7 +133,7 @@ flow = long_flag (codes "flow")
 
 abbrev pub endings : App
 endings = command (codes "endings")
-    (config ∷ image ∷ second ∷ text_file ∷ big_endian ∷ device_list ∷ variable ∷ devices ∷ steps ∷ shell ∷ states ∷ flow ∷ names ∷ [])
+    (config ∷ image ∷ second ∷ text_file ∷ big_endian ∷ device_list ∷ variable ∷ script_file ∷ devices ∷ steps ∷ shell ∷ states ∷ flow ∷ names ∷ [])
 
 -- how many device commands may fail in a run that `causes` looks at, and the greatest number of them that can be allowed
 abbrev pub most_cause_failures : ℕ
@@ -144,7 +148,29 @@ check = long_flag (codes "check")
 
 abbrev pub causes : App
 causes = command (codes "causes")
-    (config ∷ image ∷ second ∷ text_file ∷ big_endian ∷ device_list ∷ variable ∷ devices ∷ steps ∷ shell ∷ cause_failures ∷ check ∷ [])
+    (config ∷ image ∷ second ∷ text_file ∷ big_endian ∷ device_list ∷ variable ∷ script_file ∷ devices ∷ steps ∷ shell ∷ cause_failures ∷ check ∷ [])
+
+-- `--size N` and `-o FILE`, which each call of `image` needs, and `TEXT`
+abbrev pub size : Rule
+size = record (long_option (codes "size")) { required = true }
+
+abbrev pub redundant : Rule
+redundant = long_flag (codes "redundant")
+
+abbrev pub fill : Rule
+fill = long_option (codes "fill")
+
+abbrev pub output : Rule
+output = record (lettered_option (codes "output") (letter (codes "o"))) { required = true }
+
+abbrev pub variables : Rule
+variables = record (one (codes "text")) { required = true }
+
+abbrev pub making : App
+making = command (codes "image") (size ∷ redundant ∷ big_endian ∷ fill ∷ output ∷ variables ∷ [])
+
+abbrev pub inspect : App
+inspect = command (codes "inspect") (config ∷ image ∷ second ∷ big_endian ∷ [])
 
 -- the program, which has no words of its own; its version can be asked for at each subcommand too
 abbrev pub base : App
@@ -157,4 +183,4 @@ base = on_top (λ (s : Shape). record s {
 }) (new_app (codes "ubtool"))
 
 unfoldable pub ubtool : App
-ubtool = with_subcommands base (printenv ∷ setenv ∷ rehearse ∷ endings ∷ causes ∷ [])
+ubtool = with_subcommands base (printenv ∷ setenv ∷ rehearse ∷ endings ∷ causes ∷ making ∷ inspect ∷ [])

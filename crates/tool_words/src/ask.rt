@@ -60,10 +60,8 @@ pub enum Ask {
     },
     /// To list the runs of a boot script.
     Rehearse {
-        /// What names the images.
-        origin: Origin,
-        /// The path of the device list.
-        devices_file: String,
+        /// The files to read.
+        inputs: Inputs,
         /// What to list.
         what: RehearseAsk,
         /// How the image's CRC is stored.
@@ -71,10 +69,8 @@ pub enum Ask {
     },
     /// To count how all runs of a boot script end.
     Endings {
-        /// What names the images.
-        origin: Origin,
-        /// The path of the device list.
-        devices_file: String,
+        /// The files to read.
+        inputs: Inputs,
         /// What to write.
         what: EndingsAsk,
         /// How the image's CRC is stored.
@@ -82,12 +78,26 @@ pub enum Ask {
     },
     /// To tell what has to fail for each ending of a boot script.
     Causes {
-        /// What names the images.
-        origin: Origin,
-        /// The path of the device list.
-        devices_file: String,
+        /// The files to read.
+        inputs: Inputs,
         /// What to write.
         what: CausesAsk,
+        /// How the image's CRC is stored.
+        order: ByteOrder,
+    },
+    /// To make an image of a text of variables.
+    Image {
+        /// The path of the text.
+        text: String,
+        /// The path of the new image.
+        output: String,
+        /// What image to make.
+        what: ImageAsk,
+    },
+    /// To tell what a configuration or an image is.
+    Inspect {
+        /// What names the images.
+        origin: Origin,
         /// How the image's CRC is stored.
         order: ByteOrder,
     },
@@ -95,6 +105,19 @@ pub enum Ask {
     Help(String),
     /// To read the version.
     Version,
+}
+
+/// What image is to be made.
+#[derive(Clone, Copy, Debug)]
+pub struct ImageAsk {
+    /// Its bytes.
+    pub size: u32,
+    /// Whether it is a copy of a redundant pair.
+    pub redundant: bool,
+    /// How its CRC is stored.
+    pub order: ByteOrder,
+    /// What its free bytes are.
+    pub fill: u8,
 }
 
 /// What names the images.
@@ -116,9 +139,25 @@ pub enum Origin {
         /// How the image's CRC is stored.
         order: ByteOrder,
     },
+    /// Nothing: the environment is empty. A call has it only beside a script that runs in place of a variable.
+    Empty {
+        /// How the CRC of the image that is made of it is stored.
+        order: ByteOrder,
+    },
 }
 
-/// Why the words that name the images are refused.
+/// The files that a rehearsal reads.
+#[derive(Debug, Drop)]
+pub struct Inputs {
+    /// What names the images.
+    pub origin: Origin,
+    /// The path of the device list.
+    pub device_list: String,
+    /// The path of the script that runs in place of a variable, if one is given.
+    pub script: Option<String>,
+}
+
+/// Why the words that name what is read are refused.
 #[derive(Clone, Copy, Debug, Drop, PartialEq, Eq, Error)]
 pub enum OriginError {
     /// An image is named, and a configuration too.
@@ -133,6 +172,9 @@ pub enum OriginError {
     /// A text is named, and a configuration or an image too.
     #[error("--text takes no -c, no -i and no --second")]
     TextAlone,
+    /// A script that runs in place of a variable is named, and a variable too.
+    #[error("--script takes no -b")]
+    ScriptAndVariable,
 }
 
 /// What `printenv` is to print.
@@ -158,7 +200,7 @@ pub enum Change {
 /// What `rehearse` is to list.
 #[derive(Debug, Drop)]
 pub struct RehearseAsk {
-    /// The variable whose text is run.
+    /// The variable whose text is run, or the path of the script that runs in its place.
     pub name: String,
     /// The runs to list.
     pub wanted: Wanted<String>,
@@ -170,7 +212,7 @@ pub struct RehearseAsk {
 /// What `endings` is to write.
 #[derive(Debug, Drop)]
 pub struct EndingsAsk {
-    /// The variable whose text is run.
+    /// The variable whose text is run, or the path of the script that runs in its place.
     pub name: String,
     /// How far each run may go.
     pub bounds: RunBounds,
@@ -185,7 +227,7 @@ pub struct EndingsAsk {
 /// What `causes` is to write.
 #[derive(Debug, Drop)]
 pub struct CausesAsk {
-    /// The variable whose text is run.
+    /// The variable whose text is run, or the path of the script that runs in its place.
     pub name: String,
     /// Which runs are looked at.
     pub bounds: Bounds,
@@ -212,9 +254,15 @@ pub enum UseError {
     /// `printenv -n` is given no name, or several.
     #[error("-n takes exactly one NAME")]
     HeaderNeedsOne,
-    /// The words that name the images do not go together.
+    /// The words that name what is read do not go together.
     #[error("{0}")]
     Misnamed(OriginError),
+    /// The size of a new image is no number.
+    #[error("--size needs a number of bytes, decimal or after 0x")]
+    BadSize,
+    /// The free bytes of a new image are no byte.
+    #[error("--fill needs a byte, 0 to 255 or 0x0 to 0xff")]
+    BadFill,
     /// `rehearse` is given the word of one run, and which runs a listing has.
     #[error("--word takes no --failures, no --after and no --limit")]
     WordAlone,

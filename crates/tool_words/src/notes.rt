@@ -13,6 +13,7 @@ Examples:
   ubtool rehearse -d devices.txt
   ubtool endings -d devices.txt
   ubtool causes -d devices.txt
+  ubtool image --size 0x4000 -o env.img env.txt
   ubtool < env.img
 
 'ubtool help printenv' and its like tell more.
@@ -124,6 +125,7 @@ Examples:
   ubtool rehearse -d devices.txt --limit 20 --after 0110
   ubtool rehearse -d devices.txt --word 0110 bootargs
   ubtool rehearse --text env.txt -d devices.txt
+  ubtool rehearse --script boot.scr --text env.txt -d devices.txt
 ";
 
 pub(crate) const ENDINGS_NOTES: &str = "\
@@ -163,6 +165,7 @@ Examples:
   ubtool endings -d devices.txt --flow
   ubtool endings -d devices.txt bootargs
   ubtool endings --text env.txt -d devices.txt
+  ubtool endings --script boot.cmd -d devices.txt
 ";
 
 pub(crate) const CAUSES_NOTES: &str = "\
@@ -188,4 +191,30 @@ Examples:
   ubtool causes -d devices.txt -b altbootcmd --failures 1
   ubtool causes -c fw_env.config -d devices.txt --check
   ubtool causes -i env.img -d devices.txt --failures 3
+  ubtool causes --script boot.cmd -d devices.txt
+";
+
+pub(crate) const IMAGE_NOTES: &str = "\
+The image has the bytes that mkenvimage writes: the CRC, with --redundant the
+flag 1, the variables of TEXT in their order, and free bytes up to its size. A
+number is decimal, or hexadecimal after 0x. FILE is made anew, and no file is
+ever replaced.
+
+Examples:
+  ubtool image --size 0x4000 -o env.img env.txt
+  ubtool image --size 16384 --redundant --fill 0 -o env.img env.txt
+";
+
+pub(crate) const INSPECT_NOTES: &str = "\
+For each copy it is told where it is, which CRC is there, which one is right,
+its flag if it is a copy of a pair, and whether it counts; of a pair then why.
+Last come the number of variables and the bytes of the data that are used and
+free, or the first fault of the data. If no copy counts, it is told as what the
+bytes would be right: single or a copy of a pair, with the CRC in the other byte
+order, in a smaller size, at an offset. The status is 1 if no copy counts or the
+data have a fault. Nothing is written but this report.
+
+Examples:
+  ubtool inspect
+  ubtool inspect -i env.img
 ";

@@ -4,7 +4,7 @@ ghost use Rattle.rehearse_terms.specs.Asking.{page_of};
 ghost use Rattle.rehearse_terms.specs.Asking.{HasRoom};
 ghost use Rattle.clap.specs.Words.{Text, first_of, found_of, rows_of, subcommand_rows_of};
 ghost use Rattle.envimage.specs.declared.image.ByteOrder.{ByteOrder as Order};
-ghost use Rattle.tool_words.specs.Asked.{OriginShown, asked_of, bounds_or, cause_bounds_asked, causes_asked, config_of, endings_asked, has_no_folder, is_set, lock_of, number_given, number_of, number_within, order_of, page_asked, print_asked, rehearse_asked, script_asked, set_asked, values_of, variable_of, wanted_asked, wanted_by};
+ghost use Rattle.tool_words.specs.Asked.{OriginShown, asked_of, bounds_or, cause_bounds_asked, causes_asked, config_of, endings_asked, fill_of, has_no_folder, image_asked, inspect_asked, is_set, lock_of, number_given, number_of, number_within, order_of, page_asked, print_asked, rehearse_asked, script_asked, set_asked, size_of, values_of, variable_named, variable_of, wanted_asked, wanted_by};
 ghost use Rattle.rehearse_terms.specs.WantedShown.{wanted_strings};
 ghost use Rattle.tool_words.specs.declared.ask.UseError.TheVariants.{Memory};
 ghost use Rattle.tool_words.specs.CommandAnswers.{Answers, IsUnread, NamesLock, Says, SaysWanted, change_of};
@@ -13,10 +13,11 @@ use crate::answer::{Answer, parse};
 use crate::ask::{
     Ask, CausesAsk, Change, DEFAULT_CAUSE_FAILURES, DEFAULT_CONFIG, DEFAULT_DEVICES,
     DEFAULT_RUN_DEVICES, DEFAULT_RUN_STEPS, DEFAULT_STATES, DEFAULT_STEPS, DEFAULT_VARIABLE,
-    EndingsAsk, PrintAsk, RehearseAsk, UseError,
+    EndingsAsk, ImageAsk, PrintAsk, RehearseAsk, UseError,
 };
 use crate::called::CalledAs;
-use crate::origin::{images_of, origin_of};
+use crate::number::{any_number, byte_of};
+use crate::origin::{images_of, inputs_of, origin_of};
 use crate::shell::{shell_of, unnamed, wanted_in_shell};
 use crate::{CAUSE_FAILURES_MAX, FAILURES_MAX, ubtool};
 use clap::ArgMatches;
@@ -144,7 +145,7 @@ fn has_no_folder(matches: &ArgMatches<'_>) -> bool
     }
 }
 
-// ---- the five subcommands
+// ---- the seven subcommands
 
 fn print_ask(alloc: Global, matches: &ArgMatches<'_>) -> Result<Ask, UseError>
     ensures { Says (Some (print_asked (rows_of (found_of matches.now)))) result }
@@ -227,12 +228,23 @@ fn unread(alloc: Global) -> UseError
     }
 }
 
-fn variable_of(alloc: Global, matches: &ArgMatches<'_>) -> Result<String, AllocError>
-    ensures { IfOk result (λ t. string_bytes t ≡ variable_of (rows_of (found_of matches.now))) }
+/// The variable that is named, or the usual one.
+fn variable_named(alloc: Global, matches: &ArgMatches<'_>) -> Result<String, AllocError>
+    ensures { IfOk result (λ t. string_bytes t ≡ variable_named (rows_of (found_of matches.now))) }
 {
     match text_of(alloc, matches, "variable")? {
         Some(name) => Ok(name),
         None => String::from_str(alloc, DEFAULT_VARIABLE),
+    }
+}
+
+/// What runs: the script that is given, or else the variable.
+fn variable_of(alloc: Global, matches: &ArgMatches<'_>) -> Result<String, AllocError>
+    ensures { IfOk result (λ t. string_bytes t ≡ variable_of (rows_of (found_of matches.now))) }
+{
+    match text_of(alloc, matches, "script")? {
+        Some(path) => Ok(path),
+        None => variable_named(alloc, matches),
     }
 }
 
@@ -344,8 +356,7 @@ fn rehearse_ask(alloc: Global, matches: &ArgMatches<'_>) -> Result<Ask, UseError
         Err(error) => return Err(error),
     };
     Ok(Ask::Rehearse {
-        origin: origin_of(alloc, matches)?,
-        devices_file,
+        inputs: inputs_of(alloc, matches, devices_file)?,
         what: RehearseAsk {
             name: variable_of(alloc, matches)?,
             wanted: wanted_in_shell(wanted, shell),
@@ -368,8 +379,7 @@ fn endings_ask(alloc: Global, matches: &ArgMatches<'_>) -> Result<Ask, UseError>
         return Err(unread(alloc));
     };
     Ok(Ask::Endings {
-        origin: origin_of(alloc, matches)?,
-        devices_file,
+        inputs: inputs_of(alloc, matches, devices_file)?,
         what: EndingsAsk {
             name: variable_of(alloc, matches)?,
             bounds: bounds.in_shell(shell),
@@ -402,13 +412,64 @@ fn causes_ask(alloc: Global, matches: &ArgMatches<'_>) -> Result<Ask, UseError>
         return Err(unread(alloc));
     };
     Ok(Ask::Causes {
-        origin: origin_of(alloc, matches)?,
-        devices_file,
+        inputs: inputs_of(alloc, matches, devices_file)?,
         what: CausesAsk {
             name: variable_of(alloc, matches)?,
             bounds: bounds.in_shell(shell),
             check: is_set(matches, "check"),
         },
+        order: order_of(matches),
+    })
+}
+
+/// The size of a new image, which each call has; `None` in it if it is no number.
+fn size_of(matches: &ArgMatches<'_>) -> Option<Option<u32>>
+    ensures { result ≡ size_of (rows_of (found_of matches.now)) }
+{
+    match matches.get_str("size") {
+        Some(text) => Some(any_number(text)),
+        None => None,
+    }
+}
+
+/// What the free bytes of a new image are, 255 if no byte is given; `None` if it is no byte.
+fn fill_of(matches: &ArgMatches<'_>) -> Option<u8>
+    ensures { result ≡ fill_of (rows_of (found_of matches.now)) }
+{
+    match matches.get_str("fill") {
+        Some(text) => byte_of(text),
+        None => Some(255),
+    }
+}
+
+fn image_ask(alloc: Global, matches: &ArgMatches<'_>) -> Result<Ask, UseError>
+    ensures { Says (image_asked (rows_of (found_of matches.now))) result }
+{
+    let text = text_of(alloc, matches, "text")?;
+    let output = text_of(alloc, matches, "output")?;
+    let (Some(text), Some(output), Some(size)) = (text, output, size_of(matches)) else {
+        return Err(unread(alloc));
+    };
+    let Some(size) = size else {
+        return Err(UseError::BadSize);
+    };
+    let Some(fill) = fill_of(matches) else {
+        return Err(UseError::BadFill);
+    };
+    let what = ImageAsk {
+        size,
+        redundant: is_set(matches, "redundant"),
+        order: order_of(matches),
+        fill,
+    };
+    Ok(Ask::Image { text, output, what })
+}
+
+fn inspect_ask(alloc: Global, matches: &ArgMatches<'_>) -> Result<Ask, UseError>
+    ensures { Says (Some (inspect_asked (rows_of (found_of matches.now)))) result }
+{
+    Ok(Ask::Inspect {
+        origin: images_of(alloc, matches)?,
         order: order_of(matches),
     })
 }
@@ -426,6 +487,8 @@ fn ask_of(alloc: Global, called: CalledAs, matches: &ArgMatches<'_>) -> Result<A
         "rehearse" => rehearse_ask(alloc, entries),
         "endings" => endings_ask(alloc, entries),
         "causes" => causes_ask(alloc, entries),
+        "image" => image_ask(alloc, entries),
+        "inspect" => inspect_ask(alloc, entries),
         _ => Err(unread(alloc)),
     }
 }
@@ -464,8 +527,9 @@ pub fn read_lock<S: AsStr>(alloc: Global, words: &[S]) -> Result<Option<String>,
 /// no shell has. Then both `printenv` and `setenv` refuse an empty folder of the lock (`LockNeedsFolder`),
 /// `setenv` refuses to have no name (`NeedName`) or a script and a name (`ScriptAndName`), and `printenv -n` refuses any number of
 /// names but one (`HeaderNeedsOne`). `rehearse` refuses a word beside `--after` or `--limit`
-/// (`WordAlone`), and a listing with too great a device bound (`TooManyDevices`). Last, each of them
-/// refuses words for the images that do not go together (`Misnamed`). `Memory` is returned if a growth is
+/// (`WordAlone`), and a listing with too great a device bound (`TooManyDevices`), and `image` a size or a byte
+/// that is none (`BadSize`, `BadFill`). Last, each of them
+/// refuses words for what is read that do not go together (`Misnamed`). `Memory` is returned if a growth is
 /// refused.
 pub fn read_command<S: AsStr>(alloc: Global, called: CalledAs, words: &[S]) -> Result<Ask, UseError>
     ensures { Answers called (map S.text words.now) result }

@@ -46,6 +46,17 @@ pub const TEXT: Argument<'static> = Argument {
     help: "Text for mkenvimage, at most 1048576 bytes, in place of -c [default: none]",
 };
 
+/// The option that names a script which runs, or is checked, in place of a variable.
+pub const SCRIPT_FILE: Argument<'static> = Argument {
+    id: "script",
+    form: Form::Value,
+    letter: None,
+    alias: None,
+    required: false,
+    value: "FILE",
+    help: "Script or script image, at most 1048576 bytes, in place of NAME [default: none]",
+};
+
 /// The flag for a checksum that is stored big-endian.
 pub const BIG_ENDIAN: Argument<'static> = Argument {
     id: "big-endian",
@@ -76,5 +87,5 @@ pub const DEVICE_LIST: Argument<'static> = Argument {
     alias: None,
     required: true,
     value: "FILE",
-    help: "Device list, at most 1048576 bytes: a command that may fail a line; required",
+    help: "Device list, or a folder of them, at most 1048576 bytes: a command that may fail a line; required",
 };

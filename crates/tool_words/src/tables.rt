@@ -2,10 +2,10 @@
 
 use crate::argument::{Argument, Form};
 use crate::notes::{
-    CAUSES_NOTES, ENDINGS_NOTES, FW_PRINTENV_NOTES, FW_SETENV_NOTES, PRINTENV_NOTES,
-    REHEARSE_NOTES, SETENV_NOTES,
+    CAUSES_NOTES, ENDINGS_NOTES, FW_PRINTENV_NOTES, FW_SETENV_NOTES, IMAGE_NOTES, INSPECT_NOTES,
+    PRINTENV_NOTES, REHEARSE_NOTES, SETENV_NOTES,
 };
-use crate::shared::{BIG_ENDIAN, CONFIG, DEVICE_LIST, IMAGE, NAMES, SECOND, TEXT};
+use crate::shared::{BIG_ENDIAN, CONFIG, DEVICE_LIST, IMAGE, NAMES, SCRIPT_FILE, SECOND, TEXT};
 use crate::subcommand::{Subcommand, Tool};
 use rehearse_terms::{RUN_DEVICES_MAX, STEPS_MAX};
 
@@ -214,7 +214,7 @@ const LIMIT: Argument<'static> = Argument {
     help: "At most N records, 1 to 4294967295 [default: all]",
 };
 
-const REHEARSE: [Argument<'static>; 15] = [
+const REHEARSE: [Argument<'static>; 16] = [
     CONFIG,
     IMAGE,
     SECOND,
@@ -222,6 +222,7 @@ const REHEARSE: [Argument<'static>; 15] = [
     BIG_ENDIAN,
     DEVICE_LIST,
     VARIABLE,
+    SCRIPT_FILE,
     DEVICES,
     STEPS,
     SHELL,
@@ -255,7 +256,7 @@ const FLOW: Argument<'static> = Argument {
     help: "Write the states as a graph, a line each",
 };
 
-const ENDINGS: [Argument<'static>; 13] = [
+const ENDINGS: [Argument<'static>; 14] = [
     CONFIG,
     IMAGE,
     SECOND,
@@ -263,6 +264,7 @@ const ENDINGS: [Argument<'static>; 13] = [
     BIG_ENDIAN,
     DEVICE_LIST,
     VARIABLE,
+    SCRIPT_FILE,
     Argument {
         help: "At most N device commands a run, 0 to 1000 [default: 1000]",
         ..DEVICES
@@ -290,7 +292,7 @@ const CHECK: Argument<'static> = Argument {
     help: "Only what does not boot; status 1 if there is any",
 };
 
-const CAUSES: [Argument<'static>; 12] = [
+const CAUSES: [Argument<'static>; 13] = [
     CONFIG,
     IMAGE,
     SECOND,
@@ -298,6 +300,7 @@ const CAUSES: [Argument<'static>; 12] = [
     BIG_ENDIAN,
     DEVICE_LIST,
     VARIABLE,
+    SCRIPT_FILE,
     Argument {
         help: "At most N device commands a run, 0 to 1000 [default: 1000]",
         ..DEVICES
@@ -315,8 +318,62 @@ const CAUSES: [Argument<'static>; 12] = [
     CHECK,
 ];
 
+const SIZE: Argument<'static> = Argument {
+    id: "size",
+    form: Form::Value,
+    letter: None,
+    alias: None,
+    required: true,
+    value: "N",
+    help: "Bytes of the image, at most 1048576; required",
+};
+
+const REDUNDANT: Argument<'static> = Argument {
+    id: "redundant",
+    form: Form::Flag,
+    letter: None,
+    alias: None,
+    required: false,
+    value: "",
+    help: "A copy of a redundant pair, with a flag [default: a single image]",
+};
+
+const FILL: Argument<'static> = Argument {
+    id: "fill",
+    form: Form::Value,
+    letter: None,
+    alias: None,
+    required: false,
+    value: "BYTE",
+    help: "What the free bytes are, 0 to 255 or 0x0 to 0xff [default: 255]",
+};
+
+const OUTPUT: Argument<'static> = Argument {
+    id: "output",
+    form: Form::Value,
+    letter: Some('o'),
+    alias: None,
+    required: true,
+    value: "FILE",
+    help: "The new image; refused if there is such a file; required",
+};
+
+const VARIABLES: Argument<'static> = Argument {
+    id: "text",
+    form: Form::Word,
+    letter: None,
+    alias: None,
+    required: true,
+    value: "TEXT",
+    help: "File with a line NAME=VALUE for each variable, as mkenvimage reads it",
+};
+
+const MAKING: [Argument<'static>; 6] = [SIZE, REDUNDANT, BIG_ENDIAN, FILL, OUTPUT, VARIABLES];
+
+const INSPECT: [Argument<'static>; 4] = [CONFIG, IMAGE, SECOND, BIG_ENDIAN];
+
 /// The subcommands, in the order of the help.
-pub(crate) const SUBCOMMANDS: [Subcommand<'static>; 5] = [
+pub(crate) const SUBCOMMANDS: [Subcommand<'static>; 7] = [
     Subcommand {
         name: "printenv",
         about: "Print variables of the environment",
@@ -356,6 +413,20 @@ pub(crate) const SUBCOMMANDS: [Subcommand<'static>; 5] = [
         about: "Tell what has to fail for each ending of a boot script",
         notes: CAUSES_NOTES,
         arguments: &CAUSES,
+        tool: None,
+    },
+    Subcommand {
+        name: "image",
+        about: "Make an image of a text of variables",
+        notes: IMAGE_NOTES,
+        arguments: &MAKING,
+        tool: None,
+    },
+    Subcommand {
+        name: "inspect",
+        about: "Tell what a configuration or an image is",
+        notes: INSPECT_NOTES,
+        arguments: &INSPECT,
         tool: None,
     },
 ];

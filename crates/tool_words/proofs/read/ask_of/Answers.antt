@@ -13,3 +13,9 @@ returns-in-setenv c =
     let met = subcommand_met c.args.matches.now c.in-Some.name.now _ c.in-Some.ensures.name c.in-Some.ensures.rows in
     let is : c.in-Some.name.now ≡ codes "setenv" = search rules in
     rw (met, is) c.set_ask.ensures
+
+pub returns-in-inspect : goal.returns-in-inspect
+returns-in-inspect c =
+    let met = subcommand_met c.args.matches.now c.in-Some.name.now _ c.in-Some.ensures.name c.in-Some.ensures.rows in
+    let is : c.in-Some.name.now ≡ codes "inspect" = search rules in
+    rw (met, is) c.inspect_ask.ensures
