@@ -30,10 +30,10 @@ use Rattle.tool_steps.specs.declared.one_copy.ImageSource.{ImageSource}
 use Rattle.tool_steps.specs.declared.read.SoughtCopy.{SoughtCopy}
 use Rattle.tool_steps.specs.declared.read.SoughtCopy.TheVariants.{Lost, Read}
 use Rattle.tool_steps.specs.declared.read.StoredCopy.{StoredCopy}
-use Rattle.tool_words.specs.Asked.{OriginShown, configured, texts, whole}
+use Rattle.tool_words.specs.Asked.{OriginShown, configured, no_images, texts, whole}
 use Rattle.tool_words.specs.CommandAnswers.{origin_shown}
 use Rattle.tool_words.specs.declared.ask.Origin.{Origin}
-use Rattle.tool_words.specs.declared.ask.Origin.TheVariants.{Config, Files, Text}
+use Rattle.tool_words.specs.declared.ask.Origin.TheVariants.{Config, Empty, Files, Text}
 
 -- ---- one copy
 
@@ -166,6 +166,7 @@ all-found program source err old new (Err f) other h = (h.0, why source.one_copy
     why false origin other h = h
     why true (Files first second) other h = h
     why true (Text path order) other h = h
+    why true (Empty order) other h = h
     why true (Config config) other h = absurd (other refl config refl)
 
 -- a configuration, if one copy is enough
@@ -237,6 +238,7 @@ finds-reads : (one_copy : Bool) (origin : OriginShown) (lost : Option PlaceShown
 finds-reads one_copy origin None old new found h = origin-reads origin old new found h
 finds-reads true (whole first second) (Some lost) old new found h = absurd h
 finds-reads true (texts path order) (Some lost) old new found h = absurd h
+finds-reads true (no_images order) (Some lost) old new found h = absurd h
 finds-reads true (configured config) (Some lost) old new found h =
     OnlyReads-then old h.after_config new (named-reads config old h.after_config (h.first ∷ h.second ∷ []) h.named)
     (one-reads h.first h.second lost h.after_config new found h.loses)

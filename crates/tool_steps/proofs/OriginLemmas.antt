@@ -1,7 +1,7 @@
 -- The images of a call, read by what names them.
 use Rattle.std.proofs.Common.{◌∙◌, ℕ, refl, sym, ap, subst, List, [], ◌∷◌, ◌++◌, append_assoc, Option, Some, None, Ok, Err, inl, inr}
 use Rattle.std.specs.Prelude.{Result}
-use Rattle.tool_files.proofs.OrderLemmas.{OnlyReads-one, OnlyReads-then}
+use Rattle.tool_files.proofs.OrderLemmas.{OnlyReads-none, OnlyReads-one, OnlyReads-then}
 use Rattle.tool_files.specs.CallOrder.{OnlyReads}
 use Rattle.tool_files.specs.Told.{Stored, Told, file_at}
 use Rattle.tool_files.specs.declared.files.Action.{Action}
@@ -14,7 +14,7 @@ use Rattle.tool_steps.specs.Origins.{AreUnequal, HasReadFiles, HasReadImages, Is
 use Rattle.tool_steps.specs.ReadingFiles.{IsTextFault}
 use Rattle.tool_steps.specs.declared.images.Images.{Images}
 use Rattle.tool_steps.specs.declared.read.StoredCopy.{StoredCopy}
-use Rattle.tool_words.specs.Asked.{OriginShown, configured, texts, whole}
+use Rattle.tool_words.specs.Asked.{OriginShown, configured, no_images, texts, whole}
 
 -- ---- each of them only reads
 
@@ -29,6 +29,7 @@ pub origin-reads : (origin : OriginShown) (old new : Told) (found : List Copy) �
 origin-reads (configured config) old new found h = found-reads config old new found h
 origin-reads (whole first second) old new found h = files-read first second old new found h
 origin-reads (texts path order) old new found h = OnlyReads-one path ReadAll old new refl h.calls h.stored
+origin-reads (no_images order) old new found h = subst (λ (t : Told). OnlyReads old t) (sym h.same) (OnlyReads-none old)
 
 -- ---- a single image
 

@@ -10,7 +10,7 @@ use Rattle.tool_files.specs.Told.{Told}
 use Rattle.tool_steps.specs.ChangingFiles.{IsPlaceOf, edited}
 use Rattle.tool_steps.specs.Images.{Copy}
 use Rattle.tool_steps.specs.OneCopy.{Finds, in_its_place}
-use Rattle.tool_words.specs.Asked.{OriginShown, configured, texts, whole}
+use Rattle.tool_words.specs.Asked.{OriginShown, configured, no_images, texts, whole}
 
 stands-in : (order : ByteOrder) (copy : Copy) (lost : PlaceShown) (edit : Edit) (which : Which) (bytes : List ℕ) (place : PlaceShown) → edited order (in_its_place copy lost) edit ≡ Ok (which, bytes)
     → IsPlaceOf which (in_its_place copy lost) place → place ≡ lost
@@ -24,6 +24,7 @@ over-lost one_copy origin None old new found order edit which bytes place h made
 over-lost false origin (Some lost) old new found order edit which bytes place h made there = absurd h
 over-lost true (whole first second) (Some lost) old new found order edit which bytes place h made there = absurd h
 over-lost true (texts path stored) (Some lost) old new found order edit which bytes place h made there = absurd h
+over-lost true (no_images stored) (Some lost) old new found order edit which bytes place h made there = absurd h
 over-lost true (configured config) (Some lost) old new found order edit which bytes place h made there =
     subst (λ (found : List Copy). edited order found edit ≡ Ok (which, bytes) → IsPlaceOf which found place → place ≡ lost) (sym h.loses.are)
     (stands-in order h.loses.copy lost edit which bytes place) made there

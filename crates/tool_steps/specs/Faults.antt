@@ -2,7 +2,7 @@
 use Rattle.std.specs.Prelude.{◌≡◌, ◌⊎◌, ℕ, Bool, true, false, Result, Err}
 use Rattle.output.specs.Sink.{counted}
 use Rattle.tool_images.specs.declared.fault.Fault.{Fault}
-use Rattle.tool_images.specs.declared.fault.Fault.TheVariants.{Config, CannotRead, CannotWrite, FileShort, FileTooLong, Memory, Text, TextTooLarge, UnequalSizes}
+use Rattle.tool_images.specs.declared.fault.Fault.TheVariants.{Config, CannotRead, CannotWrite, FileShort, FileTooLong, Memory, NoScript, Text, TextTooLarge, UnequalSizes}
 
 -- If "cannot read" or "cannot write" is answered, one more failure of the device is counted. No other answer changes
 -- the count.
@@ -27,6 +27,11 @@ IsReadFault (Text error) = Unit {0}
 IsReadFault TextTooLarge = Unit {0}
 IsReadFault Memory = Unit {0}
 IsReadFault _ = ⊥
+
+-- and that of a file without a script
+abbrev pub IsScriptReadFault : Fault → Type 0
+IsScriptReadFault (NoScript path why) = Unit {0}
+IsScriptReadFault fault = IsReadFault fault
 
 -- the faults of writing a copy
 abbrev pub IsWriteFault : Fault → Type 0

@@ -1,6 +1,7 @@
 pub mod Builds
 pub mod Faults
 pub mod Images
+pub mod NewImageFiles
 pub mod Notes
 pub mod OneCopy
 pub mod Origins
@@ -8,6 +9,7 @@ pub mod Overlap
 pub mod PrintingFiles
 pub mod ReadingFiles
 pub mod Running
+pub mod Scripts
 pub mod ChangingFiles
 pub mod Showing
 pub mod Sources

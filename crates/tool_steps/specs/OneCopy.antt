@@ -19,7 +19,7 @@ use Rattle.tool_steps.specs.declared.images.Images.{Images}
 use Rattle.tool_steps.specs.declared.one_copy.ImageSource.{ImageSource}
 use Rattle.tool_steps.specs.declared.read.SoughtCopy.{SoughtCopy}
 use Rattle.tool_steps.specs.declared.read.SoughtCopy.TheVariants.{Lost, Read}
-use Rattle.tool_words.specs.Asked.{OriginShown, configured, texts, whole}
+use Rattle.tool_words.specs.Asked.{OriginShown, configured, no_images, texts, whole}
 use Rattle.tool_words.specs.CommandAnswers.{origin_shown}
 
 -- ---- one copy
@@ -133,6 +133,7 @@ Finds one_copy origin None old new found = HasReadImages origin old new found
 Finds true (configured config) (Some lost) old new found = HasLost config lost old new found
 Finds true (whole first second) (Some lost) old new found = ⊥
 Finds true (texts path order) (Some lost) old new found = ⊥
+Finds true (no_images order) (Some lost) old new found = ⊥
 Finds false origin (Some lost) old new found = ⊥
 
 -- The images of a source were found. If one copy of a pair is lost, one line says so.
@@ -165,6 +166,7 @@ abbrev pub IsUnfound : (one_copy : Bool) → OriginShown → Told → Told → F
 IsUnfound true (configured config) old new fault = LacksImages config old new fault
 IsUnfound true (whole first second) old new fault = IsOriginFault (whole first second) old.stored fault
 IsUnfound true (texts path order) old new fault = IsOriginFault (texts path order) old.stored fault
+IsUnfound true (no_images order) old new fault = IsOriginFault (no_images order) old.stored fault
 IsUnfound false origin old new fault = IsOriginFault origin old.stored fault
 
 -- the images of a configuration were found, or refused, if one copy of a pair is enough

@@ -1,5 +1,5 @@
 -- The images of a call, read by what names them: a configuration; files of which each is one whole copy; or a text, of
--- which an image is made. All of it is ours.
+-- which an image is made; or nothing, and an image without variables is made. All of it is ours.
 use Rattle.std.specs.Prelude.{◌≡◌, ◌≢◌, ◌⊎◌, IsSomeAnd, ℕ, List, [], ◌∷◌, ◌++◌, length, Option, Some, None, Result, Ok, Err}
 use Rattle.envimage.specs.Config.{PlaceShown}
 use Rattle.envimage.specs.declared.image.ByteOrder.{ByteOrder}
@@ -7,13 +7,14 @@ use Rattle.tool_files.specs.CallOrder.{OnlyReads}
 use Rattle.tool_files.specs.Told.{Stored, Told, file_at}
 use Rattle.tool_files.specs.declared.files.Action.TheVariants.{ReadAll}
 use Rattle.tool_images.specs.declared.fault.Fault.{Fault}
-use Rattle.tool_images.specs.declared.fault.Fault.TheVariants.{Text, TextTooLarge, UnequalSizes}
+use Rattle.tool_images.specs.declared.fault.Fault.TheVariants.{Memory, Text, TextTooLarge, UnequalSizes}
+use Rattle.tool_images.specs.PrintingImages.{environment_in}
 use Rattle.tool_images.specs.TextImages.{IsTextsFault, StandsFor}
 use Rattle.tool_steps.specs.Images.{Copy, HasRead, IsImagesFault, copies, copy_of}
 use Rattle.tool_steps.specs.ReadingFiles.{IsTextFault, Reads}
 use Rattle.tool_steps.specs.declared.images.Images.{Images}
 use Rattle.tool_steps.specs.declared.read.StoredCopy.{StoredCopy}
-use Rattle.tool_words.specs.Asked.{OriginShown, configured, texts, whole}
+use Rattle.tool_words.specs.Asked.{OriginShown, configured, no_images, texts, whole}
 
 -- ---- one file
 
@@ -113,6 +114,21 @@ MakesImages order path text (Ok images) =
     (image : List ℕ) × (copies images ≡ whole_copy path image ∷ []) × StandsFor order text image
 MakesImages order path text (Err fault) = IsTextsFault text fault
 
+-- ---- nothing
+
+-- The image found has no variables, and no file was read. It is the copy of a file whose path is empty.
+pub record HasNoImages (order : ByteOrder) (old new : Told) (found : List Copy) : Type 0 where
+  pub image : List ℕ
+  pub are : found ≡ whole_copy [] image ∷ []
+  pub empty : environment_in order image None ≡ Ok []
+  pub same : new ≡ old
+
+-- an image without variables, as the one copy of a file whose path is empty, or why there is none: memory ran out
+abbrev pub MakesNone : ByteOrder → Result Images Fault → Type 0
+MakesNone order (Ok images) =
+    (image : List ℕ) × (copies images ≡ whole_copy [] image ∷ []) × (environment_in order image None ≡ Ok [])
+MakesNone order (Err fault) = fault ≡ Memory
+
 -- ---- what names the images
 
 -- the images that this names were read
@@ -120,12 +136,14 @@ abbrev pub HasReadImages : OriginShown → Told → Told → List Copy → Type 
 HasReadImages (configured config) old new found = HasRead config old new found
 HasReadImages (whole first second) old new found = HasReadFiles first second old new found
 HasReadImages (texts path order) old new found = HasReadTexts path order old new found
+HasReadImages (no_images order) old new found = HasNoImages order old new found
 
 -- why they may be refused
 abbrev pub IsOriginFault : OriginShown → Stored → Fault → Type 0
 IsOriginFault (configured config) stored fault = IsImagesFault config stored fault
 IsOriginFault (whole first second) stored fault = IsFilesFault first second stored fault
 IsOriginFault (texts path order) stored fault = IsTextsReadFault path stored fault
+IsOriginFault (no_images order) stored fault = fault ≡ Memory
 
 -- the images were read, or refused, and files were only read
 abbrev pub ReadsOrigin : OriginShown → Told → Told → Result Images Fault → Type 0

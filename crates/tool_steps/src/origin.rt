@@ -3,7 +3,7 @@ ghost use Rattle.std.specs.Prelude.{◌≡◌, IfErr, Some, option_map, string_b
 ghost use Rattle.tool_files.specs.Told.{IfTold};
 ghost use Rattle.tool_steps.specs.Faults.{CountsTold, IsReadFault};
 ghost use Rattle.tool_steps.specs.Images.{copy_of};
-ghost use Rattle.tool_steps.specs.Origins.{MakesImages, PairsUp, ReadsFile, ReadsFiles, ReadsOrigin, ReadsTexts, whole_copy};
+ghost use Rattle.tool_steps.specs.Origins.{MakesImages, MakesNone, PairsUp, ReadsFile, ReadsFiles, ReadsOrigin, ReadsTexts, whole_copy};
 ghost use Rattle.tool_words.specs.CommandAnswers.{origin_shown};
 
 use crate::images::{Images, read_images};
@@ -11,7 +11,7 @@ use crate::read::{StoredCopy, read_text};
 use envimage::{ByteOrder, Place};
 use std::alloc::Global;
 use tool_files::Files;
-use tool_images::{Fault, image_of_text};
+use tool_images::{Fault, empty_image, image_of_text};
 use tool_words::Origin;
 
 /// A file that is one whole copy.
@@ -126,8 +126,19 @@ fn read_texts<F: Files>(
     image_of(alloc, device, &text, order)
 }
 
+/// An image without variables, as the one copy of a file whose path is empty. Errors: `Memory`.
+fn no_images(alloc: Global, order: ByteOrder) -> Result<Images, Fault>
+    ensures { MakesNone order result }
+{
+    let bytes = empty_image(alloc, order)?;
+    Ok(Images {
+        first: whole(String::new(alloc), bytes),
+        second: None,
+    })
+}
+
 /// Reads the images that a configuration names, its text first, or those that are whole files; or reads a
-/// text, and makes an image of its environment. Of a pair the first copy is read before the second. Errors:
+/// text, and makes an image of its environment; or makes one without variables, if nothing is named. Of a pair the first copy is read before the second. Errors:
 /// those of the reads and of the configuration; `UnequalSizes`, if the two files of a pair are not of one
 /// size; `Text` and `TextTooLarge`, if no image can be made of a text.
 pub fn read_origin<F: Files>(alloc: Global, files: &mut F, origin: Origin) -> Result<Images, Fault>
@@ -141,5 +152,6 @@ pub fn read_origin<F: Files>(alloc: Global, files: &mut F, origin: Origin) -> Re
         Origin::Config(config) => read_images(alloc, files, config),
         Origin::Files { first, second } => read_files(alloc, files, first, second),
         Origin::Text { path, order } => read_texts(alloc, files, path, order),
+        Origin::Empty { order } => no_images(alloc, order),
     }
 }

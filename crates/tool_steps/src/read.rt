@@ -35,6 +35,20 @@ pub fn read_text<F: Files>(alloc: Global, files: &mut F, path: String) -> Result
     }
 }
 
+/// Reads the whole file at the path, or, if a folder is there, its files as one text.
+pub fn read_list<F: Files>(alloc: Global, files: &mut F, path: String) -> Result<Vec<u8>, Fault>
+    ensures count { CountsTold (F.faults files.old) (F.faults files.new) result }
+    ensures lock { F.locked files.new ≡ F.locked files.old }
+    ensures fault { IfErr result IsReadFault }
+    ensures told { IfTold (F.told files.old) (F.told files.new)
+        (λ old new. ReadsText (string_bytes path) old new result) }
+{
+    match files.read_list(alloc, &path) {
+        Ok(text) => Ok(text),
+        Err(fault) => Err(Fault::of_read(path, fault)),
+    }
+}
+
 /// The number of the line that ends without its newline, if there is one: the last line, counted
 /// from 1. An empty text has none.
 fn cut_off_line(text: &[u8]) -> Option<usize>

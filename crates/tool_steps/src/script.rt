@@ -1,0 +1,61 @@
+//! The script of a file.
+ghost use Rattle.std.specs.Prelude.{◌≡◌, IfErr, option_map, string_bytes};
+ghost use Rattle.tool_files.specs.Told.{IfTold};
+ghost use Rattle.tool_steps.specs.Faults.{CountsTold, IsScriptReadFault};
+ghost use Rattle.tool_steps.specs.Scripts.{MakesScript, ReadsNamed, ReadsScript};
+
+use crate::read::read_text;
+use script_file::script_in;
+use std::alloc::Global;
+use tool_files::Files;
+use tool_images::Fault;
+
+/// The script of the bytes of the file at the path. Errors: `NoScript`, `Memory`.
+fn script_of(alloc: Global, path: String, bytes: &[u8]) -> Result<Vec<u8>, Fault>
+    ensures { MakesScript (string_bytes path) bytes.now result }
+{
+    let script = match script_in(bytes) {
+        Ok(script) => script,
+        Err(fault) => return Err(Fault::of_script(path, fault)),
+    };
+    match Vec::from_slice(alloc, script) {
+        Ok(script) => Ok(script),
+        Err(_) => Err(Fault::Memory),
+    }
+}
+
+/// Reads the file at the path, and gives its script: the first text of an image for U-Boot's `source`, or the
+/// whole text of another file, up to the first NUL.
+///
+/// Errors: those of `read_text`; `NoScript` for an image that has none.
+pub fn read_script<F: Files>(alloc: Global, files: &mut F, path: String) -> Result<Vec<u8>, Fault>
+    ensures count { CountsTold (F.faults files.old) (F.faults files.new) result }
+    ensures lock { F.locked files.new ≡ F.locked files.old }
+    ensures fault { IfErr result IsScriptReadFault }
+    ensures told { IfTold (F.told files.old) (F.told files.new)
+        (λ old new. ReadsScript (string_bytes path) old new result) }
+{
+    let Ok(name) = path.clone() else {
+        return Err(Fault::Memory);
+    };
+    let bytes = read_text(alloc, files, path)?;
+    script_of(alloc, name, &bytes)
+}
+
+/// Reads the script of the file at the path, if there is one. Errors: those of `read_script`.
+pub fn read_named_script<F: Files>(
+    alloc: Global,
+    files: &mut F,
+    path: Option<String>,
+) -> Result<Option<Vec<u8>>, Fault>
+    ensures count { CountsTold (F.faults files.old) (F.faults files.new) result }
+    ensures lock { F.locked files.new ≡ F.locked files.old }
+    ensures fault { IfErr result IsScriptReadFault }
+    ensures told { IfTold (F.told files.old) (F.told files.new)
+        (λ old new. ReadsNamed (option_map string_bytes path) old new result) }
+{
+    match path {
+        Some(path) => Ok(Some(read_script(alloc, files, path)?)),
+        None => Ok(None),
+    }
+}
