@@ -11,12 +11,12 @@ use Rattle.rehearse_terms.specs.Bounds.{BoundsShown, bounds_of, in_shell}
 use Rattle.rehearse_terms.specs.declared.shell.Shell.{Shell}
 use Rattle.tool_words.specs.CommandAnswers.{Answers, asked, meaning_of}
 use Rattle.tool_words.specs.Called.{is_tool}
-use Rattle.tool_words.specs.Asked.{Asked, OriginShown, asked_of, bounds_asked, cause_bounds_asked, causes_asked, causes_with, causing, change_asked, ending, endings_asked, endings_with, has_no_folder, header_needs_one, images_asked, input_scripted, is_set, listing_asked, lock_needs_folder, number_within, of_images, one_copy, order_of, origin_asked, page_asked, print_asked, print_form, printing, printing_asked, rehearsal_of, rehearsal_with, rehearse_asked, rehearsing, run_bounds_asked, script_asked, scripted, set_asked, setting, shell_of, too_many_devices, usual_states, values_of, variable_of, wanted_by, word_alone, word_asked}
+use Rattle.tool_words.specs.Asked.{Asked, asked_of, bounds_asked, cause_bounds_asked, causes_asked, causes_with, causing, change_asked, ending, endings_asked, endings_with, fill_of, has_no_folder, header_needs_one, image_asked, image_with, images_asked, input_scripted, inputs_asked, inspect_asked, inspecting, is_set, listing_asked, lock_needs_folder, making_asked, number_within, of_named, one_copy, order_of, origin_asked, page_asked, print_asked, print_form, printing, printing_asked, rehearsal_of, rehearsal_with, rehearse_asked, rehearsing, run_bounds_asked, script_asked, scripted, set_asked, setting, shell_of, size_of, too_many_devices, usual_states, values_of, variable_of, wanted_by, word_alone, word_asked}
 use Rattle.tool_words.specs.CommandLine.{most_failures, most_states, ubtool}
 use Rattle.tool_words.specs.declared.ask.OriginError.{OriginError}
 use Rattle.tool_words.specs.declared.called.CalledAs.{CalledAs}
 use Rattle.tool_words.specs.declared.ask.Ask.{Ask}
-use Rattle.tool_words.specs.declared.ask.Ask.TheVariants.{Causes, Endings, Help, Print, Rehearse, Setenv, Version}
+use Rattle.tool_words.specs.declared.ask.Ask.TheVariants.{Causes, Endings, Help, Image, Inspect, Print, Rehearse, Setenv, Version}
 use Rattle.ubtool.specs.Performing.{IsComplete}
 
 -- a value without its name is asked for only with one name
@@ -36,9 +36,9 @@ found-fit : {X : Type 0} (found : Option X) (what : X → Option Asked) → ((x 
 found-fit None what fit = tt
 found-fit (Some x) what fit = fit x
 
--- of images that are named, or refused for their names
-named-fit : (named : Result OriginShown OriginError) (what : OriginShown → Asked) → ((origin : OriginShown) → IsFit (Some (what origin))) → IsFit (Some (of_images named what))
-named-fit (Ok origin) what fit = fit origin
+-- of what is named, or refused for the words that name it
+named-fit : {T : Type 0} (named : Result T OriginError) (what : T → Asked) → ((it : T) → IsFit (Some (what it))) → IsFit (Some (of_named named what))
+named-fit (Ok it) what fit = fit it
 named-fit (Err error) what fit = tt
 
 print-fit : (header one : Bool) (what : Asked) → (one ≡ true → IsFit (Some what)) → (header ≡ true → IsFit (Some what))
@@ -57,12 +57,12 @@ set-fit called None (Some name) rows =
 set-fit called None None rows = tt
 
 rehearsal-fit : (list : Text) (shell : Shell) (rows : List Row) (within : BoundsShown × Wanted) → IsFit (Some (rehearsal_of list shell rows (Ok within)))
-rehearsal-fit list shell rows within = named-fit (origin_asked rows) (λ origin. rehearsing origin list (record {
+rehearsal-fit list shell rows within = named-fit (inputs_asked list rows) (λ inputs. rehearsing inputs (record {
   variable = variable_of rows;
   bounds = in_shell shell within.0;
   wanted = within.1;
   names = values_of (codes "names") rows;
-}) (order_of rows)) (λ origin. tt)
+}) (order_of rows)) (λ inputs. tt)
 
 listing-fit : (list : Text) (shell : Shell) (rows : List Row) (after : Option Text) (page : Page) (narrow : Option BoundsShown)
     → IsFit (Some (rehearsal_of list shell rows (elim narrow [ Some within ↦ Ok (within, Listed after page) | None ↦ Err too_many_devices ])))
@@ -92,25 +92,36 @@ rehearse-fit (Some list) None failures shell rows = tt
 rehearse-fit (Some list) (Some page) None shell rows = tt
 
 endings-fit : (list : Option Text) (bounds : Option BoundsShown) (states : Option (Option ℕ)) (shell : Shell) (rows : List Row) → IsFit (endings_with list bounds states shell rows)
-endings-fit (Some list) (Some bounds) (Some states) shell rows = named-fit (origin_asked rows) (λ origin. ending origin list (record {
+endings-fit (Some list) (Some bounds) (Some states) shell rows = named-fit (inputs_asked list rows) (λ inputs. ending inputs (record {
   variable = variable_of rows;
   bounds = in_shell shell bounds;
   states = unwrap_or states usual_states;
   names = values_of (codes "names") rows;
   flow = is_set (codes "flow") rows;
-}) (order_of rows)) (λ origin. tt)
+}) (order_of rows)) (λ inputs. tt)
 endings-fit None bounds states shell rows = tt
 endings-fit (Some list) None states shell rows = tt
 endings-fit (Some list) (Some bounds) None shell rows = tt
 
 causes-fit : (list : Option Text) (bounds : Option BoundsShown) (shell : Shell) (rows : List Row) → IsFit (causes_with list bounds shell rows)
-causes-fit (Some list) (Some bounds) shell rows = named-fit (origin_asked rows) (λ origin. causing origin list (record {
+causes-fit (Some list) (Some bounds) shell rows = named-fit (inputs_asked list rows) (λ inputs. causing inputs (record {
   variable = variable_of rows;
   bounds = in_shell shell bounds;
   check = is_set (codes "check") rows;
-}) (order_of rows)) (λ origin. tt)
+}) (order_of rows)) (λ inputs. tt)
 causes-fit None bounds shell rows = tt
 causes-fit (Some list) None shell rows = tt
+
+making-fit : (text output : Text) (size fill : Option ℕ) (rows : List Row) → IsFit (Some (making_asked text output size fill rows))
+making-fit text output None fill rows = tt
+making-fit text output (Some size) None rows = tt
+making-fit text output (Some size) (Some fill) rows = tt
+
+image-fit : (text output : Option Text) (size : Option (Option ℕ)) (rows : List Row) → IsFit (image_with text output size rows)
+image-fit (Some text) (Some output) (Some size) rows = making-fit text output size (fill_of rows) rows
+image-fit None output size rows = tt
+image-fit (Some text) None size rows = tt
+image-fit (Some text) (Some output) None rows = tt
 
 asked-fit : (called : CalledAs) (words : List Text) → IsFit (asked called words)
 asked-fit called words = found-fit (subcommand_of ubtool words) (λ s. asked_of called s.0 s.1) (λ s. of s.0 s.1)
@@ -119,7 +130,7 @@ asked-fit called words = found-fit (subcommand_of ubtool words) (λ s. asked_of 
     of name rows =
         let names = values_of (codes "names") rows in
         let printed = either-asked (has_no_folder rows) lock_needs_folder (printing_asked rows) tt
-        (print-fit (not (is_set (codes "noheader") rows)) (length names == 1) (of_images (origin_asked rows) (λ origin. printing origin (print_form rows) names (order_of rows) (one_copy rows)))
+        (print-fit (not (is_set (codes "noheader") rows)) (length names == 1) (of_named (origin_asked rows) (λ origin. printing origin (print_form rows) names (order_of rows) (one_copy rows)))
         (λ e. named-fit (origin_asked rows) (λ origin. printing origin (print_form rows) names (order_of rows) (one_copy rows)) (λ origin h. eqb-true (length names) 1 e))
         (λ is. named-fit (origin_asked rows) (λ origin. printing origin (print_form rows) names (order_of rows) (one_copy rows)) (λ origin h. let none : ⊥ = cc in absurd none))) in
         let set = either-asked (has_no_folder rows) lock_needs_folder (change_asked called (first_of (codes "script") rows) (first_of (codes "name") rows) rows) tt
@@ -133,12 +144,18 @@ asked-fit called words = found-fit (subcommand_of ubtool words) (λ s. asked_of 
         (λ shell. endings-fit list (run_bounds_asked rows) states shell rows) in
         let caused = found-fit (shell_of rows) (λ shell. causes_with list (cause_bounds_asked rows) shell rows)
         (λ shell. causes-fit list (cause_bounds_asked rows) shell rows) in
-        let last : Option Asked = if bytes_eq name (codes "causes") then causes_asked rows else None in
-        let two : Option Asked = if bytes_eq name (codes "endings") then endings_asked rows else last in
+        let made = image-fit (first_of (codes "text") rows) (first_of (codes "output") rows) (size_of rows) rows in
+        let inspected = named-fit (images_asked rows) (λ origin. inspecting origin (order_of rows)) (λ origin. tt) in
+        let final : Option Asked = if bytes_eq name (codes "inspect") then Some (inspect_asked rows) else None in
+        let last : Option Asked = if bytes_eq name (codes "image") then image_asked rows else final in
+        let one : Option Asked = if bytes_eq name (codes "causes") then causes_asked rows else last in
+        let two : Option Asked = if bytes_eq name (codes "endings") then endings_asked rows else one in
         let three : Option Asked = if bytes_eq name (codes "rehearse") then rehearse_asked rows else two in
         let four : Option Asked = if bytes_eq name (codes "setenv") then Some (set_asked called rows) else three in
-        let last-fit = either (bytes_eq name (codes "causes")) (causes_asked rows) None caused tt in
-        let two-fit = either (bytes_eq name (codes "endings")) (endings_asked rows) last ended last-fit in
+        let final-fit = either (bytes_eq name (codes "inspect")) (Some (inspect_asked rows)) None inspected tt in
+        let last-fit = either (bytes_eq name (codes "image")) (image_asked rows) final made final-fit in
+        let one-fit = either (bytes_eq name (codes "causes")) (causes_asked rows) last caused last-fit in
+        let two-fit = either (bytes_eq name (codes "endings")) (endings_asked rows) one ended one-fit in
         let three-fit = either (bytes_eq name (codes "rehearse")) (rehearse_asked rows) two rehearsed two-fit in
         let four-fit = either (bytes_eq name (codes "setenv")) (Some (set_asked called rows)) three set three-fit in
         either (bytes_eq name (codes "printenv")) (Some (print_asked rows)) four printed four-fit
@@ -149,8 +166,10 @@ answer-complete called words (Print origin what order one_copy) h =
     let fit : IsFit (meaning_of (Print origin what order one_copy)) = subst IsFit (sym h.1) (asked-fit called words) in
     λ none. sym (length-map what.names.items string_bytes) ∙ fit none
 answer-complete called words (Setenv origin change order one_copy) h = tt
-answer-complete called words (Rehearse origin list what order) h = tt
-answer-complete called words (Endings origin list what order) h = tt
-answer-complete called words (Causes origin list what order) h = tt
+answer-complete called words (Rehearse inputs what order) h = tt
+answer-complete called words (Endings inputs what order) h = tt
+answer-complete called words (Causes inputs what order) h = tt
+answer-complete called words (Image text output what) h = tt
+answer-complete called words (Inspect origin order) h = tt
 answer-complete called words (Help text) h = tt
 answer-complete called words Version h = tt

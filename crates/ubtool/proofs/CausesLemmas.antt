@@ -1,12 +1,12 @@
 -- Reporting what has to fail for the endings of what was read.
-use Rattle.std.proofs.Common.{ℕ, Bool, refl, List, IfOk, IfErr, Ok, Err}
+use Rattle.std.proofs.Common.{Bool, refl, IfOk, IfErr, Ok, Err}
 use Rattle.std.specs.Prelude.{Result}
 use Rattle.output.specs.Sink.{Sink}
 use Rattle.envimage.specs.declared.image.ByteOrder.{ByteOrder}
-use Rattle.tool_words.specs.Asked.{OriginShown}
+use Rattle.tool_words.specs.Asked.{InputsShown}
 use Rattle.tool_words.specs.declared.ask.CausesAsk.{CausesAsk}
 use Rattle.ubtool.specs.CausesOfImages.{RefusesCauses, TellsCauses}
-use Rattle.ubtool.specs.Given.{FromFiles, Given, given_by}
+use Rattle.ubtool.specs.Given.{FromFiles, Given, given_by, script_of}
 use Rattle.ubtool.specs.declared.rehearsal_error.RehearsalError.{RehearsalError}
 use Rattle.rehearse_rules.specs.declared.rehearse_error.RehearseError.TheVariants as rehearsal
 use Rattle.ubtool.specs.declared.rehearsal_error.RehearsalError.TheVariants as refused
@@ -14,21 +14,25 @@ use Rattle.tool_files.specs.Told.{Told}
 use Rattle.tool_steps.proofs.SourceLemmas.{only-read, so-of-sources}
 use Rattle.ubtool.specs.CausesOfFiles.{TellsCausesFrom, TellsCausesOfCopies, causes_refusal, runs_asked}
 use Rattle.tool_steps.specs.Images.{copies}
-use Rattle.tool_steps.specs.Sources.{ReadsSources}
+use Rattle.tool_images.specs.declared.fault.Fault.{Fault}
+use Rattle.tool_images.specs.declared.fault.Fault.TheVariants as fault
+use Rattle.tool_steps.specs.Faults.{IsScriptReadFault}
+use Rattle.tool_steps.specs.Sources.{IsUnread, ReadsSources}
+use Rattle.ubtool.specs.declared.fault.ProgramFault.TheVariants.{Shared}
 use Rattle.tool_steps.specs.declared.sources.Sources.{Sources}
 
 -- ---- the causes of what was read
 
-module _ (order : ByteOrder) (origin : OriginShown) (list : List ℕ) (what : CausesAsk) (out out' : Sink) (sources : Sources) (x z : Told) (read : ReadsSources origin list x z (Ok sources)) where
-  from-files : (IsSo : Given → Type 0) → IsSo (given_by order (copies sources.images) sources.device_list.items (runs_asked what)) → FromFiles order origin list (runs_asked what) x z IsSo
-  from-files IsSo so = so-of-sources origin list sources x z (λ copies bytes. IsSo (given_by order copies bytes (runs_asked what))) read so
+module _ (order : ByteOrder) (inputs : InputsShown) (what : CausesAsk) (out out' : Sink) (sources : Sources) (x z : Told) (read : ReadsSources inputs x z (Ok sources)) where
+  from-files : (IsSo : Given → Type 0) → IsSo (given_by order (copies sources.images) sources.device_list.items (script_of sources) (runs_asked what)) → FromFiles order inputs (runs_asked what) x z IsSo
+  from-files IsSo so = so-of-sources inputs sources x z (λ copies bytes script. IsSo (given_by order copies bytes script (runs_asked what))) read so
 
-  pub causes-found : (fine : Bool) → TellsCausesOfCopies (given_by order (copies sources.images) sources.device_list.items (runs_asked what)) what.check out out' (Ok fine)
-      → TellsCausesFrom order origin list what out out' x z (Ok fine)
+  pub causes-found : (fine : Bool) → TellsCausesOfCopies (given_by order (copies sources.images) sources.device_list.items (script_of sources) (runs_asked what)) what.check out out' (Ok fine)
+      → TellsCausesFrom order inputs what out out' x z (Ok fine)
   causes-found fine h = from-files (λ g. TellsCauses g what.check out out' fine) h
 
-  pub causes-refused : (error : RehearsalError) → TellsCausesOfCopies (given_by order (copies sources.images) sources.device_list.items (runs_asked what)) what.check out out' (Err error)
-      → TellsCausesFrom order origin list what out out' x z (Err (causes_refusal what error))
+  pub causes-refused : (error : RehearsalError) → TellsCausesOfCopies (given_by order (copies sources.images) sources.device_list.items (script_of sources) (runs_asked what)) what.check out out' (Err error)
+      → TellsCausesFrom order inputs what out out' x z (Err (causes_refusal what error))
   causes-refused (refused.Image error) h = from-files (λ g. RefusesCauses g what.check out out' (refused.Image error)) h
   causes-refused (refused.Rehearsal (rehearsal.DeviceList error)) h = from-files (λ g. RefusesCauses g what.check out out' (refused.Rehearsal (rehearsal.DeviceList error))) h
   causes-refused (refused.Rehearsal rehearsal.NoSuchVariable) h = (refl, from-files (λ g. RefusesCauses g what.check out out' (refused.Rehearsal rehearsal.NoSuchVariable)) h)
@@ -38,7 +42,7 @@ module _ (order : ByteOrder) (origin : OriginShown) (list : List ℕ) (what : Ca
   causes-refused (refused.Rehearsal rehearsal.Failed) h = absurd h
   causes-refused (refused.Rehearsal rehearsal.States) h = absurd h
   causes-refused refused.Write h = from-files (λ g. RefusesCauses g what.check out out' refused.Write) h
-  causes-refused refused.Memory h = (only-read origin list sources x z read, h)
+  causes-refused refused.Memory h = (only-read inputs sources x z read, h)
 
 -- ---- an answer, by its clauses
 
@@ -48,3 +52,10 @@ causes-told g check out out' (Err (refused.Image error)) ok err = err
 causes-told g check out out' (Err (refused.Rehearsal error)) ok err = err
 causes-told g check out out' (Err refused.Write) ok err = err
 causes-told g check out out' (Err refused.Memory) ok err = err.1
+
+-- ---- a read is refused
+
+pub unread : (order : ByteOrder) (inputs : InputsShown) (what : CausesAsk) (out : Sink) (old new : Told) (f : Fault) → IsScriptReadFault f → IsUnread inputs old new f → TellsCausesFrom order inputs what out out old new (Err (Shared f))
+unread order inputs what out old new fault.Memory r h = (h.0, refl)
+unread order inputs what out old new (fault.Tool error) r h = absurd r
+unread order inputs what out old new f r h = h

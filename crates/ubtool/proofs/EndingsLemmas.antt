@@ -4,10 +4,10 @@ use Rattle.std.specs.Prelude.{Result}
 use Rattle.output.specs.Sink.{Sink}
 use Rattle.envimage.specs.declared.image.ByteOrder.{ByteOrder}
 use Rattle.rehearse_terms.specs.Bounds.{BoundsShown}
-use Rattle.tool_words.specs.Asked.{OriginShown}
+use Rattle.tool_words.specs.Asked.{InputsShown}
 use Rattle.tool_words.specs.declared.ask.EndingsAsk.{EndingsAsk}
 use Rattle.ubtool.specs.EndingsOfImages.{RefusesEndings, TellsEndings}
-use Rattle.ubtool.specs.Given.{FromFiles, Given, all_runs, given_by}
+use Rattle.ubtool.specs.Given.{FromFiles, Given, all_runs, given_by, script_of}
 use Rattle.ubtool.specs.declared.rehearsal_error.RehearsalError.{RehearsalError}
 use Rattle.rehearse_rules.specs.declared.rehearse_error.RehearseError.TheVariants as rehearsal
 use Rattle.ubtool.specs.declared.rehearsal_error.RehearsalError.TheVariants as refused
@@ -15,17 +15,21 @@ use Rattle.tool_files.specs.Told.{Told}
 use Rattle.tool_steps.proofs.SourceLemmas.{only-read, so-of-sources}
 use Rattle.ubtool.specs.EndingsOfFiles.{TellsCopies, TellsFrom, all_asked, endings_refusal}
 use Rattle.tool_steps.specs.Images.{copies}
-use Rattle.tool_steps.specs.Sources.{ReadsSources}
+use Rattle.tool_images.specs.declared.fault.Fault.{Fault}
+use Rattle.tool_images.specs.declared.fault.Fault.TheVariants as fault
+use Rattle.tool_steps.specs.Faults.{IsScriptReadFault}
+use Rattle.tool_steps.specs.Sources.{IsUnread, ReadsSources}
+use Rattle.ubtool.specs.declared.fault.ProgramFault.TheVariants.{Shared}
 use Rattle.tool_steps.specs.declared.sources.Sources.{Sources}
 
 -- ---- the endings of what was read
 
-module _ (order : ByteOrder) (origin : OriginShown) (list : List ℕ) (what : EndingsAsk) (out out' : Sink) (sources : Sources) (x z : Told) (read : ReadsSources origin list x z (Ok sources)) where
-  from-files : (IsSo : Given → Type 0) → IsSo (given_by order (copies sources.images) sources.device_list.items (all_asked what)) → FromFiles order origin list (all_asked what) x z IsSo
-  from-files IsSo so = so-of-sources origin list sources x z (λ copies bytes. IsSo (given_by order copies bytes (all_asked what))) read so
+module _ (order : ByteOrder) (inputs : InputsShown) (what : EndingsAsk) (out out' : Sink) (sources : Sources) (x z : Told) (read : ReadsSources inputs x z (Ok sources)) where
+  from-files : (IsSo : Given → Type 0) → IsSo (given_by order (copies sources.images) sources.device_list.items (script_of sources) (all_asked what)) → FromFiles order inputs (all_asked what) x z IsSo
+  from-files IsSo so = so-of-sources inputs sources x z (λ copies bytes script. IsSo (given_by order copies bytes script (all_asked what))) read so
 
-  pub tells-refused : (error : RehearsalError) → TellsCopies (given_by order (copies sources.images) sources.device_list.items (all_asked what)) what.flow what.states out out' (Err error)
-      → TellsFrom order origin list what out out' x z (Err (endings_refusal what error))
+  pub tells-refused : (error : RehearsalError) → TellsCopies (given_by order (copies sources.images) sources.device_list.items (script_of sources) (all_asked what)) what.flow what.states out out' (Err error)
+      → TellsFrom order inputs what out out' x z (Err (endings_refusal what error))
   tells-refused (refused.Image error) h = from-files (λ g. RefusesEndings g what.flow what.states out out' (refused.Image error)) h
   tells-refused (refused.Rehearsal (rehearsal.DeviceList error)) h = from-files (λ g. RefusesEndings g what.flow what.states out out' (refused.Rehearsal (rehearsal.DeviceList error))) h
   tells-refused (refused.Rehearsal rehearsal.NoSuchVariable) h = (refl, from-files (λ g. RefusesEndings g what.flow what.states out out' (refused.Rehearsal rehearsal.NoSuchVariable)) h)
@@ -35,7 +39,7 @@ module _ (order : ByteOrder) (origin : OriginShown) (list : List ℕ) (what : En
   tells-refused (refused.Rehearsal rehearsal.Failed) h = absurd h
   tells-refused (refused.Rehearsal rehearsal.States) h = from-files (λ g. RefusesEndings g what.flow what.states out out' (refused.Rehearsal rehearsal.States)) h
   tells-refused refused.Write h = from-files (λ g. RefusesEndings g what.flow what.states out out' refused.Write) h
-  tells-refused refused.Memory h = (only-read origin list sources x z read, h)
+  tells-refused refused.Memory h = (only-read inputs sources x z read, h)
 
 -- ---- an answer, by its clauses
 
@@ -49,3 +53,10 @@ copies-told g flow states out out' (Err refused.Memory) ok err = err.1
 -- what is asked, from its parts
 pub same-runs : (variable variable' : List ℕ) (bounds : BoundsShown) (names names' : List (List ℕ)) → variable ≡ variable' → names ≡ names' → all_runs variable bounds names ≡ all_runs variable' bounds names'
 same-runs variable variable' bounds names names' v n = rw (v, n) refl
+
+-- ---- a read is refused
+
+pub unread : (order : ByteOrder) (inputs : InputsShown) (what : EndingsAsk) (out : Sink) (old new : Told) (f : Fault) → IsScriptReadFault f → IsUnread inputs old new f → TellsFrom order inputs what out out old new (Err (Shared f))
+unread order inputs what out old new fault.Memory r h = (h.0, refl)
+unread order inputs what out old new (fault.Tool error) r h = absurd r
+unread order inputs what out old new f r h = h

@@ -15,6 +15,6 @@ first-bytes images = by images.first images.second
     by x None = refl
     by x (Some y) = refl
 
-pub given-same : (order : ByteOrder) (first first' : List ℕ) (second second' : Option (List ℕ)) (list list' : List ℕ) (asking asking' : Asking) → first ≡ first' → second ≡ second' → list ≡ list' → asking ≡ asking'
-    → given order first second list asking ≡ given order first' second' list' asking'
-given-same order first first' second second' list list' asking asking' f s l a = rw (f, s, l, a) refl
+pub given-same : (order : ByteOrder) (first first' : List ℕ) (second second' : Option (List ℕ)) (list list' : List ℕ) (text text' : Option (List ℕ)) (asking asking' : Asking) → first ≡ first' → second ≡ second' → list ≡ list' → text ≡ text' → asking ≡ asking'
+    → given order first second list text asking ≡ given order first' second' list' text' asking'
+given-same order first first' second second' list list' text text' asking asking' f s l t a = rw (f, s, l, t, a) refl

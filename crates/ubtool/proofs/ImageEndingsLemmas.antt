@@ -3,7 +3,7 @@ use Rattle.std.proofs.Common.{◌≡◌, ℕ, List, Option, Ok, subst}
 use Rattle.envimage.specs.Data.{Pair}
 use Rattle.output.specs.Sink.{Sink}
 use Rattle.envimage.specs.declared.image.ByteOrder.{ByteOrder}
-use Rattle.rehearse_machine.specs.Tasks.{task_set}
+use Rattle.rehearse_machine.specs.Tasks.{task_found}
 use Rattle.rehearse_rules.specs.Runs.{Task}
 use Rattle.rehearse_terms.specs.State.{Text}
 use Rattle.rehearse_endings.specs.TellingEndings as below
@@ -24,7 +24,7 @@ with_image order first second list ask board environment IsSo image is h = recor
   devices = h.devices;
   image = image;
   device_list = h.listed_as;
-  so = subst (λ (env : List Pair). IsSo (task_set env h.devices ask.name.now ask.bounds)) is h.so;
+  so = subst (λ (env : List Pair). IsSo (task_found env h.devices (below.source_of ask) ask.bounds)) is h.so;
 }
 
 pub tells-image : (order : ByteOrder) (first : List ℕ) (second : Option (List ℕ)) (list : Text) (ask : EndingsAsk) (board environment : List Pair) (old new : Sink) → environment_in order first second ≡ Ok environment → board ≡ on_board ask.bounds.shell environment

@@ -31,14 +31,14 @@ unfound answer IsSo told memory (faulty.Content fault) h = told (faulty.Content 
 unfound answer IsSo told memory faulty.TooLarge h = told faulty.TooLarge h
 unfound answer IsSo told memory faulty.Memory h = memory h.0 h.1
 
-module _ (order : ByteOrder) (first : List ℕ) (second : Option (List ℕ)) (list : Text) (asking : Asking) (board environment : List Pair) (old new : Sink) (image : environment_in order first second ≡ Ok environment) (is : board ≡ on_board asking.bounds.shell environment) where
-  on : (devices : Devices) (IsSo : Option Task → Type 0) → IsSo (below.task_asked board devices asking) → IsSo (below.task_asked (on_board asking.bounds.shell environment) devices asking)
-  on devices IsSo h = subst (λ (env : List Pair). IsSo (below.task_asked env devices asking)) is h
+module _ (order : ByteOrder) (first : List ℕ) (second : Option (List ℕ)) (list : Text) (text : Option Text) (asking : Asking) (board environment : List Pair) (old new : Sink) (image : environment_in order first second ≡ Ok environment) (is : board ≡ on_board asking.bounds.shell environment) where
+  on : (devices : Devices) (IsSo : Option Task → Type 0) → IsSo (below.task_asked board devices text asking) → IsSo (below.task_asked (on_board asking.bounds.shell environment) devices text asking)
+  on devices IsSo h = subst (λ (env : List Pair). IsSo (below.task_asked env devices text asking)) is h
 
-  pub rehearses-image : (finish : Finish) → below.WithDevices list (λ devices. below.Rehearses (below.task_asked board devices asking) asking old new finish) → Rehearses (given order first second list asking) old new finish
+  pub rehearses-image : (finish : Finish) → below.WithDevices list (λ devices. below.Rehearses (below.task_asked board devices text asking) asking old new finish) → Rehearses (given order first second list text asking) old new finish
   rehearses-image finish h = record { environment = environment; devices = h.devices; image = image; device_list = h.listed_as; so = on h.devices (λ found. below.Rehearses found asking old new finish) h.so }
 
-  pub refused-image : (error : RehearseError) → below.RefusesAsk board list asking old new error → Refuses (given order first second list asking) old new (rehearse_error error)
+  pub refused-image : (error : RehearseError) → below.RefusesAsk board list text asking old new error → Refuses (given order first second list text asking) old new (rehearse_error error)
   refused-image (rehearsal.DeviceList fault) h = (record { environment = environment; image = image }, h.0, h.1)
   refused-image rehearsal.NoSuchVariable h = (record { environment = environment; devices = h.devices; image = image; device_list = h.listed_as; so = on h.devices (λ found. found ≡ None) h.so.0 }, h.so.1)
   refused-image rehearsal.NotARun h = (record { environment = environment; devices = h.devices; image = image; device_list = h.listed_as; so = on h.devices (λ found. below.LacksRun found asking.wanted) h.so.0 }, h.so.1)

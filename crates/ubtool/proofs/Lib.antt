@@ -1,4 +1,5 @@
 pub mod ImageRehearsalLemmas
+pub mod InspectLemmas
 pub mod GivenLemmas
 pub mod ImageEndingsLemmas
 pub mod ImageCausesLemmas

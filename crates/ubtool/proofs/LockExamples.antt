@@ -1,9 +1,11 @@
 -- What takes the lock, in worked cases.
-use Rattle.std.proofs.Common.{◌≡◌, ap, arith, ℕ, Bool, true, false, refl, inl, inr, None, Ok, Err}
-use Rattle.std.specs.Prelude.{Result}
+use Rattle.std.proofs.Common.{ap, arith, ℕ, Bool, true, false, refl, inl, inr, None, Ok, Err}
+use Rattle.std.specs.Prelude.{String}
+use Rattle.std.specs.declared.alloc.Global.{Global}
 use Rattle.envimage.specs.declared.image.ByteOrder.{ByteOrder}
-use Rattle.tool_words.specs.declared.ask.Ask.TheVariants.{Print, Setenv, Version}
+use Rattle.tool_words.specs.declared.ask.Ask.TheVariants.{Image, Print, Setenv, Version}
 use Rattle.tool_words.specs.declared.ask.Change.{Change}
+use Rattle.tool_words.specs.declared.ask.ImageAsk.{ImageAsk}
 use Rattle.tool_words.specs.declared.ask.Origin.{Origin}
 use Rattle.tool_words.specs.declared.ask.PrintAsk.{PrintAsk}
 use Rattle.tool_files.specs.declared.files.LockFault.TheVariants.{NoFile}
@@ -44,6 +46,11 @@ module _ (origin : Origin) (change : Change) (what : PrintAsk) (order : ByteOrde
 
   printing_keeps_it : LocksFor (Print origin what order one_copy) (Ok true) (files 0 true) (files 0 true)
   printing_keeps_it = refl
+
+-- nor does a new image
+module _ (text output : String Global) (what : ImageAsk) where
+  making_takes_none : LocksFor (Image text output what) (Ok true) (files 0 false) (files 0 true) → ⊥
+  making_takes_none h = cc
 
 version_takes_none : LocksFor Version (Ok true) (files 0 false) (files 0 true) → ⊥
 version_takes_none h = cc

@@ -8,10 +8,10 @@ use Rattle.rehearse_terms.specs.Asking.{Asking, Wanted}
 use Rattle.rehearse_terms.specs.Bounds.{BoundsShown}
 use Rattle.tool_words.specs.CommandAnswers.{asking_of}
 use Rattle.rehearse_runs.specs.declared.listing.Finish.{Finish}
-use Rattle.tool_words.specs.Asked.{OriginShown}
+use Rattle.tool_words.specs.Asked.{InputsShown}
 use Rattle.tool_words.specs.declared.ask.RehearseAsk.{RehearseAsk}
 use Rattle.tool_images.specs.FileFaults.{path_form}
-use Rattle.ubtool.specs.Given.{FromFiles, Given, given_by}
+use Rattle.ubtool.specs.Given.{FromFiles, Given, given_by, script_of}
 use Rattle.ubtool.specs.Headline.{Rehearses}
 use Rattle.ubtool.specs.Refusing.{Refuses}
 use Rattle.tool_files.specs.Told.{Told}
@@ -22,7 +22,11 @@ use Rattle.tool_steps.proofs.SourceLemmas.{so-of-sources}
 use Rattle.tool_steps.specs.Images.{copies}
 use Rattle.tool_steps.specs.declared.sources.Sources.{Sources}
 use Rattle.ubtool.specs.RehearsingFiles.{RehearsesCopies, RehearsesFrom, RunsOut, no_run_of, refusal_of}
-use Rattle.tool_steps.specs.Sources.{ReadsSources}
+use Rattle.tool_images.specs.declared.fault.Fault.{Fault}
+use Rattle.tool_images.specs.declared.fault.Fault.TheVariants as fault
+use Rattle.tool_steps.specs.Faults.{IsScriptReadFault}
+use Rattle.tool_steps.specs.Sources.{IsUnread, ReadsSources}
+use Rattle.ubtool.specs.declared.fault.ProgramFault.TheVariants.{Shared}
 use Rattle.rehearse_terms.specs.WantedShown.{wanted_word}
 
 abbrev pub asking_made : (variable : List ℕ) → BoundsShown → Wanted → (names : List (List ℕ)) → Asking
@@ -30,20 +34,20 @@ asking_made variable bounds wanted names = record { variable = variable; bounds 
 
 -- ---- the rehearsal of what was read
 
-module _ (order : ByteOrder) (origin : OriginShown) (list : List ℕ) (what : RehearseAsk) (out out' : Sink) (sources : Sources) (x z : Told) (read : ReadsSources origin list x z (Ok sources)) where
-  from-files : (IsSo : Given → Type 0) → IsSo (given_by order (copies sources.images) sources.device_list.items (asking_of what)) → FromFiles order origin list (asking_of what) x z IsSo
-  from-files IsSo so = so-of-sources origin list sources x z (λ copies bytes. IsSo (given_by order copies bytes (asking_of what))) read so
+module _ (order : ByteOrder) (inputs : InputsShown) (what : RehearseAsk) (out out' : Sink) (sources : Sources) (x z : Told) (read : ReadsSources inputs x z (Ok sources)) where
+  from-files : (IsSo : Given → Type 0) → IsSo (given_by order (copies sources.images) sources.device_list.items (script_of sources) (asking_of what)) → FromFiles order inputs (asking_of what) x z IsSo
+  from-files IsSo so = so-of-sources inputs sources x z (λ copies bytes script. IsSo (given_by order copies bytes script (asking_of what))) read so
 
-  pub rehearses-found : (finish : Finish) → RehearsesCopies (given_by order (copies sources.images) sources.device_list.items (asking_of what)) out out' (Ok finish) → RehearsesFrom order origin list what out out' x z (Ok true)
+  pub rehearses-found : (finish : Finish) → RehearsesCopies (given_by order (copies sources.images) sources.device_list.items (script_of sources) (asking_of what)) out out' (Ok finish) → RehearsesFrom order inputs what out out' x z (Ok true)
   rehearses-found finish h = (refl, from-files (λ g. (f : Finish) × Rehearses g out out' f) (finish, h))
 
   no-run : (given : Option (String Global)) → wanted_word what.wanted ≡ given
-      → FromFiles order origin list (asking_of what) x z (λ g. Refuses g out out' (refused.Rehearsal rehearsal.NotARun)) → RehearsesFrom order origin list what out out' x z (Err (no_run_of given))
+      → FromFiles order inputs (asking_of what) x z (λ g. Refuses g out out' (refused.Rehearsal rehearsal.NotARun)) → RehearsesFrom order inputs what out out' x z (Err (no_run_of given))
   no-run None is h = h
   no-run (Some word) is h = (ap (option_map path_form) (sym is), h)
 
-  pub rehearses-refused : (error : RehearsalError) → RehearsesCopies (given_by order (copies sources.images) sources.device_list.items (asking_of what)) out out' (Err error)
-      → RehearsesFrom order origin list what out out' x z (Err (refusal_of what error))
+  pub rehearses-refused : (error : RehearsalError) → RehearsesCopies (given_by order (copies sources.images) sources.device_list.items (script_of sources) (asking_of what)) out out' (Err error)
+      → RehearsesFrom order inputs what out out' x z (Err (refusal_of what error))
   rehearses-refused (refused.Image error) h = from-files (λ g. Refuses g out out' (refused.Image error)) h
   rehearses-refused (refused.Rehearsal (rehearsal.DeviceList error)) h = from-files (λ g. Refuses g out out' (refused.Rehearsal (rehearsal.DeviceList error))) h
   rehearses-refused (refused.Rehearsal rehearsal.NoSuchVariable) h = (refl, from-files (λ g. Refuses g out out' (refused.Rehearsal rehearsal.NoSuchVariable)) h)
@@ -69,3 +73,10 @@ copies-rehearsed g out out' (Err (refused.Rehearsal error)) ok err = err
 copies-rehearsed g out out' (Err refused.Write) ok err = err
 copies-rehearsed g out out' (Err refused.Memory) ok (inl same) = inl same.1
 copies-rehearsed g out out' (Err refused.Memory) ok (inr h) = inr h
+
+-- ---- a read is refused
+
+pub unread : (order : ByteOrder) (inputs : InputsShown) (what : RehearseAsk) (out : Sink) (old new : Told) (f : Fault) → IsScriptReadFault f → IsUnread inputs old new f → RehearsesFrom order inputs what out out old new (Err (Shared f))
+unread order inputs what out old new fault.Memory r h = inl (h.0, refl)
+unread order inputs what out old new (fault.Tool error) r h = absurd r
+unread order inputs what out old new f r h = h

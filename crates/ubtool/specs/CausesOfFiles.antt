@@ -1,10 +1,10 @@
 -- What has to fail for each ending of images, from files whose contents are known. The order of work is that of
 -- a rehearsal. Ours.
-use Rattle.std.specs.Prelude.{◌≡◌, ℕ, Bool, List, [], Result, Ok, Err, string_bytes}
+use Rattle.std.specs.Prelude.{◌≡◌, Bool, [], Result, Ok, Err, string_bytes}
 use Rattle.output.specs.Sink.{Sink}
 use Rattle.envimage.specs.declared.image.ByteOrder.{ByteOrder}
 use Rattle.rehearse_terms.specs.Asking.{Asking}
-use Rattle.tool_words.specs.Asked.{OriginShown}
+use Rattle.tool_words.specs.Asked.{InputsShown}
 use Rattle.tool_words.specs.declared.ask.CausesAsk.{CausesAsk}
 use Rattle.ubtool.specs.CausesOfImages.{RefusesCauses, TellsCauses}
 use Rattle.tool_images.specs.FileFaults.{path_form}
@@ -37,27 +37,27 @@ TellsCausesOfCopies g check old new (Ok fine) = TellsCauses g check old new fine
 TellsCausesOfCopies g check old new (Err refused.Memory) = new ≡ old
 TellsCausesOfCopies g check old new (Err error) = RefusesCauses g check old new error
 
--- The images and the device list were read, the lines were written, and the answer is theirs; or the causes are
+-- What is asked for was read, the lines were written, and the answer is theirs; or the causes are
 -- refused; or a read is refused, and files were only read. If memory runs out, nothing is written.
-abbrev pub TellsCausesFrom : ByteOrder → OriginShown → (device_list : List ℕ) → CausesAsk → (out out' : Sink) →
+abbrev pub TellsCausesFrom : ByteOrder → InputsShown → CausesAsk → (out out' : Sink) →
     (old new : Told) → Result Bool ProgramFault → Type 0
-TellsCausesFrom order origin device_list what out out' old new (Ok fine) =
-    FromFiles order origin device_list (runs_asked what) old new (λ g. TellsCauses g what.check out out' fine)
-TellsCausesFrom order origin device_list what out out' old new (Err (Shared Memory)) =
+TellsCausesFrom order inputs what out out' old new (Ok fine) =
+    FromFiles order inputs (runs_asked what) old new (λ g. TellsCauses g what.check out out' fine)
+TellsCausesFrom order inputs what out out' old new (Err (Shared Memory)) =
     OnlyReads old new × (out' ≡ out)
-TellsCausesFrom order origin device_list what out out' old new (Err (Shared (Tool (tool.Image error)))) =
-    FromFiles order origin device_list (runs_asked what) old new (λ g.
+TellsCausesFrom order inputs what out out' old new (Err (Shared (Tool (tool.Image error)))) =
+    FromFiles order inputs (runs_asked what) old new (λ g.
     RefusesCauses g what.check out out' (refused.Image error))
-TellsCausesFrom order origin device_list what out out' old new (Err (Shared (Tool tool.Write))) =
-    FromFiles order origin device_list (runs_asked what) old new (λ g.
+TellsCausesFrom order inputs what out out' old new (Err (Shared (Tool tool.Write))) =
+    FromFiles order inputs (runs_asked what) old new (λ g.
     RefusesCauses g what.check out out' refused.Write)
-TellsCausesFrom order origin device_list what out out' old new (Err (Shared (Tool error))) = ⊥
-TellsCausesFrom order origin device_list what out out' old new (Err (Shared fault)) =
-    IsUnread origin device_list old new fault
-TellsCausesFrom order origin device_list what out out' old new (Err (NoSuchVariable name)) =
-    (name ≡ path_form what.name) × FromFiles order origin device_list (runs_asked what) old new (λ g.
+TellsCausesFrom order inputs what out out' old new (Err (Shared (Tool error))) = ⊥
+TellsCausesFrom order inputs what out out' old new (Err (Shared fault)) =
+    IsUnread inputs old new fault
+TellsCausesFrom order inputs what out out' old new (Err (NoSuchVariable name)) =
+    (name ≡ path_form what.name) × FromFiles order inputs (runs_asked what) old new (λ g.
     RefusesCauses g what.check out out' (refused.Rehearsal rehearsal.NoSuchVariable))
-TellsCausesFrom order origin device_list what out out' old new (Err (program.NotARun word)) = ⊥
-TellsCausesFrom order origin device_list what out out' old new (Err (program.Rehearsal error)) =
-    FromFiles order origin device_list (runs_asked what) old new (λ g.
+TellsCausesFrom order inputs what out out' old new (Err (program.NotARun word)) = ⊥
+TellsCausesFrom order inputs what out out' old new (Err (program.Rehearsal error)) =
+    FromFiles order inputs (runs_asked what) old new (λ g.
     RefusesCauses g what.check out out' (refused.Rehearsal error))

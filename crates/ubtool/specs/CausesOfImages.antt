@@ -1,4 +1,4 @@
--- What has to fail for each ending of an image's variable, from the bytes of an image to the lines, and why this is
+-- What has to fail for each ending of an image's variable or of a given text, from the bytes of an image to the lines, and why this is
 -- refused. The refusals come in the order of a rehearsal, and nothing is written before the lines. Ours.
 use Rattle.std.specs.Prelude.{◌≡◌, ℕ, Bool, List, [], Option, None, Err}
 use Rattle.output.specs.Sink.{Sink, Wrote, BrokeOff}
@@ -7,7 +7,7 @@ use Rattle.device_list.specs.DeviceList.{listed}
 use Rattle.rehearse_terms.specs.State.{Text}
 use Rattle.rehearse_causes.specs.Causes.{Cause}
 use Rattle.rehearse_causes.specs.CauseLines.{causes_text, is_fine}
-use Rattle.rehearse_causes.specs.TellingCauses.{WithCauses}
+use Rattle.rehearse_causes.specs.TellingCauses.{WithCauses, source_of}
 use Rattle.rehearse_causes.specs.declared.telling.CausesAsk.{CausesAsk}
 use Rattle.rehearse_rules.specs.declared.rehearse_error.RehearseError.TheVariants.{DeviceList, NoSuchVariable}
 use Rattle.ubtool.specs.Given.{Given, all_runs, given}
@@ -17,12 +17,12 @@ use Rattle.ubtool.specs.Refusing.{HasImage}
 use Rattle.ubtool.specs.declared.rehearsal_error.RehearsalError.{RehearsalError}
 use Rattle.ubtool.specs.declared.rehearsal_error.RehearsalError.TheVariants.{Image, Rehearsal, Write, Memory}
 
--- what is given: the runs of the variable that is asked for, within its bounds
+-- what is given: the text, if there is one, and the runs of it or of the variable that is asked for, within the bounds
 abbrev pub causes_given : ByteOrder → List ℕ → Option (List ℕ) → Text → CausesAsk → Given
 causes_given order first second device_list ask =
-    given order first second device_list (all_runs ask.name.now ask.bounds [])
+    given order first second device_list (source_of ask).given (all_runs ask.name.now ask.bounds [])
 
--- the image and the device list are right, the variable is set, and this holds of its causes, or of those that do not
+-- the image and the device list are right, there is a text, and this holds of its causes, or of those that do not
 -- boot
 abbrev pub HasCauses : Given → (check : Bool) → (IsSo : List Cause → Type 0) → Type 0
 HasCauses g check IsSo = HasDevices g (λ found. WithCauses found check IsSo)

@@ -1,10 +1,10 @@
 -- How all runs of images end, from files whose contents are known. The order of work is that of
 -- a rehearsal. Ours.
-use Rattle.std.specs.Prelude.{◌≡◌, ℕ, Bool, true, List, map, Result, Ok, Err, string_bytes}
+use Rattle.std.specs.Prelude.{◌≡◌, ℕ, Bool, true, map, Result, Ok, Err, string_bytes}
 use Rattle.output.specs.Sink.{Sink}
 use Rattle.envimage.specs.declared.image.ByteOrder.{ByteOrder}
 use Rattle.rehearse_terms.specs.Asking.{Asking}
-use Rattle.tool_words.specs.Asked.{OriginShown}
+use Rattle.tool_words.specs.Asked.{InputsShown}
 use Rattle.tool_words.specs.declared.ask.EndingsAsk.{EndingsAsk}
 use Rattle.ubtool.specs.EndingsOfImages.{RefusesEndings, TellsEndings}
 use Rattle.tool_images.specs.FileFaults.{path_form}
@@ -37,26 +37,26 @@ TellsCopies g flow states old new (Ok done) = TellsEndings g flow states old new
 TellsCopies g flow states old new (Err refused.Memory) = new ≡ old
 TellsCopies g flow states old new (Err error) = RefusesEndings g flow states old new error
 
--- The images and the device list were read, and the lines were written; or the endings are refused; or a read is
+-- What is asked for was read, and the lines were written; or the endings are refused; or a read is
 -- refused, and files were only read. If memory runs out, nothing is written.
-abbrev pub TellsFrom : ByteOrder → OriginShown → (device_list : List ℕ) → EndingsAsk → (out out' : Sink) → (old new : Told) →
+abbrev pub TellsFrom : ByteOrder → InputsShown → EndingsAsk → (out out' : Sink) → (old new : Told) →
     Result Bool ProgramFault → Type 0
-TellsFrom order origin device_list what out out' old new (Ok all) =
-    (all ≡ true) × FromFiles order origin device_list (all_asked what) old new (λ g.
+TellsFrom order inputs what out out' old new (Ok all) =
+    (all ≡ true) × FromFiles order inputs (all_asked what) old new (λ g.
     TellsEndings g what.flow what.states out out')
-TellsFrom order origin device_list what out out' old new (Err (Shared Memory)) = OnlyReads old new × (out' ≡ out)
-TellsFrom order origin device_list what out out' old new (Err (Shared (Tool (tool.Image error)))) =
-    FromFiles order origin device_list (all_asked what) old new (λ g.
+TellsFrom order inputs what out out' old new (Err (Shared Memory)) = OnlyReads old new × (out' ≡ out)
+TellsFrom order inputs what out out' old new (Err (Shared (Tool (tool.Image error)))) =
+    FromFiles order inputs (all_asked what) old new (λ g.
     RefusesEndings g what.flow what.states out out' (refused.Image error))
-TellsFrom order origin device_list what out out' old new (Err (Shared (Tool tool.Write))) =
-    FromFiles order origin device_list (all_asked what) old new (λ g.
+TellsFrom order inputs what out out' old new (Err (Shared (Tool tool.Write))) =
+    FromFiles order inputs (all_asked what) old new (λ g.
     RefusesEndings g what.flow what.states out out' refused.Write)
-TellsFrom order origin device_list what out out' old new (Err (Shared (Tool error))) = ⊥
-TellsFrom order origin device_list what out out' old new (Err (Shared fault)) = IsUnread origin device_list old new fault
-TellsFrom order origin device_list what out out' old new (Err (NoSuchVariable name)) =
-    (name ≡ path_form what.name) × FromFiles order origin device_list (all_asked what) old new (λ g.
+TellsFrom order inputs what out out' old new (Err (Shared (Tool error))) = ⊥
+TellsFrom order inputs what out out' old new (Err (Shared fault)) = IsUnread inputs old new fault
+TellsFrom order inputs what out out' old new (Err (NoSuchVariable name)) =
+    (name ≡ path_form what.name) × FromFiles order inputs (all_asked what) old new (λ g.
     RefusesEndings g what.flow what.states out out' (refused.Rehearsal rehearsal.NoSuchVariable))
-TellsFrom order origin device_list what out out' old new (Err (program.NotARun word)) = ⊥
-TellsFrom order origin device_list what out out' old new (Err (program.Rehearsal error)) =
-    FromFiles order origin device_list (all_asked what) old new (λ g.
+TellsFrom order inputs what out out' old new (Err (program.NotARun word)) = ⊥
+TellsFrom order inputs what out out' old new (Err (program.Rehearsal error)) =
+    FromFiles order inputs (all_asked what) old new (λ g.
     RefusesEndings g what.flow what.states out out' (refused.Rehearsal error))

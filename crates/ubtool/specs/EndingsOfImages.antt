@@ -1,11 +1,11 @@
--- How all runs of an image's variable end, from the bytes of an image to the lines, and why this is refused. The
+-- How all runs of an image's variable or of a given text end, from the bytes of an image to the lines, and why this is refused. The
 -- refusals come in the order of a rehearsal, and nothing is written before the lines. Ours.
 use Rattle.std.specs.Prelude.{◌≡◌, ℕ, Bool, List, Option, None, Err}
 use Rattle.output.specs.Sink.{Sink, Wrote, BrokeOff}
 use Rattle.envimage.specs.declared.image.ByteOrder.{ByteOrder}
 use Rattle.device_list.specs.DeviceList.{listed}
 use Rattle.rehearse_terms.specs.State.{Text}
-use Rattle.rehearse_endings.specs.TellingEndings.{AreLines, HasMoreStates, names_of}
+use Rattle.rehearse_endings.specs.TellingEndings.{AreLines, HasMoreStates, names_of, source_of}
 use Rattle.rehearse_endings.specs.declared.telling.EndingsAsk.{EndingsAsk}
 use Rattle.rehearse_rules.specs.declared.rehearse_error.RehearseError.TheVariants.{DeviceList, NoSuchVariable, States}
 use Rattle.ubtool.specs.Given.{Given, all_runs, given}
@@ -15,11 +15,11 @@ use Rattle.ubtool.specs.Refusing.{HasImage}
 use Rattle.ubtool.specs.declared.rehearsal_error.RehearsalError.{RehearsalError}
 use Rattle.ubtool.specs.declared.rehearsal_error.RehearsalError.TheVariants.{Image, Rehearsal, Write, Memory}
 
--- what is given: all runs of the variable that is asked for, within its bounds, and the variables whose values
--- are told apart
+-- what is given: the text, if there is one, all runs of it or of the variable that is asked for, within the bounds, and
+-- the variables whose values are told apart
 abbrev pub endings_given : ByteOrder → List ℕ → Option (List ℕ) → Text → EndingsAsk → Given
 endings_given order first second device_list ask =
-    given order first second device_list (all_runs ask.name.now ask.bounds (names_of ask))
+    given order first second device_list (source_of ask).given (all_runs ask.name.now ask.bounds (names_of ask))
 
 -- the lines, or the lines of the flow, are written, with at most this many states
 abbrev pub TellsEndings : Given → (flow : Bool) → (states : ℕ) → (old new : Sink) → Type 0

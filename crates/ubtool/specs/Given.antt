@@ -1,5 +1,5 @@
 -- What a rehearsal is given. Ours.
-use Rattle.std.specs.Prelude.{ℕ, List, Option, None}
+use Rattle.std.specs.Prelude.{ℕ, List, Option, None, option_map}
 use Rattle.envimage.specs.declared.image.ByteOrder.{ByteOrder}
 use Rattle.rehearse_terms.specs.Asking.{Asking, Listed, whole_page}
 use Rattle.rehearse_terms.specs.Bounds.{BoundsShown}
@@ -8,7 +8,8 @@ use Rattle.tool_files.specs.Told.{Told}
 use Rattle.tool_steps.specs.Images.{Copy}
 use Rattle.tool_steps.specs.PrintingFiles.{first_bytes, second_bytes}
 use Rattle.tool_steps.specs.Sources.{AreRead}
-use Rattle.tool_words.specs.Asked.{OriginShown}
+use Rattle.tool_steps.specs.declared.sources.Sources.{Sources}
+use Rattle.tool_words.specs.Asked.{InputsShown}
 
 pub record Given : Type 0 where
   -- the bytes of a single image, or of the copies of a pair, and how their checksum is stored
@@ -17,12 +18,14 @@ pub record Given : Type 0 where
   pub second : Option (List ℕ)
   -- the text of the device list
   pub device_list : Text
-  -- the variable, the bounds, and the runs that are wanted
+  -- a text that is rehearsed in place of a variable's
+  pub text : Option Text
+  -- the variable, or what the text is called, the bounds, and the runs that are wanted
   pub asking : Asking
 
-abbrev pub given : ByteOrder → List ℕ → Option (List ℕ) → Text → Asking → Given
-given order first second device_list asking =
-    record { order = order; first = first; second = second; device_list = device_list; asking = asking }
+abbrev pub given : ByteOrder → List ℕ → Option (List ℕ) → (device_list : Text) → (text : Option Text) → Asking → Given
+given order first second device_list text asking =
+    record { order = order; first = first; second = second; device_list = device_list; text = text; asking = asking }
 
 -- all runs of a variable: no start word, and the whole page
 abbrev pub all_runs : (variable : Text) → BoundsShown → (names : List Text) → Asking
@@ -31,11 +34,16 @@ all_runs variable bounds names =
 
 -- ---- what files that were read give
 
--- the bytes of these copies, the text of the device list, and what the words ask for
-abbrev pub given_by : ByteOrder → List Copy → (device_list : Text) → Asking → Given
-given_by order found device_list asking = given order (first_bytes found) (second_bytes found) device_list asking
+-- the bytes of these copies, the text of the device list, the text that is rehearsed, and what the words ask for
+abbrev pub given_by : ByteOrder → List Copy → (device_list : Text) → (text : Option Text) → Asking → Given
+given_by order found device_list text asking =
+    given order (first_bytes found) (second_bytes found) device_list text asking
 
--- the images and the device list were read, and this holds of what they give
-abbrev pub FromFiles : ByteOrder → OriginShown → (device_list : List ℕ) → Asking → (old new : Told) → (Given → Type 0) → Type 0
-FromFiles order origin device_list asking old new IsSo =
-    AreRead origin device_list old new (λ found text. IsSo (given_by order found text asking))
+-- the script that was read, if one was
+abbrev pub script_of : Sources → Option Text
+script_of sources = option_map (λ v. v.items) sources.script
+
+-- the images, the device list, and the script that may be named were read, and this holds of what they give
+abbrev pub FromFiles : ByteOrder → InputsShown → Asking → (old new : Told) → (Given → Type 0) → Type 0
+FromFiles order inputs asking old new IsSo =
+    AreRead inputs old new (λ found listed script. IsSo (given_by order found listed script asking))

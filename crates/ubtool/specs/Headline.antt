@@ -11,14 +11,14 @@ use Rattle.envimage.specs.Data.{Pair}
 use Rattle.output.specs.Sink.{Sink}
 use Rattle.device_list.specs.DeviceList.{Devices, listed}
 use Rattle.rehearse_rules.specs.Runs.{Task}
-use Rattle.rehearse_machine.specs.Tasks.{task_set}
 use Rattle.rehearse_runs.specs.RehearsedEnvironment as below
 use Rattle.rehearse_runs.specs.declared.listing.Finish.{Finish}
 use Rattle.ubtool.specs.BoardEnvironment.{on_board}
 use Rattle.ubtool.specs.Given.{Given}
 use Rattle.tool_images.specs.PrintingImages.{environment_in}
 
--- the image and the device list are right, and this holds of the rehearsal that they give, if the variable is set
+-- the image and the device list are right, and this holds of the rehearsal that they give, if a text is given or the
+-- variable is set
 pub record HasDevices (g : Given) (IsSo : Option Task → Type 0) : Type 0 where
   pub environment : List Pair
   pub devices : Devices
@@ -27,8 +27,8 @@ pub record HasDevices (g : Given) (IsSo : Option Task → Type 0) : Type 0 where
   pub image : environment_in g.order g.first g.second ≡ Ok environment
   -- "device list"
   pub device_list : listed g.device_list ≡ Ok devices
-  -- "and bounds"; "bootcmd": the variable that is named
-  pub so : IsSo (task_set (on_board g.asking.bounds.shell environment) devices g.asking.variable g.asking.bounds)
+  -- "and bounds"; "bootcmd": the text that is given, or else that of the variable that is named
+  pub so : IsSo (below.task_asked (on_board g.asking.bounds.shell environment) devices g.text g.asking)
 
 -- "the rehearsal writes the records"
 abbrev pub Rehearses : Given → (old new : Sink) → Finish → Type 0

@@ -11,6 +11,7 @@ pub mod WholeProgram
 pub mod RehearsingFiles
 pub mod EndingsOfFiles
 pub mod CausesOfFiles
+pub mod InspectingFiles
 pub use Rattle.tool_images.specs.ChangingImages
 pub use Rattle.tool_images.specs.PrintingImages
 pub use Rattle.tool_words.specs.Asked

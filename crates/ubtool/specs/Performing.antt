@@ -3,10 +3,11 @@
 use Rattle.std.specs.Prelude.{◌≡◌, ◌⊎◌, ℕ, Bool, true, false, List, codes, length, map, Option, Result, Ok, Err, string_bytes}
 use Rattle.envimage.specs.declared.image.ByteOrder.{ByteOrder}
 use Rattle.tool_words.specs.declared.ask.Ask.{Ask}
-use Rattle.tool_words.specs.declared.ask.Ask.TheVariants.{Causes, Endings, Help, Print, Rehearse, Setenv, Version}
+use Rattle.tool_words.specs.declared.ask.Ask.TheVariants.{Causes, Endings, Help, Image, Inspect, Print, Rehearse, Setenv, Version}
 use Rattle.tool_words.specs.declared.ask.Change.{Change}
+use Rattle.tool_words.specs.declared.ask.ImageAsk.{ImageAsk}
 use Rattle.tool_words.specs.declared.ask.Origin.{Origin}
-use Rattle.tool_words.specs.CommandAnswers.{origin_shown}
+use Rattle.tool_words.specs.CommandAnswers.{inputs_shown, origin_shown}
 use Rattle.output.specs.Outputs.{Outputs}
 use Rattle.output.specs.Sink.{Sink}
 use Rattle.tool_files.specs.Told.{IfTold, Told}
@@ -21,8 +22,11 @@ use Rattle.tool_steps.specs.declared.build.Build.{Build}
 use Rattle.ubtool.specs.CausesOfFiles.{TellsCausesFrom}
 use Rattle.ubtool.specs.EndingsOfFiles.{TellsFrom}
 use Rattle.tool_steps.specs.PrintingFiles.{LeavesOutputs, PrintsFrom}
+use Rattle.ubtool.specs.InspectingFiles.{InspectsFrom, LeavesReport}
 use Rattle.ubtool.specs.RehearsingFiles.{LeavesOutput, RehearsesFrom}
+use Rattle.tool_images.specs.declared.new_image.Layout.{Layout}
 use Rattle.tool_steps.specs.ChangingFiles.{Sets}
+use Rattle.tool_steps.specs.NewImageFiles.{Makes}
 use Rattle.tool_steps.specs.Faults.{CountsReads}
 use Rattle.ubtool.specs.Faults.{CountsShared, IsShared}
 use Rattle.ubtool.specs.declared.fault.ProgramFault.{ProgramFault}
@@ -53,6 +57,15 @@ SetsOf program input source change err err' old new (Ok all) =
 SetsOf program input source change err err' old new (Err fault) =
     Sets program input source change err err' old new (Err fault) ⊎ IsUnlocked fault err err' old new
 
+-- how a new image is to be laid out
+abbrev pub layout_of : ImageAsk → Layout
+layout_of what = record { size = what.size; redundant = what.redundant; order = what.order; fill = what.fill }
+
+-- a new image was made, which is all that the answer says; or it was refused
+abbrev pub MakesOf : (text output : List ℕ) → Layout → Told → Told → Result Bool Fault → Type 0
+MakesOf text output layout old new (Ok all) = (all ≡ true) × Makes text output layout old new (Ok tt)
+MakesOf text output layout old new (Err fault) = Makes text output layout old new (Err fault)
+
 -- the count of failures of the device: one more than the answer tells, if one copy of a pair is enough and one is lost
 abbrev pub Counts : Ask → ℕ → ℕ → Result Bool ProgramFault → Type 0
 Counts (Print origin what order one_copy) old new result = IsShared (CountsReads one_copy old new) result
@@ -79,21 +92,33 @@ Does program build input (Setenv origin change order one_copy) before after outp
     × (outputs.out' ≡ outputs.out)
     × TellsNotes program one_copy answer outputs.err outputs.err')
     result
-Does program build input (Rehearse origin device_list what order) before after outputs result =
+Does program build input (Rehearse inputs what order) before after outputs result =
     IfTold before after (λ old new.
-    RehearsesFrom order (origin_shown origin) (string_bytes device_list) what outputs.out outputs.out' old new result)
+    RehearsesFrom order (inputs_shown inputs) what outputs.out outputs.out' old new result)
     × LeavesOutput result outputs.out outputs.out'
     × (outputs.err' ≡ outputs.err)
-Does program build input (Endings origin device_list what order) before after outputs result =
+Does program build input (Endings inputs what order) before after outputs result =
     IfTold before after (λ old new.
-    TellsFrom order (origin_shown origin) (string_bytes device_list) what outputs.out outputs.out' old new result)
+    TellsFrom order (inputs_shown inputs) what outputs.out outputs.out' old new result)
     × LeavesOutput result outputs.out outputs.out'
     × (outputs.err' ≡ outputs.err)
-Does program build input (Causes origin device_list what order) before after outputs result =
+Does program build input (Causes inputs what order) before after outputs result =
     IfTold before after (λ old new.
-    TellsCausesFrom order (origin_shown origin) (string_bytes device_list) what outputs.out outputs.out' old new result)
+    TellsCausesFrom order (inputs_shown inputs) what outputs.out outputs.out' old new result)
     × LeavesOutput result outputs.out outputs.out'
     × (outputs.err' ≡ outputs.err)
+Does program build input (Image text output what) before after outputs result =
+    IsShared (λ answer. IfTold before after (λ old new.
+    MakesOf (string_bytes text) (string_bytes output) (layout_of what) old new answer)
+    × (outputs.out' ≡ outputs.out)
+    × (outputs.err' ≡ outputs.err))
+    result
+Does program build input (Inspect origin order) before after outputs result =
+    IsShared (λ answer. IfTold before after (λ old new.
+    InspectsFrom order (origin_shown origin) outputs.out outputs.out' old new answer)
+    × LeavesReport answer outputs.out outputs.out'
+    × (outputs.err' ≡ outputs.err))
+    result
 Does program build input (Help text) before after outputs result =
     IsShared (Shows (string_bytes text) before after outputs) result
 Does program build input Version before after outputs result =

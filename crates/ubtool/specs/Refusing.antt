@@ -1,5 +1,6 @@
 -- Why a rehearsal is refused, and what is written then. The order of the refusals is ours: the image, the device list,
--- the variable, the word. Each is checked only if those before it are right. Nothing is written before the listing.
+-- the variable if no text is given, the word. Each is checked only if those before it are right. Nothing is written
+-- before the listing.
 use Rattle.std.specs.Prelude.{◌≡◌, ◌⊎◌, List, None, Ok, Err}
 use Rattle.envimage.specs.Data.{Pair}
 use Rattle.output.specs.Sink.{Sink}

@@ -1,11 +1,11 @@
 -- What rehearsing images does, from files whose contents are known. The order of work is ours.
-use Rattle.std.specs.Prelude.{◌≡◌, ◌⊎◌, ℕ, Bool, true, List, Option, Some, None, option_map, Result, Ok, Err, String}
+use Rattle.std.specs.Prelude.{◌≡◌, ◌⊎◌, Bool, true, Option, Some, None, option_map, Result, Ok, Err, String}
 use Rattle.std.specs.declared.alloc.Global.{Global}
 use Rattle.output.specs.Sink.{Sink, counted}
 use Rattle.envimage.specs.declared.image.ByteOrder.{ByteOrder}
 use Rattle.rehearse_runs.specs.declared.listing.Finish.{Finish}
 use Rattle.tool_words.specs.CommandAnswers.{asking_of}
-use Rattle.tool_words.specs.Asked.{OriginShown}
+use Rattle.tool_words.specs.Asked.{InputsShown}
 use Rattle.tool_words.specs.declared.ask.RehearseAsk.{RehearseAsk}
 use Rattle.rehearse_terms.specs.WantedShown.{wanted_word}
 use Rattle.tool_images.specs.FileFaults.{path_form}
@@ -45,34 +45,34 @@ RehearsesCopies g old new (Ok finish) = Rehearses g old new finish
 RehearsesCopies g old new (Err refused.Memory) = RunsOut g old new
 RehearsesCopies g old new (Err error) = Refuses g old new error
 
--- The images and the device list were read, and the whole listing was written; or the rehearsal is refused, and the
+-- What is asked for was read, and the whole listing was written; or the rehearsal is refused, and the
 -- fault names what the words said; or a read is refused, and files were only read. If memory runs out while they are
 -- read, nothing is written; if it runs out later, whole records may be written.
-abbrev pub RehearsesFrom : ByteOrder → OriginShown → (device_list : List ℕ) → RehearseAsk → (out out' : Sink) →
+abbrev pub RehearsesFrom : ByteOrder → InputsShown → RehearseAsk → (out out' : Sink) →
     (old new : Told) → Result Bool ProgramFault → Type 0
-RehearsesFrom order origin device_list what out out' old new (Ok all) =
-    (all ≡ true) × FromFiles order origin device_list (asking_of what) old new (λ g. (finish : Finish)
+RehearsesFrom order inputs what out out' old new (Ok all) =
+    (all ≡ true) × FromFiles order inputs (asking_of what) old new (λ g. (finish : Finish)
     × Rehearses g out out' finish)
-RehearsesFrom order origin device_list what out out' old new (Err (Shared Memory)) =
+RehearsesFrom order inputs what out out' old new (Err (Shared Memory)) =
     (OnlyReads old new × (out' ≡ out))
-    ⊎ FromFiles order origin device_list (asking_of what) old new (λ g. RunsOut g out out')
-RehearsesFrom order origin device_list what out out' old new (Err (Shared (Tool (tool.Image error)))) =
-    FromFiles order origin device_list (asking_of what) old new (λ g. Refuses g out out' (refused.Image error))
-RehearsesFrom order origin device_list what out out' old new (Err (Shared (Tool tool.Write))) =
-    FromFiles order origin device_list (asking_of what) old new (λ g. Refuses g out out' refused.Write)
-RehearsesFrom order origin device_list what out out' old new (Err (Shared (Tool error))) = ⊥
-RehearsesFrom order origin device_list what out out' old new (Err (Shared fault)) =
-    IsUnread origin device_list old new fault
-RehearsesFrom order origin device_list what out out' old new (Err (NoSuchVariable name)) =
+    ⊎ FromFiles order inputs (asking_of what) old new (λ g. RunsOut g out out')
+RehearsesFrom order inputs what out out' old new (Err (Shared (Tool (tool.Image error)))) =
+    FromFiles order inputs (asking_of what) old new (λ g. Refuses g out out' (refused.Image error))
+RehearsesFrom order inputs what out out' old new (Err (Shared (Tool tool.Write))) =
+    FromFiles order inputs (asking_of what) old new (λ g. Refuses g out out' refused.Write)
+RehearsesFrom order inputs what out out' old new (Err (Shared (Tool error))) = ⊥
+RehearsesFrom order inputs what out out' old new (Err (Shared fault)) =
+    IsUnread inputs old new fault
+RehearsesFrom order inputs what out out' old new (Err (NoSuchVariable name)) =
     (name ≡ path_form what.name)
-    × FromFiles order origin device_list (asking_of what) old new (λ g.
+    × FromFiles order inputs (asking_of what) old new (λ g.
     Refuses g out out' (refused.Rehearsal rehearsal.NoSuchVariable))
-RehearsesFrom order origin device_list what out out' old new (Err (NotARun word)) =
+RehearsesFrom order inputs what out out' old new (Err (NotARun word)) =
     (Some word ≡ option_map path_form (wanted_word what.wanted))
-    × FromFiles order origin device_list (asking_of what) old new (λ g.
+    × FromFiles order inputs (asking_of what) old new (λ g.
     Refuses g out out' (refused.Rehearsal rehearsal.NotARun))
-RehearsesFrom order origin device_list what out out' old new (Err (program.Rehearsal error)) =
-    FromFiles order origin device_list (asking_of what) old new (λ g. Refuses g out out' (refused.Rehearsal error))
+RehearsesFrom order inputs what out out' old new (Err (program.Rehearsal error)) =
+    FromFiles order inputs (asking_of what) old new (λ g. Refuses g out out' (refused.Rehearsal error))
 
 -- over any files: a reported failure of the output is counted, and any refusal but this and memory leaves the output as
 -- it was

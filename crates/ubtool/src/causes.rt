@@ -1,12 +1,12 @@
 //! `causes`, from files to the lines.
-ghost use Rattle.std.specs.Prelude.{◌≡◌, string_bytes};
+ghost use Rattle.std.specs.Prelude.{◌≡◌};
 ghost use Rattle.tool_files.specs.Told.{IfTold};
 ghost use Rattle.ubtool.specs.CausesOfFiles.{TellsCausesFrom, TellsCausesOfCopies, causes_refusal, runs_asked};
-ghost use Rattle.ubtool.specs.Given.{given_by};
+ghost use Rattle.ubtool.specs.Given.{given_by, script_of};
 ghost use Rattle.ubtool.specs.Faults.{CountsShared};
 ghost use Rattle.tool_steps.specs.Images.{copies};
 ghost use Rattle.ubtool.specs.RehearsingFiles.{LeavesOutput};
-ghost use Rattle.tool_words.specs.CommandAnswers.{origin_shown};
+ghost use Rattle.tool_words.specs.CommandAnswers.{inputs_shown};
 
 use crate::fault::ProgramFault;
 use crate::image_causes::causes_bytes;
@@ -19,7 +19,7 @@ use std::alloc::Global;
 use tool_files::Files;
 use tool_images::WordForm;
 use tool_steps::{Sources, read_sources};
-use tool_words::{CausesAsk, Origin};
+use tool_words::{CausesAsk, Inputs};
 
 /// How a refusal of the causes is reported.
 fn refusal_of(error: RehearsalError, what: CausesAsk) -> ProgramFault
@@ -33,7 +33,7 @@ fn refusal_of(error: RehearsalError, what: CausesAsk) -> ProgramFault
     }
 }
 
-/// Reports what has to fail for each ending of a variable of what was read.
+/// Reports what has to fail for each ending of what was read.
 fn causes_of_sources<O: Out>(
     alloc: Global,
     sources: &Sources,
@@ -42,15 +42,16 @@ fn causes_of_sources<O: Out>(
     out: &mut O,
 ) -> Result<bool, RehearsalError>
     ensures { TellsCausesOfCopies (given_by order (copies sources.now.images)
-        sources.now.device_list.items (runs_asked what.now)) what.now.check
+        sources.now.device_list.items (script_of sources.now) (runs_asked what.now)) what.now.check
         (O.sink out.old) (O.sink out.new) result }
 {
+    let bytes = bytes_of(sources);
     let ask = rehearse_causes::CausesAsk {
         name: what.name.as_bytes(),
+        text: bytes.script,
         bounds: what.bounds,
         check: what.check,
     };
-    let bytes = bytes_of(sources);
     causes_bytes(
         alloc,
         bytes.first,
@@ -62,13 +63,12 @@ fn causes_of_sources<O: Out>(
     )
 }
 
-/// Reports what has to fail for each ending of a variable of images. Reads the images, then the
-/// device list, and then writes the lines. Returns true, or in a check whether nothing was written.
+/// Reports what has to fail for each ending of a variable of images, or of a script. Reads the images, then the
+/// device list, then the script if one is named, and then writes the lines. Returns true, or in a check whether nothing was written.
 pub fn causes<F: Files, O: Out>(
     alloc: Global,
     files: &mut F,
-    origin: Origin,
-    device_list: String,
+    inputs: Inputs,
     what: CausesAsk,
     order: ByteOrder,
     out: &mut O,
@@ -76,11 +76,11 @@ pub fn causes<F: Files, O: Out>(
     ensures count { CountsShared (F.faults files.old) (F.faults files.new) result }
     ensures lock { F.locked files.new ≡ F.locked files.old }
     ensures told { IfTold (F.told files.old) (F.told files.new) (λ old new.
-        TellsCausesFrom order (origin_shown origin) (string_bytes device_list) what
+        TellsCausesFrom order (inputs_shown inputs) what
         (O.sink out.old) (O.sink out.new) old new result) }
     ensures output { LeavesOutput result (O.sink out.old) (O.sink out.new) }
 {
-    let sources = read_sources(alloc, files, origin, device_list)?;
+    let sources = read_sources(alloc, files, inputs)?;
     match causes_of_sources(alloc, &sources, order, &what, out) {
         Ok(fine) => Ok(fine),
         Err(error) => Err(refusal_of(error, what)),

@@ -1,12 +1,12 @@
 //! `endings`, from files to the lines.
-ghost use Rattle.std.specs.Prelude.{◌≡◌, string_bytes};
+ghost use Rattle.std.specs.Prelude.{◌≡◌};
 ghost use Rattle.tool_files.specs.Told.{IfTold};
 ghost use Rattle.ubtool.specs.EndingsOfFiles.{TellsCopies, TellsFrom, all_asked, endings_refusal};
-ghost use Rattle.ubtool.specs.Given.{given_by};
+ghost use Rattle.ubtool.specs.Given.{given_by, script_of};
 ghost use Rattle.ubtool.specs.Faults.{CountsShared};
 ghost use Rattle.tool_steps.specs.Images.{copies};
 ghost use Rattle.ubtool.specs.RehearsingFiles.{LeavesOutput};
-ghost use Rattle.tool_words.specs.CommandAnswers.{origin_shown};
+ghost use Rattle.tool_words.specs.CommandAnswers.{inputs_shown};
 
 use crate::fault::ProgramFault;
 use crate::image_endings::endings_bytes;
@@ -19,7 +19,7 @@ use std::alloc::Global;
 use tool_files::Files;
 use tool_images::WordForm;
 use tool_steps::{Sources, read_sources, slices_of};
-use tool_words::{EndingsAsk, Origin};
+use tool_words::{EndingsAsk, Inputs};
 
 /// How a refusal of the endings is reported.
 fn refusal_of(error: RehearsalError, what: EndingsAsk) -> ProgramFault
@@ -33,7 +33,7 @@ fn refusal_of(error: RehearsalError, what: EndingsAsk) -> ProgramFault
     }
 }
 
-/// Reports how the runs of a variable of what was read end.
+/// Reports how the runs of what was read end.
 fn endings_of_sources<O: Out>(
     alloc: Global,
     sources: &Sources,
@@ -42,20 +42,21 @@ fn endings_of_sources<O: Out>(
     out: &mut O,
 ) -> Result<(), RehearsalError>
     ensures { TellsCopies (given_by order (copies sources.now.images)
-        sources.now.device_list.items (all_asked what.now)) what.now.flow what.now.states
+        sources.now.device_list.items (script_of sources.now) (all_asked what.now)) what.now.flow what.now.states
         (O.sink out.old) (O.sink out.new) result }
 {
     let Ok(names) = slices_of(alloc, &what.names) else {
         return Err(RehearsalError::Memory);
     };
+    let bytes = bytes_of(sources);
     let ask = rehearse_endings::EndingsAsk {
         name: what.name.as_bytes(),
+        text: bytes.script,
         bounds: what.bounds,
         states: what.states,
         names: &names,
         flow: what.flow,
     };
-    let bytes = bytes_of(sources);
     endings_bytes(
         alloc,
         bytes.first,
@@ -67,13 +68,12 @@ fn endings_of_sources<O: Out>(
     )
 }
 
-/// Reports how all runs of a variable of images end. Reads the images, then the device list, and then
-/// writes the lines.
+/// Reports how all runs of a variable of images end, or of a script. Reads the images, then the device list, then
+/// the script if one is named, and then writes the lines.
 pub fn endings<F: Files, O: Out>(
     alloc: Global,
     files: &mut F,
-    origin: Origin,
-    device_list: String,
+    inputs: Inputs,
     what: EndingsAsk,
     order: ByteOrder,
     out: &mut O,
@@ -81,11 +81,11 @@ pub fn endings<F: Files, O: Out>(
     ensures count { CountsShared (F.faults files.old) (F.faults files.new) result }
     ensures lock { F.locked files.new ≡ F.locked files.old }
     ensures told { IfTold (F.told files.old) (F.told files.new) (λ old new.
-        TellsFrom order (origin_shown origin) (string_bytes device_list) what (O.sink out.old)
+        TellsFrom order (inputs_shown inputs) what (O.sink out.old)
         (O.sink out.new) old new result) }
     ensures output { LeavesOutput result (O.sink out.old) (O.sink out.new) }
 {
-    let sources = read_sources(alloc, files, origin, device_list)?;
+    let sources = read_sources(alloc, files, inputs)?;
     match endings_of_sources(alloc, &sources, order, &what, out) {
         Ok(()) => Ok(true),
         Err(error) => Err(refusal_of(error, what)),

@@ -1,4 +1,4 @@
-//! What has to fail for each ending of an image's variable, from the bytes of the image to the lines.
+//! What has to fail for each ending of an image's variable or of a given text, from the bytes of the image to the lines.
 ghost use Rattle.std.specs.Prelude.{IfOk, IfErr};
 ghost use Rattle.std.specs.Option.{option_copied};
 ghost use Rattle.ubtool.specs.CausesOfImages.{RefusesCauses, TellsCauses, causes_given};
@@ -11,8 +11,8 @@ use output::Out;
 use rehearse_causes::{CausesAsk, causes_env};
 use std::alloc::Global;
 
-/// Writes what has to fail for each ending of a variable, of an image or of the current copy of a
-/// pair: for each cause a line, and then a line for each device command that fails; or only what does
+/// Writes what has to fail for each ending of a variable of an image, or of the current copy of a
+/// pair, or of a given text in its environment: for each cause a line, and then a line for each device command that fails; or only what does
 /// not boot. Returns true, or in a check whether nothing was written. In a shell of U-Boot, the
 /// variables are those that U-Boot reads from the image.
 ///

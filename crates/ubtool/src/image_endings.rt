@@ -1,4 +1,4 @@
-//! How all runs of an image's variable end, from the bytes of the image to the lines.
+//! How all runs of an image's variable or of a given text end, from the bytes of the image to the lines.
 ghost use Rattle.std.specs.Prelude.{IfOk, IfErr};
 ghost use Rattle.std.specs.Option.{option_copied};
 ghost use Rattle.ubtool.specs.EndingsOfImages.{RefusesEndings, TellsEndings, endings_given};
@@ -11,9 +11,10 @@ use output::Out;
 use rehearse_endings::{EndingsAsk, endings_env};
 use std::alloc::Global;
 
-/// Writes how all runs of a variable end, of an image or of the current copy of a pair: for each
-/// ending a line, the values that are left of the named variables, and the device commands that fail
-/// in the run with the fewest failures; then a line for all runs. For the flow, writes a line for
+/// Writes how all runs of a variable of an image, or of the current copy of a pair, end, or those of
+/// a given text in its environment: for each ending a line, the values that are left of the named
+/// variables, and the device commands that fail in the run with the fewest failures; then a line for
+/// all runs. For the flow, writes a line for
 /// each state in which a device command asks and for each way to end. In a shell of U-Boot, the
 /// variables are those that U-Boot reads from the image.
 ///

@@ -4,7 +4,7 @@ ghost use Rattle.std.specs.Option.{option_copied};
 ghost use Rattle.rehearse_terms.specs.Asking.{page_of};
 ghost use Rattle.rehearse_terms.specs.Asking.{HasRoom};
 ghost use Rattle.rehearse_terms.specs.WantedShown.{wanted_slices};
-ghost use Rattle.rehearse_runs.specs.AskShown.{asking_of};
+ghost use Rattle.rehearse_runs.specs.AskShown.{asking_of, text_given};
 ghost use Rattle.ubtool.specs.Given.{given};
 ghost use Rattle.ubtool.specs.Headline.{Rehearses};
 ghost use Rattle.ubtool.specs.Refusing.{Refuses};
@@ -18,10 +18,11 @@ use rehearse_runs::{Ask, Finish, rehearse_env};
 use rehearse_terms::{Shell, Wanted};
 use std::alloc::Global;
 
-/// Rehearses a variable of an image, or of the current copy of a pair, and writes the listing of
-/// its runs: a page of all of them in order, or of the runs after a word; or the record of the run
-/// of one word, and `done`. Returns `More` if runs are left out at the end, else `Done`. In a shell of
-/// U-Boot, the variables are those that U-Boot reads from the image.
+/// Rehearses a variable of an image, or of the current copy of a pair, or a given text in its
+/// environment, and writes the listing of the runs: a page of all of them in order, or of the runs
+/// after a word; or the record of the run of one word, and `done`. Returns `More` if runs are left
+/// out at the end, else `Done`. In a shell of U-Boot, the variables are those that U-Boot reads from
+/// the image.
 ///
 /// Refusals in order: the image, the device list, `NoSuchVariable`, `NotARun`, with nothing
 /// written; then `Write` during the listing, and `Memory` wherever a growth is made. After these
@@ -37,11 +38,11 @@ pub fn rehearse_bytes<O: Out>(
 ) -> Result<Finish, RehearsalError>
     requires { HasRoom (page_of (wanted_slices ask.now.wanted)) }
     ensures ok { IfOk result (λ finish. Rehearses
-        (given order first.now (option_copied second.entry) devices_text.now (asking_of ask.now))
-        (O.sink out.old) (O.sink out.new) finish) }
+        (given order first.now (option_copied second.entry) devices_text.now (text_given ask.now)
+        (asking_of ask.now)) (O.sink out.old) (O.sink out.new) finish) }
     ensures err { IfErr result
         (λ e. Refuses (given order first.now (option_copied second.entry) devices_text.now
-        (asking_of ask.now)) (O.sink out.old) (O.sink out.new) e) }
+        (text_given ask.now) (asking_of ask.now)) (O.sink out.old) (O.sink out.new) e) }
 {
     let shell = match ask.wanted {
         Wanted::Listing { bounds, .. } => bounds.shell(),
@@ -64,11 +65,11 @@ fn rehearse_in<O: Out>(
     requires room { HasRoom (page_of (wanted_slices ask.now.wanted)) }
     requires shell { shell ≡ (asking_of ask.now).bounds.shell }
     ensures ok { IfOk result (λ finish. Rehearses
-        (given order first.now (option_copied second.entry) devices_text.now (asking_of ask.now))
-        (O.sink out.old) (O.sink out.new) finish) }
+        (given order first.now (option_copied second.entry) devices_text.now (text_given ask.now)
+        (asking_of ask.now)) (O.sink out.old) (O.sink out.new) finish) }
     ensures err { IfErr result
         (λ e. Refuses (given order first.now (option_copied second.entry) devices_text.now
-        (asking_of ask.now)) (O.sink out.old) (O.sink out.new) e) }
+        (text_given ask.now) (asking_of ask.now)) (O.sink out.old) (O.sink out.new) e) }
 {
     let env = env_of_board(alloc, first, second, order, shell)?;
     Ok(rehearse_env::<Trail, O>(alloc, &env, devices_text, ask, out)?)

@@ -8,6 +8,7 @@ mod fault;
 mod image_causes;
 mod image_endings;
 mod image_rehearsal;
+mod inspection;
 mod perform;
 mod rehearsal_error;
 mod rehearsing;
@@ -28,6 +29,6 @@ pub use tool_files::{FileFault, Files};
 pub use tool_images as images;
 pub use tool_images::{Edit, ToolError, print_bytes, set_bytes};
 pub use tool_words::{
-    Ask, CausesAsk, Change, EndingsAsk, Origin, OriginError, PrintAsk, RehearseAsk, UseError,
-    read_command,
+    Ask, CausesAsk, Change, EndingsAsk, ImageAsk, Inputs, Origin, OriginError, PrintAsk,
+    RehearseAsk, UseError, read_command,
 };

@@ -1,26 +1,41 @@
 //! Does what is asked for.
+ghost use Rattle.std.specs.Prelude.{◌≡◌};
 ghost use Rattle.output.specs.Outputs.{outputs};
-ghost use Rattle.ubtool.specs.Performing.{Counts, Does, IsComplete};
+ghost use Rattle.ubtool.specs.Performing.{Counts, Does, IsComplete, layout_of};
 ghost use Rattle.tool_steps.specs.Running.{files_shown};
 ghost use Rattle.ubtool.specs.Locking.{LocksFor};
 
 use crate::causes::causes;
 use crate::endings::endings;
 use crate::fault::ProgramFault;
+use crate::inspection::inspect;
 use crate::rehearsing::rehearse;
 use crate::tool::PROGRAM;
 use output::Out;
 use std::alloc::Global;
 use std::io::Read;
 use tool_files::Files;
-use tool_steps::{Build, ImageSource, print_files, set_files, show_help, show_version};
-use tool_words::Ask;
+use tool_images::Layout;
+use tool_steps::{Build, ImageSource, make_image, print_files, set_files, show_help, show_version};
+use tool_words::{Ask, ImageAsk};
+
+/// How a new image is to be laid out.
+fn layout_of(what: ImageAsk) -> Layout
+    ensures { result ≡ layout_of what }
+{
+    Layout {
+        size: what.size as usize,
+        redundant: what.redundant,
+        order: what.order,
+        fill: what.fill,
+    }
+}
 
 /// Does what is asked for. Takes the lock for a change, before its first read, and for nothing else. If
 /// the lock is refused, no file is touched.
 /// A script of changes may be on `input`, and the version names `build`. What is reported meanwhile has
 /// the name `program` in front. Returns false if a variable that was to be printed is missing,
-/// or if a check of the causes finds what does not boot.
+/// if a check of the causes finds what does not boot, or if what is inspected has no environment that can be read.
 pub fn perform<R: Read, F: Files, O: Out, E: Out>(
     alloc: Global,
     program: &str,
@@ -68,23 +83,25 @@ pub fn perform<R: Read, F: Files, O: Out, E: Out>(
             Ok(true)
         }
         Ask::Rehearse {
-            origin,
-            devices_file,
+            inputs,
             what,
             order,
-        } => rehearse(alloc, files, origin, devices_file, what, order, out),
+        } => rehearse(alloc, files, inputs, what, order, out),
         Ask::Endings {
-            origin,
-            devices_file,
+            inputs,
             what,
             order,
-        } => endings(alloc, files, origin, devices_file, what, order, out),
+        } => endings(alloc, files, inputs, what, order, out),
         Ask::Causes {
-            origin,
-            devices_file,
+            inputs,
             what,
             order,
-        } => causes(alloc, files, origin, devices_file, what, order, out),
+        } => causes(alloc, files, inputs, what, order, out),
+        Ask::Image { text, output, what } => {
+            make_image(alloc, files, text, output, layout_of(what))?;
+            Ok(true)
+        }
+        Ask::Inspect { origin, order } => Ok(inspect(alloc, files, origin, order, out)?),
         Ask::Help(text) => Ok(show_help(out, &text)?),
         Ask::Version => Ok(show_version(out, PROGRAM, build)?),
     }

@@ -1,11 +1,11 @@
 //! `rehearse`, from files to the listing.
-ghost use Rattle.std.specs.Prelude.{◌≡◌, string_bytes};
+ghost use Rattle.std.specs.Prelude.{◌≡◌};
 ghost use Rattle.tool_files.specs.Told.{IfTold};
 ghost use Rattle.ubtool.specs.Faults.{CountsShared};
 ghost use Rattle.tool_steps.specs.Images.{copies};
 ghost use Rattle.ubtool.specs.RehearsingFiles.{LeavesOutput, RehearsesCopies, RehearsesFrom, refusal_of};
-ghost use Rattle.ubtool.specs.Given.{given_by};
-ghost use Rattle.tool_words.specs.CommandAnswers.{asking_of, origin_shown};
+ghost use Rattle.ubtool.specs.Given.{given_by, script_of};
+ghost use Rattle.tool_words.specs.CommandAnswers.{asking_of, inputs_shown};
 
 use crate::fault::ProgramFault;
 use crate::image_rehearsal::rehearse_bytes;
@@ -19,7 +19,7 @@ use std::alloc::Global;
 use tool_files::Files;
 use tool_images::WordForm;
 use tool_steps::{Sources, read_sources, slices_of};
-use tool_words::{Origin, RehearseAsk};
+use tool_words::{Inputs, RehearseAsk};
 
 /// How a refusal of a rehearsal is reported.
 fn refusal_of(error: RehearsalError, what: RehearseAsk) -> ProgramFault
@@ -36,7 +36,7 @@ fn refusal_of(error: RehearsalError, what: RehearseAsk) -> ProgramFault
     }
 }
 
-/// Rehearses a variable of what was read.
+/// Rehearses what was read.
 fn rehearse_sources<O: Out>(
     alloc: Global,
     sources: &Sources,
@@ -45,18 +45,19 @@ fn rehearse_sources<O: Out>(
     out: &mut O,
 ) -> Result<Finish, RehearsalError>
     ensures { RehearsesCopies (given_by order (copies sources.now.images)
-        sources.now.device_list.items (asking_of what.now)) (O.sink out.old) (O.sink out.new)
+        sources.now.device_list.items (script_of sources.now) (asking_of what.now)) (O.sink out.old) (O.sink out.new)
         result }
 {
     let Ok(names) = slices_of(alloc, &what.names) else {
         return Err(RehearsalError::Memory);
     };
+    let bytes = bytes_of(sources);
     let ask = rehearse_runs::Ask {
         name: what.name.as_bytes(),
+        text: bytes.script,
         wanted: what.wanted.as_bytes(),
         names: &names,
     };
-    let bytes = bytes_of(sources);
     rehearse_bytes(
         alloc,
         bytes.first,
@@ -68,12 +69,12 @@ fn rehearse_sources<O: Out>(
     )
 }
 
-/// Rehearses a variable of images. Reads the images, then the device list, and then writes the listing.
+/// Rehearses a variable of images, or a script. Reads the images, then the device list, then the script if one is
+/// named, and then writes the listing.
 pub fn rehearse<F: Files, O: Out>(
     alloc: Global,
     files: &mut F,
-    origin: Origin,
-    device_list: String,
+    inputs: Inputs,
     what: RehearseAsk,
     order: ByteOrder,
     out: &mut O,
@@ -81,11 +82,11 @@ pub fn rehearse<F: Files, O: Out>(
     ensures count { CountsShared (F.faults files.old) (F.faults files.new) result }
     ensures lock { F.locked files.new ≡ F.locked files.old }
     ensures told { IfTold (F.told files.old) (F.told files.new) (λ old new.
-        RehearsesFrom order (origin_shown origin) (string_bytes device_list) what (O.sink out.old)
+        RehearsesFrom order (inputs_shown inputs) what (O.sink out.old)
         (O.sink out.new) old new result) }
     ensures output { LeavesOutput result (O.sink out.old) (O.sink out.new) }
 {
-    let sources = read_sources(alloc, files, origin, device_list)?;
+    let sources = read_sources(alloc, files, inputs)?;
     match rehearse_sources(alloc, &sources, order, &what, out) {
         Ok(_) => Ok(true),
         Err(error) => Err(refusal_of(error, what)),

@@ -1,7 +1,7 @@
 use Rattle.std.proofs.Common.{◌≡◌, ◌∙◌, ap, sym, subst, refl, inl, Result, Err, IfErr}
 use Rattle.std.proofs.lemmas.Result.{err_from_is_err_and}
 use Rattle.std.specs.Option.{option_copied}
-use Rattle.rehearse_runs.specs.AskShown.{asking_of}
+use Rattle.rehearse_runs.specs.AskShown.{asking_of, text_given}
 use Rattle.rehearse_runs.specs.declared.listing.Finish.{Finish}
 use Rattle.rehearse_terms.specs.declared.shell.Shell.{Shell}
 use Rattle.ubtool.specs.BoardEnvironment.{on_board}
@@ -19,7 +19,7 @@ returns-in_err-env-clause-err g c =
     let out = g.O.Out.sink c.args.out.now in
     let p = err_from_is_err_and c.from_residual.result c.from_residual.ensures.1 in
     let answer : c.from_residual.result ≡ Err (image_error c.in_err-env.field-0.0) = p.1 ∙ ap Err p.2 in
-    let IsSo : RehearsalError → Type 0 = Refuses (given c.args.order c.args.first.now second c.args.devices_text.now (asking_of c.args.ask.now)) out out in
+    let IsSo : RehearsalError → Type 0 = Refuses (given c.args.order c.args.first.now second c.args.devices_text.now (text_given c.args.ask.now) (asking_of c.args.ask.now)) out out in
     let P : Result Finish RehearsalError → Type 0 = λ r. IfErr r IsSo in
     subst P (sym answer) (unfound (environment_in c.args.order c.args.first.now second) IsSo (λ fault h. (h, refl)) (λ env h. inl (record { environment = env; image = h }, refl)) c.in_err-env.field-0.0 c.in_err-env.ensures)
 
@@ -30,9 +30,9 @@ returns-in_err-rehearse_env-clause-err g c =
     let out' = g.O.Out.sink c.rehearse_env.new.out in
     let p = err_from_is_err_and c.from_residual-in_err-rehearse_env.result c.from_residual-in_err-rehearse_env.ensures.1 in
     let answer : c.from_residual-in_err-rehearse_env.result ≡ Err (rehearse_error c.in_err-rehearse_env.field-0.0) = p.1 ∙ ap Err p.2 in
-    let P : Result Finish RehearsalError → Type 0 = λ r. IfErr r (λ e. Refuses (given c.args.order c.args.first.now second c.args.devices_text.now (asking_of c.args.ask.now)) out out' e) in
-    subst P (sym answer) (refused-image c.args.order c.args.first.now second c.args.devices_text.now (asking_of c.args.ask.now) _ c.in_ok-env.ensures.0 out out' c.in_ok-env.ensures.1 (c.in_ok-env.ensures.2 ∙ ap (λ (shell : Shell). on_board shell c.in_ok-env.ensures.0) c.requires.shell) c.in_err-rehearse_env.field-0.0 c.in_err-rehearse_env.ensures.err)
+    let P : Result Finish RehearsalError → Type 0 = λ r. IfErr r (λ e. Refuses (given c.args.order c.args.first.now second c.args.devices_text.now (text_given c.args.ask.now) (asking_of c.args.ask.now)) out out' e) in
+    subst P (sym answer) (refused-image c.args.order c.args.first.now second c.args.devices_text.now (text_given c.args.ask.now) (asking_of c.args.ask.now) _ c.in_ok-env.ensures.0 out out' c.in_ok-env.ensures.1 (c.in_ok-env.ensures.2 ∙ ap (λ (shell : Shell). on_board shell c.in_ok-env.ensures.0) c.requires.shell) c.in_err-rehearse_env.field-0.0 c.in_err-rehearse_env.ensures.err)
 
 pub returns-clause-ok : goal.returns-clause-ok
 returns-clause-ok g c =
-    rehearses-image c.args.order c.args.first.now (option_copied c.args.second) c.args.devices_text.now (asking_of c.args.ask.now) _ c.in_ok-env.ensures.0 (g.O.Out.sink c.args.out.now) (g.O.Out.sink c.rehearse_env.new.out) c.in_ok-env.ensures.1 (c.in_ok-env.ensures.2 ∙ ap (λ (shell : Shell). on_board shell c.in_ok-env.ensures.0) c.requires.shell) c.in_ok-rehearse_env.field-0 c.in_ok-rehearse_env.ensures.ok
+    rehearses-image c.args.order c.args.first.now (option_copied c.args.second) c.args.devices_text.now (text_given c.args.ask.now) (asking_of c.args.ask.now) _ c.in_ok-env.ensures.0 (g.O.Out.sink c.args.out.now) (g.O.Out.sink c.rehearse_env.new.out) c.in_ok-env.ensures.1 (c.in_ok-env.ensures.2 ∙ ap (λ (shell : Shell). on_board shell c.in_ok-env.ensures.0) c.requires.shell) c.in_ok-rehearse_env.field-0 c.in_ok-rehearse_env.ensures.ok

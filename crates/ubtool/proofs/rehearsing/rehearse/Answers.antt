@@ -1,11 +1,26 @@
-use Rattle.std.proofs.Common.{sym, subst, string_bytes, Err}
+use Rattle.std.proofs.Common.{◌≡◌, ◌∙◌, ap, sym, subst, Bool, Err, Result}
+use Rattle.std.proofs.lemmas.Result.{err_from_is_err_and}
 use Rattle.tool_files.specs.Told.{IfTold}
 use Rattle.ubtool.specs.declared.fault.ProgramFault.{ProgramFault}
+use Rattle.ubtool.specs.declared.fault.ProgramFault.TheVariants.{Shared}
 use Rattle.ubtool.specs.RehearsingFiles.{RehearsesFrom}
-use Rattle.tool_words.specs.CommandAnswers.{origin_shown}
-use Rattle.ubtool.proofs.RehearseLemmas.{rehearses-found, rehearses-refused}
+use Rattle.tool_words.specs.CommandAnswers.{inputs_shown}
+use Rattle.ubtool.proofs.RehearseLemmas.{rehearses-found, rehearses-refused, unread}
 use Rattle.tool_steps.proofs.SourceLemmas.{IfTold-weaker}
 use Rattle.ubtool.proofs.rehearsing.rehearse.Goals as goal
+
+pub returns-in_err-sources-clause-told : goal.returns-in_err-sources-clause-told
+returns-in_err-sources-clause-told g c =
+    let a = g.F.Files.told c.args.files.now in
+    let b = g.F.Files.told c.read_sources.new.files in
+    let out = g.O.Out.sink c.args.out.now in
+    let inputs = inputs_shown c.args.inputs in
+    let fault = c.in_err-sources.field-0.0 in
+    let p = err_from_is_err_and c.from_residual.result c.from_residual.ensures.1 in
+    let answer : c.from_residual.result ≡ Err (Shared fault) = p.1 ∙ ap Err p.2 in
+    let P : Result Bool ProgramFault → Type 0 = λ r. IfTold a b (λ old new. RehearsesFrom c.args.order inputs c.args.what out out old new r) in
+    subst P (sym answer)
+    (IfTold-weaker a b (λ x y h. unread c.args.order inputs c.args.what out x y fault c.in_err-sources.ensures.fault h) c.in_err-sources.ensures.told)
 
 pub returns-in-Err-clause-told : goal.returns-in-Err-clause-told
 returns-in-Err-clause-told g c =
@@ -13,12 +28,11 @@ returns-in-Err-clause-told g c =
     let b = g.F.Files.told c.read_sources.new.files in
     let out = g.O.Out.sink c.args.out.now in
     let out' = g.O.Out.sink c.rehearse_sources.new.out in
-    let origin = origin_shown c.args.origin in
-    let list = string_bytes c.args.device_list in
+    let inputs = inputs_shown c.args.inputs in
     let sources = c.in_ok-sources.sources in
-    let P : ProgramFault → Type 0 = λ f. IfTold a b (λ old new. RehearsesFrom c.args.order origin list c.args.what out out' old new (Err f)) in
+    let P : ProgramFault → Type 0 = λ f. IfTold a b (λ old new. RehearsesFrom c.args.order inputs c.args.what out out' old new (Err f)) in
     subst P (sym c.refusal_of.ensures)
-    (IfTold-weaker a b (λ x z read. rehearses-refused c.args.order origin list c.args.what out out' sources x z read c.in-Err.error c.in-Err.ensures) c.in_ok-sources.ensures.told)
+    (IfTold-weaker a b (λ x z read. rehearses-refused c.args.order inputs c.args.what out out' sources x z read c.in-Err.error c.in-Err.ensures) c.in_ok-sources.ensures.told)
 
 pub returns-in-Ok-clause-told : goal.returns-in-Ok-clause-told
 returns-in-Ok-clause-told g c =
@@ -27,4 +41,4 @@ returns-in-Ok-clause-told g c =
     let out = g.O.Out.sink c.args.out.now in
     let out' = g.O.Out.sink c.rehearse_sources.new.out in
     let sources = c.in_ok-sources.sources in
-    IfTold-weaker a b (λ x z read. rehearses-found c.args.order (origin_shown c.args.origin) (string_bytes c.args.device_list) c.args.what out out' sources x z read c.in-Ok.field-0 c.in-Ok.ensures) c.in_ok-sources.ensures.told
+    IfTold-weaker a b (λ x z read. rehearses-found c.args.order (inputs_shown c.args.inputs) c.args.what out out' sources x z read c.in-Ok.field-0 c.in-Ok.ensures) c.in_ok-sources.ensures.told
