@@ -25,6 +25,11 @@ printf '# d\nload v=1\nfinal boot\n' >devices.txt
     'x=1 y=$x; for i in $x "a b"; do if load $i; then setenv a "$x"; else run t; fi; done; test -e mmc 0:1 /a && boot || exit 2'
 "$program" setenv -c fw_env.config t "echo t '' \$x; load t; exit 3"
 printf 'b 1\n# c\n\nt\nc=2 3\n' >changes.txt
+printf 'a=1\nbootcmd=load\\\nboot\n' >env.txt
+printf 'if load; then\n  boot\nfi\n' >boot.cmd
+mkdir lists
+printf 'load v=1' >lists/a
+printf 'final boot\n' >lists/b
 cp env.img image
 bytes '3b 06 98 45 61 3d 31 00 00' >single
 cd ..
@@ -44,6 +49,7 @@ each_growth() {
     cp env.img changed
     for ((number = 1; ; number++)); do
         cp image env.img
+        rm -f new.img
         status=0
         REFUSE=$number REFUSE_MET=met TELL_CALLS=calls LD_PRELOAD="../refuse.so ../calls.so" "$called" "${words[@]}" \
             <"$input" >output 2>error || status=$?
@@ -59,6 +65,7 @@ each_growth() {
         [[ $(cat error; echo x) == $'ubtool: out of memory\nx' ||
             "$called $(cat error; echo x)" == $'../fw_setenv fw_setenv: out of memory\nx' ]] || fail "$(cat error)"
         cmp -s env.img image || fail 'another image'
+        [ ! -e new.img ] || fail 'a new image'
         head -c "$(wc -c <output)" ample | cmp -s - output || fail 'no front of the output'
         [ "${words[0]-}" != rehearse ] || goes_on
         [[ ${words[0]-} != @(endings|causes) ]] || [ ! -s output ] || fail 'an output'
@@ -92,6 +99,10 @@ begin endings -c fw_env.config -d devices.txt
 begin endings -c fw_env.config -d devices.txt --devices 5 --steps 40
 begin endings -c fw_env.config -d devices.txt --flow
 begin causes -c fw_env.config -d devices.txt
+begin rehearse --script boot.cmd -c fw_env.config -d devices.txt
+begin endings --script boot.cmd -d lists
+begin image --size 64 -o new.img env.txt
+begin inspect -c fw_env.config
 begin
 begin printenv -c fw_env.config
 begin printenv -c fw_env.config t bootcmd t

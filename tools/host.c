@@ -1,6 +1,6 @@
-/* What the programs for 64-bit ARM need of C beside the C library: the heap, the words of the command line, and errno.
-   For x86-64 the toolchain has archives of its own for this; for other processors it has none. Rattle declares these
-   functions with contracts. Nothing proves that this file meets them. It includes no header: the toolchain's clang has
+/* What the programs for 64-bit ARM need of C beside the C library: the heap, the words of the command line, errno, and
+   folders. For x86-64 the toolchain has archives of its own for this; for other processors it has none. Rattle declares
+   these functions with contracts. Nothing proves that this file meets them. It includes no header: the toolchain's clang has
    none. */
 typedef __SIZE_TYPE__ size_t;
 typedef __PTRDIFF_TYPE__ ssize_t;
@@ -13,6 +13,7 @@ void *malloc(size_t n);
 void *realloc(void *p, size_t n);
 void free(void *p);
 int *__errno_location(void); /* the address of errno, in glibc and in musl */
+int openat(int folder, const char *name, int flags, ...);
 
 /* Rattle's `Tried`: whether there is memory, and a pointer to it, which is never null. */
 struct tried {
@@ -87,4 +88,13 @@ ssize_t rattle_arg(size_t i, unsigned char *buf, size_t len)
         buf[n] = (unsigned char)words[i][n];
     }
     return (ssize_t)n;
+}
+
+/* The flags of openat on 64-bit ARM: for a folder alone, not through a last link, and closed by exec. */
+enum { DIRECTORY = 0x4000, NOFOLLOW = 0x8000, CLOEXEC = 0x80000 };
+
+/* Opens the folder that the name reaches from another one, to be read. Returns a descriptor, or -1. */
+int rattle_open_dir_at(int folder, const char *name)
+{
+    return openat(folder, name, DIRECTORY | NOFOLLOW | CLOEXEC);
 }

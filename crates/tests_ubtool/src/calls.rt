@@ -102,6 +102,7 @@ pub(crate) fn rehearse(
     };
     let ask = RehearseAsk {
         name,
+        text: None,
         wanted: Wanted::Listing {
             bounds,
             after: None,
