@@ -33,7 +33,7 @@ _hushcheck_names() {
 # _hushcheck_options COMMAND: the options of the command, in `options`.
 _hushcheck_options() {
     case $1 in
-        hushcheck) options='-c --config -i --image --second --text --big-endian -d --device-list --all --shell -h --help -V --version' ;;
+        hushcheck) options='-c --config -i --image --second --text --big-endian -d --device-list --script --all --shell -h --help -V --version' ;;
         *) options='' ;;
     esac
 }
@@ -41,7 +41,7 @@ _hushcheck_options() {
 # _hushcheck_value WORD: if the word is an option with a value, what the value is, in `value`.
 _hushcheck_value() {
     case $1 in
-        -c | --config | -i | --image | --second | --text | -d | --device-list) value='file' ;;
+        -c | --config | -i | --image | --second | --text | -d | --device-list | --script) value='file' ;;
         --shell) value='listed profile old-2023.01 old-2025.01 old' ;;
         *) value='' ;;
     esac

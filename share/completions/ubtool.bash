@@ -35,9 +35,11 @@ _ubtool_options() {
     case $1 in
         printenv) options='-c --config -i --image --second --text --big-endian -l --lock --one-copy -n --noheader -0 --null --escaped -h --help -V --version' ;;
         setenv) options='-c --config -i --image --second --big-endian -l --lock --one-copy -s --script -h --help -V --version' ;;
-        rehearse) options='-c --config -i --image --second --text --big-endian -d --device-list -b --variable --devices --steps --shell --word --failures --after --limit -h --help -V --version' ;;
-        endings) options='-c --config -i --image --second --text --big-endian -d --device-list -b --variable --devices --steps --shell --states --flow -h --help -V --version' ;;
-        causes) options='-c --config -i --image --second --text --big-endian -d --device-list -b --variable --devices --steps --shell --failures --check -h --help -V --version' ;;
+        rehearse) options='-c --config -i --image --second --text --big-endian -d --device-list -b --variable --script --devices --steps --shell --word --failures --after --limit -h --help -V --version' ;;
+        endings) options='-c --config -i --image --second --text --big-endian -d --device-list -b --variable --script --devices --steps --shell --states --flow -h --help -V --version' ;;
+        causes) options='-c --config -i --image --second --text --big-endian -d --device-list -b --variable --script --devices --steps --shell --failures --check -h --help -V --version' ;;
+        image) options='--size --redundant --big-endian --fill -o --output -h --help -V --version' ;;
+        inspect) options='-c --config -i --image --second --big-endian -h --help -V --version' ;;
         *) options='' ;;
     esac
 }
@@ -45,10 +47,10 @@ _ubtool_options() {
 # _ubtool_value WORD: if the word is an option with a value, what the value is, in `value`.
 _ubtool_value() {
     case $1 in
-        -c | --config | -i | --image | --second | --text | -s | --script | -d | --device-list) value='file' ;;
+        -c | --config | -i | --image | --second | --text | -s | --script | -d | --device-list | -o | --output) value='file' ;;
         -l | --lock) value='folder' ;;
         -b | --variable) value='name' ;;
-        --devices | --steps | --word | --failures | --after | --limit | --states) value='other' ;;
+        --devices | --steps | --word | --failures | --after | --limit | --states | --size | --fill) value='other' ;;
         --shell) value='listed profile old-2023.01 old-2025.01 old' ;;
         *) value='' ;;
     esac
@@ -75,11 +77,11 @@ _ubtool() {
     COMPREPLY=()
     case $last-${line[1]} in
         1-*)
-            mapfile -t COMPREPLY < <(compgen -W 'printenv setenv rehearse endings causes help version -h --help -V --version' -- "$word")
+            mapfile -t COMPREPLY < <(compgen -W 'printenv setenv rehearse endings causes image inspect help version -h --help -V --version' -- "$word")
             return
             ;;
         2-help)
-            mapfile -t COMPREPLY < <(compgen -W 'printenv setenv rehearse endings causes' -- "$word")
+            mapfile -t COMPREPLY < <(compgen -W 'printenv setenv rehearse endings causes image inspect' -- "$word")
             return
             ;;
         *) _ubtool_options "${line[1]}" ;;
@@ -89,6 +91,7 @@ _ubtool() {
         [ "${line[number]}" != -- ] || options=''
     done
     [ -z "$options" ] || _ubtool_value "${line[last - 1]}"
+    [[ ${line[1]} != image || -n $value || $word == -* ]] || value=file
     case $value in
         file)
             compopt -o filenames 2>/dev/null

@@ -47,23 +47,25 @@ complete -c ubtool -n __fish_use_subcommand -a setenv -d 'Set or delete variable
 complete -c ubtool -n __fish_use_subcommand -a rehearse -d 'List every run of a boot script'
 complete -c ubtool -n __fish_use_subcommand -a endings -d 'Tell how all runs of a boot script end'
 complete -c ubtool -n __fish_use_subcommand -a causes -d 'Tell what has to fail for each ending of a boot script'
+complete -c ubtool -n __fish_use_subcommand -a image -d 'Make an image of a text of variables'
+complete -c ubtool -n __fish_use_subcommand -a inspect -d 'Tell what a configuration or an image is'
 complete -c ubtool -n __fish_use_subcommand -a help -d 'Print help'
 complete -c ubtool -n __fish_use_subcommand -a version -d 'Print version'
-complete -c ubtool -n __ubtool_after_help -a 'printenv setenv rehearse endings causes'
+complete -c ubtool -n __ubtool_after_help -a 'printenv setenv rehearse endings causes image inspect'
 
 # options: completions
 # Whether the word is an option whose value comes after it.
 function __ubtool_takes_value
-    contains -- $argv[1] -c --config -i --image --second --text -l --lock -s --script -d --device-list -b --variable --devices --steps --shell --word --failures --after --limit --states
+    contains -- $argv[1] -c --config -i --image --second --text -l --lock -s --script -d --device-list -b --variable --devices --steps --shell --word --failures --after --limit --states --size --fill -o --output
 end
 
 complete -c ubtool -s h -l help -d 'Print help'
 complete -c ubtool -s V -l version -d 'Print version'
-complete -c ubtool -n '__fish_seen_subcommand_from printenv setenv rehearse endings causes' -s c -l config -r -F -d 'Configuration, at most 1048576 bytes'
-complete -c ubtool -n '__fish_seen_subcommand_from printenv setenv rehearse endings causes' -s i -l image -r -F -d 'Image, at most 1048576 bytes: the whole FILE, in place of -c'
-complete -c ubtool -n '__fish_seen_subcommand_from printenv setenv rehearse endings causes' -l second -r -F -d 'Second copy of a redundant pair, beside -i: the whole FILE'
+complete -c ubtool -n '__fish_seen_subcommand_from printenv setenv rehearse endings causes inspect' -s c -l config -r -F -d 'Configuration, at most 1048576 bytes'
+complete -c ubtool -n '__fish_seen_subcommand_from printenv setenv rehearse endings causes inspect' -s i -l image -r -F -d 'Image, at most 1048576 bytes: the whole FILE, in place of -c'
+complete -c ubtool -n '__fish_seen_subcommand_from printenv setenv rehearse endings causes inspect' -l second -r -F -d 'Second copy of a redundant pair, beside -i: the whole FILE'
 complete -c ubtool -n '__fish_seen_subcommand_from printenv rehearse endings causes' -l text -r -F -d 'Text for mkenvimage, at most 1048576 bytes, in place of -c'
-complete -c ubtool -n '__fish_seen_subcommand_from printenv setenv rehearse endings causes' -l big-endian -d 'The CRC is stored big-endian'
+complete -c ubtool -n '__fish_seen_subcommand_from printenv setenv rehearse endings causes image inspect' -l big-endian -d 'The CRC is stored big-endian'
 complete -c ubtool -n '__fish_seen_subcommand_from printenv' -s l -l lock -x -a '(__fish_complete_directories)' -d 'Wait for the lock file in DIR'
 complete -c ubtool -n '__fish_seen_subcommand_from setenv' -s l -l lock -x -a '(__fish_complete_directories)' -d 'Folder of the lock file'
 complete -c ubtool -n '__fish_seen_subcommand_from printenv setenv' -l one-copy -d 'If one copy of a pair cannot be read, use the other'
@@ -71,7 +73,8 @@ complete -c ubtool -n '__fish_seen_subcommand_from printenv' -s n -l noheader -d
 complete -c ubtool -n '__fish_seen_subcommand_from printenv' -s 0 -l null -d 'End each variable with a NUL byte'
 complete -c ubtool -n '__fish_seen_subcommand_from printenv' -l escaped -d 'Print newlines as \\n and other bytes by their digits'
 complete -c ubtool -n '__fish_seen_subcommand_from setenv' -s s -l script -r -F -d 'Script of changes, at most 1048576 bytes'
-complete -c ubtool -n '__fish_seen_subcommand_from rehearse endings causes' -s d -l device-list -r -F -d 'Device list, at most 1048576 bytes: a command that may fail a line'
+complete -c ubtool -n '__fish_seen_subcommand_from rehearse endings causes' -l script -r -F -d 'Script or script image, at most 1048576 bytes, in place of NAME'
+complete -c ubtool -n '__fish_seen_subcommand_from rehearse endings causes' -s d -l device-list -r -F -d 'Device list, or a folder of them, at most 1048576 bytes: a command that may fail a line'
 complete -c ubtool -n '__fish_seen_subcommand_from rehearse endings causes' -s b -l variable -x -a '(__ubtool_names)' -d 'Variable whose text is run'
 complete -c ubtool -n '__fish_seen_subcommand_from rehearse' -l devices -x -d 'At most N device commands a run, 0 to 32, with --word or --failures 3 to 1000'
 complete -c ubtool -n '__fish_seen_subcommand_from endings causes' -l devices -x -d 'At most N device commands a run, 0 to 1000'
@@ -86,7 +89,12 @@ complete -c ubtool -n '__fish_seen_subcommand_from rehearse' -l limit -x -d 'At 
 complete -c ubtool -n '__fish_seen_subcommand_from endings' -l states -x -d 'At most N states in all, 0 to 4294967295'
 complete -c ubtool -n '__fish_seen_subcommand_from endings' -l flow -d 'Write the states as a graph, a line each'
 complete -c ubtool -n '__fish_seen_subcommand_from causes' -l check -d 'Only what does not boot; status 1 if there is any'
+complete -c ubtool -n '__fish_seen_subcommand_from image' -l size -x -d 'Bytes of the image, at most 1048576'
+complete -c ubtool -n '__fish_seen_subcommand_from image' -l redundant -d 'A copy of a redundant pair, with a flag'
+complete -c ubtool -n '__fish_seen_subcommand_from image' -l fill -x -d 'What the free bytes are, 0 to 255 or 0x0 to 0xff'
+complete -c ubtool -n '__fish_seen_subcommand_from image' -s o -l output -r -F -d 'The new image; refused if there is such a file'
 # end
 
 complete -c ubtool -n '__fish_seen_subcommand_from printenv rehearse endings' -a '(__ubtool_names)' -d Variable
+complete -c ubtool -n '__fish_seen_subcommand_from image' -F
 complete -c ubtool -n __ubtool_setenv_first -a '(__ubtool_names)' -d Variable

@@ -53,8 +53,9 @@ _ubtool_options() {
                 '--second[Second copy of a redundant pair, beside -i\: the whole FILE]:file:_files'
                 '--text[Text for mkenvimage, at most 1048576 bytes, in place of -c]:file:_files'
                 '--big-endian[The CRC is stored big-endian]'
-                '(-d --device-list)'{-d,--device-list}'[Device list, at most 1048576 bytes\: a command that may fail a line]:file:_files'
+                '(-d --device-list)'{-d,--device-list}'[Device list, or a folder of them, at most 1048576 bytes\: a command that may fail a line]:file:_files'
                 '(-b --variable)'{-b,--variable}'[Variable whose text is run]:name:_ubtool_names'
+                '--script[Script or script image, at most 1048576 bytes, in place of NAME]:file:_files'
                 '--devices[At most N device commands a run, 0 to 32, with --word or --failures 3 to 1000]:n: '
                 '--steps[At most N steps (commands begun) a run, 0 to 1000000]:n: '
                 '--shell[The shell by whose rules the scripts run\: profile, old-2023.01, old-2025.01 or old]:name:(profile old-2023.01 old-2025.01 old)'
@@ -73,8 +74,9 @@ _ubtool_options() {
                 '--second[Second copy of a redundant pair, beside -i\: the whole FILE]:file:_files'
                 '--text[Text for mkenvimage, at most 1048576 bytes, in place of -c]:file:_files'
                 '--big-endian[The CRC is stored big-endian]'
-                '(-d --device-list)'{-d,--device-list}'[Device list, at most 1048576 bytes\: a command that may fail a line]:file:_files'
+                '(-d --device-list)'{-d,--device-list}'[Device list, or a folder of them, at most 1048576 bytes\: a command that may fail a line]:file:_files'
                 '(-b --variable)'{-b,--variable}'[Variable whose text is run]:name:_ubtool_names'
+                '--script[Script or script image, at most 1048576 bytes, in place of NAME]:file:_files'
                 '--devices[At most N device commands a run, 0 to 1000]:n: '
                 '--steps[At most N steps (commands begun) a run, 0 to 1000000]:n: '
                 '--shell[The shell by whose rules the scripts run\: profile, old-2023.01, old-2025.01 or old]:name:(profile old-2023.01 old-2025.01 old)'
@@ -91,13 +93,35 @@ _ubtool_options() {
                 '--second[Second copy of a redundant pair, beside -i\: the whole FILE]:file:_files'
                 '--text[Text for mkenvimage, at most 1048576 bytes, in place of -c]:file:_files'
                 '--big-endian[The CRC is stored big-endian]'
-                '(-d --device-list)'{-d,--device-list}'[Device list, at most 1048576 bytes\: a command that may fail a line]:file:_files'
+                '(-d --device-list)'{-d,--device-list}'[Device list, or a folder of them, at most 1048576 bytes\: a command that may fail a line]:file:_files'
                 '(-b --variable)'{-b,--variable}'[Variable whose text is run]:name:_ubtool_names'
+                '--script[Script or script image, at most 1048576 bytes, in place of NAME]:file:_files'
                 '--devices[At most N device commands a run, 0 to 1000]:n: '
                 '--steps[At most N steps (commands begun) a run, 0 to 1000000]:n: '
                 '--shell[The shell by whose rules the scripts run\: profile, old-2023.01, old-2025.01 or old]:name:(profile old-2023.01 old-2025.01 old)'
                 '--failures[The runs in which at most N device commands fail, 0 to 3]:n: '
                 '--check[Only what does not boot; status 1 if there is any]'
+                '(- *)'{-h,--help}'[Print help]'
+                '(- *)'{-V,--version}'[Print version]'
+            )
+            ;;
+        image)
+            specs=(
+                '--size[Bytes of the image, at most 1048576]:n: '
+                '--redundant[A copy of a redundant pair, with a flag]'
+                '--big-endian[The CRC is stored big-endian]'
+                '--fill[What the free bytes are, 0 to 255 or 0x0 to 0xff]:byte: '
+                '(-o --output)'{-o,--output}'[The new image; refused if there is such a file]:file:_files'
+                '(- *)'{-h,--help}'[Print help]'
+                '(- *)'{-V,--version}'[Print version]'
+            )
+            ;;
+        inspect)
+            specs=(
+                '(-c --config)'{-c,--config}'[Configuration, at most 1048576 bytes]:file:_files'
+                '(-i --image)'{-i,--image}'[Image, at most 1048576 bytes\: the whole FILE, in place of -c]:file:_files'
+                '--second[Second copy of a redundant pair, beside -i\: the whole FILE]:file:_files'
+                '--big-endian[The CRC is stored big-endian]'
                 '(- *)'{-h,--help}'[Print help]'
                 '(- *)'{-V,--version}'[Print version]'
             )
@@ -116,6 +140,8 @@ _ubtool() {
         'rehearse:list every run of a boot script'
         'endings:tell how all runs of a boot script end'
         'causes:tell what has to fail for each ending of a boot script'
+        'image:make an image of a text of variables'
+        'inspect:tell what a configuration or an image is'
     )
     words_alone=('help:print help' 'version:print version')
     _arguments -C '(- *)'{-h,--help}'[print help]' '(- *)'{-V,--version}'[print version]' \
@@ -128,7 +154,8 @@ _ubtool() {
             case $words[1] in
                 help) (( CURRENT != 2 )) || _describe -t commands command commands ;;
                 printenv|rehearse|endings) _arguments -S $specs '*: :_ubtool_names' ;;
-                causes) _arguments -S $specs ;;
+                causes|inspect) _arguments -S $specs ;;
+                image) _arguments -S $specs '1:file:_files' ;;
                 setenv) _arguments -S $specs '1: :_ubtool_names' '*:value: ' ;;
             esac
             ;;
