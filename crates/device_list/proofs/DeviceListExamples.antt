@@ -3,18 +3,18 @@ use Rattle.std.proofs.Common.{◌≡◌, true, false, [], ◌∷◌, ◌++◌, S
 use Rattle.std.specs.Prelude.{codes}
 use Rattle.text.specs.Lines.{Text}
 use Rattle.device_list.specs.Called.{sets_in}
-use Rattle.device_list.specs.DeviceList.{Variable, WordAt, LastWord, Effect, Devices, only, effect_of, listed}
+use Rattle.device_list.specs.DeviceList.{Variable, WordAt, LastWord, Literal, Effect, Devices, only, effect_of, listed}
 use Rattle.device_list.specs.PlainList.{plain_names}
 use Rattle.device_list.specs.declared.devices_error.DevicesError.TheVariants.{BadLine, BuiltIn, ByteOrderMark}
 
 abbrev quiet : Effect
-quiet = record { ends = false; stays = false; sets = [] }
+quiet = record { ends = false; stays = false; always = None; sets = [] }
 
 abbrev steady : Effect
-steady = record { ends = false; stays = true; sets = [] }
+steady = record { ends = false; stays = true; always = None; sets = [] }
 
 abbrev final : Effect
-final = record { ends = true; stays = false; sets = [] }
+final = record { ends = true; stays = false; always = None; sets = [] }
 
 -- ---- names, comments and empty lines
 
@@ -124,7 +124,7 @@ plain_built_in = refl
 command_final : listed (codes "final") ≡ Ok (only ((codes "final", quiet) ∷ []))
 command_final = refl
 
-final_sets : listed (codes "final a=b") ≡ Ok (only ((codes "final", record { ends = false; stays = false; sets = (Variable (codes "a"), codes "b") ∷ [] }) ∷ []))
+final_sets : listed (codes "final a=b") ≡ Ok (only ((codes "final", record { ends = false; stays = false; always = None; sets = (Variable (codes "a"), Literal (codes "b")) ∷ [] }) ∷ []))
 final_sets = refl
 
 x_is_final : listed (codes "final x") ≡ Ok (only ((codes "x", final) ∷ []))
@@ -133,7 +133,7 @@ x_is_final = refl
 final_is_final : listed (codes "final final") ≡ Ok (only ((codes "final", final) ∷ []))
 final_is_final = refl
 
-x_is_final_and_sets : listed (codes "final x a=1") ≡ Ok (only ((codes "x", record { ends = true; stays = false; sets = (Variable (codes "a"), codes "1") ∷ [] }) ∷ []))
+x_is_final_and_sets : listed (codes "final x a=1") ≡ Ok (only ((codes "x", record { ends = true; stays = false; always = None; sets = (Variable (codes "a"), Literal (codes "1")) ∷ [] }) ∷ []))
 x_is_final_and_sets = refl
 
 final_echo : listed (codes "final echo") ≡ Err (BuiltIn 1)
@@ -148,7 +148,7 @@ final_without_name = refl
 command_steady : listed (codes "steady") ≡ Ok (only ((codes "steady", quiet) ∷ []))
 command_steady = refl
 
-steady_sets : listed (codes "steady a=b") ≡ Ok (only ((codes "steady", record quiet { sets = (Variable (codes "a"), codes "b") ∷ [] }) ∷ []))
+steady_sets : listed (codes "steady a=b") ≡ Ok (only ((codes "steady", record quiet { sets = (Variable (codes "a"), Literal (codes "b")) ∷ [] }) ∷ []))
 steady_sets = refl
 
 x_is_steady : listed (codes "steady x") ≡ Ok (only ((codes "x", steady) ∷ []))
@@ -157,7 +157,7 @@ x_is_steady = refl
 steady_is_steady : listed (codes "steady steady") ≡ Ok (only ((codes "steady", steady) ∷ []))
 steady_is_steady = refl
 
-x_is_steady_and_sets : listed (codes "steady x a=1") ≡ Ok (only ((codes "x", record steady { sets = (Variable (codes "a"), codes "1") ∷ [] }) ∷ []))
+x_is_steady_and_sets : listed (codes "steady x a=1") ≡ Ok (only ((codes "x", record steady { sets = (Variable (codes "a"), Literal (codes "1")) ∷ [] }) ∷ []))
 x_is_steady_and_sets = refl
 
 -- `final` is before `steady`
@@ -167,7 +167,7 @@ x_is_both = refl
 other_order : listed (codes "steady final x") ≡ Err (BadLine 1)
 other_order = refl
 
-final_command_steady : listed (codes "final steady a=1") ≡ Ok (only ((codes "steady", record final { sets = (Variable (codes "a"), codes "1") ∷ [] }) ∷ []))
+final_command_steady : listed (codes "final steady a=1") ≡ Ok (only ((codes "steady", record final { sets = (Variable (codes "a"), Literal (codes "1")) ∷ [] }) ∷ []))
 final_command_steady = refl
 
 steady_echo : listed (codes "steady echo") ≡ Err (BuiltIn 1)
@@ -177,7 +177,7 @@ steady_without_name : listed (codes "steady =x") ≡ Err (BadLine 1)
 steady_without_name = refl
 
 -- of lines that are joined, one that is steady is enough
-steady_joined : listed (codes "load a=1\nsteady load\nload a=2") ≡ Ok (only ((codes "load", record steady { sets = (Variable (codes "a"), codes "1") ∷ (Variable (codes "a"), codes "2") ∷ [] }) ∷ []))
+steady_joined : listed (codes "load a=1\nsteady load\nload a=2") ≡ Ok (only ((codes "load", record steady { sets = (Variable (codes "a"), Literal (codes "1")) ∷ (Variable (codes "a"), Literal (codes "2")) ∷ [] }) ∷ []))
 steady_joined = refl
 
 -- `test -e`
@@ -199,10 +199,10 @@ final_steady_test = refl
 -- ---- settings
 
 -- lines of one name are joined
-joined_lines : listed (codes "load a=1\nfinal load\nload a=2") ≡ Ok (only ((codes "load", record { ends = true; stays = false; sets = (Variable (codes "a"), codes "1") ∷ (Variable (codes "a"), codes "2") ∷ [] }) ∷ []))
+joined_lines : listed (codes "load a=1\nfinal load\nload a=2") ≡ Ok (only ((codes "load", record { ends = true; stays = false; always = None; sets = (Variable (codes "a"), Literal (codes "1")) ∷ (Variable (codes "a"), Literal (codes "2")) ∷ [] }) ∷ []))
 joined_lines = refl
 
-boot_list : listed (codes "load filesize=1000\nfinal bootm\n") ≡ Ok (only ((codes "load", record { ends = false; stays = false; sets = (Variable (codes "filesize"), codes "1000") ∷ [] }) ∷ (codes "bootm", final) ∷ []))
+boot_list : listed (codes "load filesize=1000\nfinal bootm\n") ≡ Ok (only ((codes "load", record { ends = false; stays = false; always = None; sets = (Variable (codes "filesize"), Literal (codes "1000")) ∷ [] }) ∷ (codes "bootm", final) ∷ []))
 boot_list = refl
 
 word_without_equals : listed (codes "load x") ≡ Err (BadLine 1)
@@ -216,13 +216,13 @@ setting_with_dash = refl
 
 -- a name may hold a `-`, but not start with one
 name_with_dash : listed (codes "load fdt-file=1")
-    ≡ Ok (only ((codes "load", record { ends = false; stays = false; sets = (Variable (codes "fdt-file"), codes "1") ∷ [] }) ∷ []))
+    ≡ Ok (only ((codes "load", record { ends = false; stays = false; always = None; sets = (Variable (codes "fdt-file"), Literal (codes "1")) ∷ [] }) ∷ []))
 name_with_dash = refl
 
-empty_value : listed (codes "load a=") ≡ Ok (only ((codes "load", record { ends = false; stays = false; sets = (Variable (codes "a"), []) ∷ [] }) ∷ []))
+empty_value : listed (codes "load a=") ≡ Ok (only ((codes "load", record { ends = false; stays = false; always = None; sets = (Variable (codes "a"), Literal []) ∷ [] }) ∷ []))
 empty_value = refl
 
-first_equals : listed (codes "load\ta=b=c") ≡ Ok (only ((codes "load", record { ends = false; stays = false; sets = (Variable (codes "a"), codes "b=c") ∷ [] }) ∷ []))
+first_equals : listed (codes "load\ta=b=c") ≡ Ok (only ((codes "load", record { ends = false; stays = false; always = None; sets = (Variable (codes "a"), Literal (codes "b=c")) ∷ [] }) ∷ []))
 first_equals = refl
 
 name_with_equals : listed (codes "=x") ≡ Ok (only ((codes "=x", quiet) ∷ []))
@@ -241,16 +241,16 @@ first_fault = refl
 -- ---- the calls of a command
 
 abbrev sub_list : Text → Text → Effect → Devices
-sub_list name word effect = record { commands = []; subs = (name, (word, effect) ∷ []) ∷ []; known = []; test_stays = false }
+sub_list name word effect = record { commands = []; subs = (name, (word, effect) ∷ []) ∷ []; calls = []; known = []; test_stays = false }
 
 sub_line : listed (codes "sub part list") ≡ Ok (sub_list (codes "part") (codes "list") quiet)
 sub_line = refl
 
-final_sub_line : listed (codes "final sub mmc boot a=1") ≡ Ok (sub_list (codes "mmc") (codes "boot") (record { ends = true; stays = false; sets = (Variable (codes "a"), codes "1") ∷ [] }))
+final_sub_line : listed (codes "final sub mmc boot a=1") ≡ Ok (sub_list (codes "mmc") (codes "boot") (record { ends = true; stays = false; always = None; sets = (Variable (codes "a"), Literal (codes "1")) ∷ [] }))
 final_sub_line = refl
 
 -- the variable that a word of the call names
-sets_by_words : listed (codes "sub part list @last=1 @4= a@1=2") ≡ Ok (sub_list (codes "part") (codes "list") (record { ends = false; stays = false; sets = (LastWord, codes "1") ∷ (WordAt 3, []) ∷ (Variable (codes "a@1"), codes "2") ∷ [] }))
+sets_by_words : listed (codes "sub part list @last=1 @4= a@1=2") ≡ Ok (sub_list (codes "part") (codes "list") (record { ends = false; stays = false; always = None; sets = (LastWord, Literal (codes "1")) ∷ (WordAt 3, Literal []) ∷ (Variable (codes "a@1"), Literal (codes "2")) ∷ [] }))
 sets_by_words = refl
 
 -- `@` that names no word of the call
@@ -261,7 +261,7 @@ zeros_alone : listed (codes "sub part list @00=1") ≡ Err (BadLine 1)
 zeros_alone = refl
 
 -- zeros in front of the number change nothing
-zeros_in_front : listed (codes "sub part list @01=1 @0010=") ≡ Ok (sub_list (codes "part") (codes "list") (record quiet { sets = (WordAt 0, codes "1") ∷ (WordAt 9, []) ∷ [] }))
+zeros_in_front : listed (codes "sub part list @01=1 @0010=") ≡ Ok (sub_list (codes "part") (codes "list") (record quiet { sets = (WordAt 0, Literal (codes "1")) ∷ (WordAt 9, Literal []) ∷ [] }))
 zeros_in_front = refl
 
 no_number : listed (codes "sub part list @x=1") ≡ Err (BadLine 1)
@@ -274,13 +274,13 @@ no_word = refl
 command_sub : listed (codes "sub") ≡ Ok (only ((codes "sub", quiet) ∷ []))
 command_sub = refl
 
-command_sub_sets : listed (codes "sub a=1") ≡ Ok (only ((codes "sub", record { ends = false; stays = false; sets = (Variable (codes "a"), codes "1") ∷ [] }) ∷ []))
+command_sub_sets : listed (codes "sub a=1") ≡ Ok (only ((codes "sub", record { ends = false; stays = false; always = None; sets = (Variable (codes "a"), Literal (codes "1")) ∷ [] }) ∷ []))
 command_sub_sets = refl
 
 command_sub_is_final : listed (codes "final sub") ≡ Ok (only ((codes "sub", final) ∷ []))
 command_sub_is_final = refl
 
-at_in_a_line_of_names : listed (codes "load @1=x") ≡ Ok (only ((codes "load", record { ends = false; stays = false; sets = (Variable (codes "@1"), codes "x") ∷ [] }) ∷ []))
+at_in_a_line_of_names : listed (codes "load @1=x") ≡ Ok (only ((codes "load", record { ends = false; stays = false; always = None; sets = (Variable (codes "@1"), Literal (codes "x")) ∷ [] }) ∷ []))
 at_in_a_line_of_names = refl
 
 -- a second word that is no setting, in a line that is no `sub` line
@@ -297,7 +297,8 @@ sub_built_in = refl
 sub_lines_joined : listed (codes "sub part list a=1\npart\nfinal sub part list b=2\nsub part uuid")
     ≡ Ok (record {
       commands = (codes "part", quiet) ∷ [];
-      subs = (codes "part", (codes "list", record { ends = true; stays = false; sets = (Variable (codes "a"), codes "1") ∷ (Variable (codes "b"), codes "2") ∷ [] }) ∷ (codes "uuid", quiet) ∷ []) ∷ [];
+      subs = (codes "part", (codes "list", record { ends = true; stays = false; always = None; sets = (Variable (codes "a"), Literal (codes "1")) ∷ (Variable (codes "b"), Literal (codes "2")) ∷ [] }) ∷ (codes "uuid", quiet) ∷ []) ∷ [];
+      calls = [];
       known = [];
       test_stays = false;
     })
@@ -305,7 +306,7 @@ sub_lines_joined = refl
 
 -- ---- commands that are computed
 
-steady_sub_line : listed (codes "steady sub mmc boot a=1") ≡ Ok (sub_list (codes "mmc") (codes "boot") (record steady { sets = (Variable (codes "a"), codes "1") ∷ [] }))
+steady_sub_line : listed (codes "steady sub mmc boot a=1") ≡ Ok (sub_list (codes "mmc") (codes "boot") (record steady { sets = (Variable (codes "a"), Literal (codes "1")) ∷ [] }))
 steady_sub_line = refl
 
 final_steady_sub_line : listed (codes "final steady sub mmc boot") ≡ Ok (sub_list (codes "mmc") (codes "boot") (record steady { ends = true }))
@@ -318,7 +319,7 @@ known_once = refl
 known_line : listed (codes "known env\nknown itest\nknown setexpr") ≡ Ok (record (only []) { known = codes "env" ∷ codes "itest" ∷ codes "setexpr" ∷ [] })
 known_line = refl
 
-known_beside_its_lines : listed (codes "env\nknown env\nsub env default") ≡ Ok (record { commands = (codes "env", quiet) ∷ []; subs = (codes "env", (codes "default", quiet) ∷ []) ∷ []; known = codes "env" ∷ []; test_stays = false })
+known_beside_its_lines : listed (codes "env\nknown env\nsub env default") ≡ Ok (record { commands = (codes "env", quiet) ∷ []; subs = (codes "env", (codes "default", quiet) ∷ []) ∷ []; calls = []; known = codes "env" ∷ []; test_stays = false })
 known_beside_its_lines = refl
 
 -- no other command is computed, and a `known` line has nothing behind the name
@@ -338,13 +339,13 @@ known_final = refl
 command_known : listed (codes "known") ≡ Ok (only ((codes "known", quiet) ∷ []))
 command_known = refl
 
-command_known_sets : listed (codes "known env=1") ≡ Ok (only ((codes "known", record { ends = false; stays = false; sets = (Variable (codes "env"), codes "1") ∷ [] }) ∷ []))
+command_known_sets : listed (codes "known env=1") ≡ Ok (only ((codes "known", record { ends = false; stays = false; always = None; sets = (Variable (codes "env"), Literal (codes "1")) ∷ [] }) ∷ []))
 command_known_sets = refl
 
 -- ---- which lines decide for a call
 
 abbrev parts : Devices
-parts = record { commands = (codes "part", quiet) ∷ []; subs = (codes "part", (codes "list", final) ∷ []) ∷ (codes "mmc", (codes "dev", final) ∷ []) ∷ []; known = []; test_stays = false }
+parts = record { commands = (codes "part", quiet) ∷ []; subs = (codes "part", (codes "list", final) ∷ []) ∷ (codes "mmc", (codes "dev", final) ∷ []) ∷ []; calls = []; known = []; test_stays = false }
 
 by_its_sub_line : effect_of parts (codes "part") (codes "list" ∷ codes "mmc" ∷ []) ≡ Some final
 by_its_sub_line = refl
@@ -360,9 +361,9 @@ by_no_line = refl
 
 -- ---- what a call sets
 
-sets_the_last_word : sets_in (codes "list" ∷ codes "mmc" ∷ codes "v" ∷ []) ((LastWord, codes "1") ∷ (WordAt 0, codes "2") ∷ (Variable (codes "a"), []) ∷ []) ≡ (codes "v", codes "1") ∷ (codes "list", codes "2") ∷ (codes "a", []) ∷ []
+sets_the_last_word : sets_in (codes "list" ∷ codes "mmc" ∷ codes "v" ∷ []) ((LastWord, Literal (codes "1")) ∷ (WordAt 0, Literal (codes "2")) ∷ (Variable (codes "a"), Literal []) ∷ []) ≡ (codes "v", codes "1") ∷ (codes "list", codes "2") ∷ (codes "a", []) ∷ []
 sets_the_last_word = refl
 
 -- a word that the call does not have, or that is not the name of a variable
-sets_nothing : sets_in (codes "-v" ∷ codes "a=b" ∷ [] ∷ []) ((LastWord, codes "1") ∷ (WordAt 0, codes "2") ∷ (WordAt 1, codes "3") ∷ (WordAt 9, codes "4") ∷ []) ≡ []
+sets_nothing : sets_in (codes "-v" ∷ codes "a=b" ∷ [] ∷ []) ((LastWord, Literal (codes "1")) ∷ (WordAt 0, Literal (codes "2")) ∷ (WordAt 1, Literal (codes "3")) ∷ (WordAt 9, Literal (codes "4")) ∷ []) ≡ []
 sets_nothing = refl

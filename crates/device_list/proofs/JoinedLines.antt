@@ -14,8 +14,9 @@ use Rattle.text.specs.Lines.{numbered_lines}
 use Rattle.std.proofs.Math.Bool.{or-false}
 use Rattle.text.specs.Lines.{Text}
 use Rattle.text.specs.Words.{has_nul}
-use Rattle.device_list.specs.DeviceList.{Effect, Effects, Devices, DeviceLine, effect_at, changed_at, joint_behind, joined_behind, joined_by, joined, only, device_words, begins_comment, heading_of, line_of, known_named, with_known, is_steady_test, after_known, after_words, after_line, listed_lines}
-use Rattle.device_list.proofs.LineLemmas.{known_is_bad, test_is_built_in}
+use Rattle.device_list.specs.CallLines.{Call, call_said, is_call}
+use Rattle.device_list.specs.DeviceList.{Effect, Effects, Devices, DeviceLine, effect_at, changed_at, joint_behind, joined_behind, joined_by, joined, only, device_words, begins_comment, heading_of, line_of, known_named, with_known, is_steady_test, with_call, after_call, after_known, after_words, after_line, listed_lines}
+use Rattle.device_list.proofs.LineLemmas.{known_is_bad, test_is_built_in, calls_are_bad}
 use Rattle.device_list.specs.DeviceLaws.{line_said, with_said, lines_said, lines_at, same_word, whole_effect, LinesAreJoined}
 use Rattle.device_list.specs.declared.devices_error.DevicesError.{DevicesError}
 use Rattle.device_list.specs.declared.devices_error.DevicesError.TheVariants.{BadLine}
@@ -84,9 +85,9 @@ effect_at-joined_other devices name (Some u) key (Some v) more e =
 
 whole_effect-more : (before : List DeviceLine) (one : DeviceLine) → whole_effect (before ++ one ∷ []) ≡ Some (joint_behind one.effect (whole_effect before))
 whole_effect-more [] one =
-    ap (λ b. let e : Effect = record { ends = b; stays = one.effect.stays || false; sets = one.effect.sets ++ [] } in Some e) (or-false one.effect.ends)
-    ∙ ap (λ b. let e : Effect = record { ends = one.effect.ends; stays = b; sets = one.effect.sets ++ [] } in Some e) (or-false one.effect.stays)
-    ∙ ap (λ s. let e : Effect = record { ends = one.effect.ends; stays = one.effect.stays; sets = s } in Some e) (append-nil one.effect.sets)
+    ap (λ b. let e : Effect = record { ends = b; stays = one.effect.stays || false; always = one.effect.always; sets = one.effect.sets ++ [] } in Some e) (or-false one.effect.ends)
+    ∙ ap (λ b. let e : Effect = record { ends = one.effect.ends; stays = b; always = one.effect.always; sets = one.effect.sets ++ [] } in Some e) (or-false one.effect.stays)
+    ∙ ap (λ s. let e : Effect = record { ends = one.effect.ends; stays = one.effect.stays; always = one.effect.always; sets = s } in Some e) (append-nil one.effect.sets)
 whole_effect-more (l ∷ before) one =
     let ends : list_any (λ l. l.effect.ends) ((l ∷ before) ++ one ∷ []) ≡ (list_any (λ l. l.effect.ends) (l ∷ before) || one.effect.ends) =
     list_any-append (λ l. l.effect.ends) (l ∷ before) (one ∷ []) ∙ ap (λ b. list_any (λ l. l.effect.ends) (l ∷ before) || b) (or-false one.effect.ends) in
@@ -140,24 +141,35 @@ IsWhole-test : (devices : Devices) (before : List DeviceLine) → IsWhole device
 IsWhole-test devices before h name None = h name None
 IsWhole-test devices before h name (Some word) = h name (Some word)
 
+-- and after a line of calls
+IsWhole-call : (devices next : Devices) (before : List DeviceLine) (line : Result Call DevicesError) → after_call devices line ≡ Ok next → IsWhole devices before → IsWhole next (before ++ [])
+IsWhole-call devices next before (Err fault) e h = absurd (let f = e in cc)
+IsWhole-call devices next before (Ok call) e h = IsWhole-kept (with_call devices call) next before (ok-same e) same
+  where
+    same : IsWhole (with_call devices call) before
+    same name None = h name None
+    same name (Some word) = h name (Some word)
+
 -- one more line
 IsWhole-words : (devices next : Devices) (before : List DeviceLine) (number : ℕ) (line : Text) (words : List Text) → after_words devices number line words ≡ Ok next
     → IsWhole devices before → IsWhole next (before ++ with_said (line_said number words) [])
 IsWhole-words devices next before number line [] e h = IsWhole-kept devices next before (ok-same e) h
 IsWhole-words devices next before number line (first ∷ words) e h =
-    by (known_named first words) refl (is_steady_test first words) refl (begins_comment first) (has_nul line) (line_of number (heading_of first words)) refl e
+    by (known_named first words) refl (is_steady_test first words) refl (begins_comment first) (has_nul line) (is_call first words) refl (line_of number (heading_of first words)) refl e
   where
-    by : (o : Option Text) → known_named first words ≡ o → (test : Bool) → is_steady_test first words ≡ test → (comment nul : Bool) (r : Result DeviceLine DevicesError) → line_of number (heading_of first words) ≡ r
-        → cond comment (Ok devices) (cond nul (Err (BadLine number)) (after_known devices o test r)) ≡ Ok next
+    by : (o : Option Text) → known_named first words ≡ o → (test : Bool) → is_steady_test first words ≡ test → (comment nul call : Bool) → is_call first words ≡ call → (r : Result DeviceLine DevicesError) → line_of number (heading_of first words) ≡ r
+        → cond comment (Ok devices) (cond nul (Err (BadLine number)) (cond call (after_call devices (call_said number first words)) (after_known devices o test r))) ≡ Ok next
         → IsWhole next (before ++ with_said (cond comment None (result_ok r)) [])
-    by o is test at true nul r line_is e = IsWhole-kept devices next before (ok-same e) h
-    by o is test at false true r line_is e = cc
-    by None is false at false false (Err fault) line_is e = cc
-    by None is false at false false (Ok one) line_is e = IsWhole-next devices next before one (ok-same e) h
-    by None is true at false false (Err fault) line_is e = IsWhole-kept (record devices { test_stays = true }) next before (ok-same e) (IsWhole-test devices before h)
-    by None is true at false false (Ok one) line_is e = absurd (let bad = sym (test_is_built_in number first words at) ∙ line_is in cc)
-    by (Some name) is test at false false (Err fault) line_is e = IsWhole-kept (with_known devices name) next before (ok-same e) (IsWhole-known devices before name h)
-    by (Some name) is test at false false (Ok one) line_is e = absurd (let bad = sym (known_is_bad number first words name is) ∙ line_is in cc)
+    by o is test at true nul call called r line_is e = IsWhole-kept devices next before (ok-same e) h
+    by o is test at false true call called r line_is e = cc
+    by o is test at false false true called (Err fault) line_is e = IsWhole-call devices next before (call_said number first words) e h
+    by o is test at false false true called (Ok one) line_is e = absurd (let bad = sym (calls_are_bad number first words called) ∙ line_is in cc)
+    by None is false at false false false called (Err fault) line_is e = cc
+    by None is false at false false false called (Ok one) line_is e = IsWhole-next devices next before one (ok-same e) h
+    by None is true at false false false called (Err fault) line_is e = IsWhole-kept (record devices { test_stays = true }) next before (ok-same e) (IsWhole-test devices before h)
+    by None is true at false false false called (Ok one) line_is e = absurd (let bad = sym (test_is_built_in number first words at) ∙ line_is in cc)
+    by (Some name) is test at false false false called (Err fault) line_is e = IsWhole-kept (with_known devices name) next before (ok-same e) (IsWhole-known devices before name h)
+    by (Some name) is test at false false false called (Ok one) line_is e = absurd (let bad = sym (known_is_bad number first words name is) ∙ line_is in cc)
 
 with_said-append : (o : Option DeviceLine) (more : List DeviceLine) → with_said o [] ++ more ≡ with_said o more
 with_said-append None more = refl

@@ -1,8 +1,8 @@
 -- Worked examples, computed: what each kind of a line is, and lists that are read with some kinds alone.
-use Rattle.std.proofs.Common.{◌≡◌, true, [], ◌∷◌, Ok, Err, codes, map, refl}
-use Rattle.device_list.specs.DeviceList.{Variable, Devices, only}
+use Rattle.std.proofs.Common.{◌≡◌, true, false, Some, [], ◌∷◌, Ok, Err, codes, map, refl}
+use Rattle.device_list.specs.DeviceList.{Variable, Literal, Devices, only}
 use Rattle.device_list.specs.DeviceLaws.{quiet}
-use Rattle.device_list.specs.Kinds.{Final, Steady, Sub, Settings, Known, kinds_of, listed_among}
+use Rattle.device_list.specs.Kinds.{Final, Steady, Sub, Settings, Known, Calls, kinds_of, listed_among}
 use Rattle.device_list.specs.declared.devices_error.DevicesError.TheVariants.{BadLine, BuiltIn, ByteOrderMark}
 
 -- ---- a name alone
@@ -60,7 +60,7 @@ sub_left_out = refl
 settings_used : kinds_of (codes "load a=1 b=") ≡ Settings ∷ []
 settings_used = refl
 
-settings_say : listed_among (Settings ∷ []) (codes "load a=1 b=") ≡ Ok (only ((codes "load", record quiet { sets = (Variable (codes "a"), codes "1") ∷ (Variable (codes "b"), []) ∷ [] }) ∷ []))
+settings_say : listed_among (Settings ∷ []) (codes "load a=1 b=") ≡ Ok (only ((codes "load", record quiet { sets = (Variable (codes "a"), Literal (codes "1")) ∷ (Variable (codes "b"), Literal []) ∷ [] }) ∷ []))
 settings_say = refl
 
 settings_left_out : listed_among (Final ∷ Steady ∷ Sub ∷ Known ∷ []) (codes "load\nload a=1") ≡ Err (BadLine 2)
@@ -108,3 +108,14 @@ refused_bad_line = refl
 
 refused_mark : listed_among [] (239 ∷ 187 ∷ 191 ∷ codes "load") ≡ Err ByteOrderMark
 refused_mark = refl
+
+-- ---- `call` and `absent`
+
+calls_use : map kinds_of (codes "call load * : final steady a=1" ∷ codes "absent load" ∷ codes "call a=1" ∷ []) ≡ (Calls ∷ []) ∷ (Calls ∷ []) ∷ (Settings ∷ []) ∷ []
+calls_use = refl
+
+calls_say : listed_among (Calls ∷ []) (codes "call load : always 0") ≡ Ok (record (only []) { calls = (codes "load", (record { words = []; more = false }, record quiet { always = Some true }) ∷ []) ∷ [] })
+calls_say = refl
+
+calls_left_out : map (listed_among (Final ∷ Steady ∷ Sub ∷ Settings ∷ Known ∷ [])) (codes "load\ncall load : a=1" ∷ codes "load\nabsent load" ∷ []) ≡ Err (BadLine 2) ∷ Err (BadLine 2) ∷ []
+calls_left_out = refl

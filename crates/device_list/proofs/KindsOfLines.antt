@@ -8,11 +8,12 @@ use Rattle.std.specs.Str.{bytes_eq}
 use Rattle.text.specs.Lines.{numbered_lines}
 use Rattle.text.specs.Words.{has_nul, is_equals}
 use Rattle.text.specs.Lines.{Text}
-use Rattle.device_list.specs.DeviceList.{Devices, DeviceLine, Heading, named, call_of, steady_of, heading_of, line_of, with_line, with_known, known_named, is_steady_test, after_known, device_words, begins_comment, after_words, after_line, only, is_marked, listed_lines}
-use Rattle.device_list.specs.Kinds.{Kind, Settings, Final, Sub, Known, Steady, every_kind, has, has_words, uses, kinds_said, uses_only, call_among, steady_among, heading_among, said_among, words_among, line_among, lines_among, LinesGoByKinds, ListsGoByKinds, FurtherKindsChangeNothing, KindsAreAll}
+use Rattle.device_list.specs.CallLines.{call_said, is_call}
+use Rattle.device_list.specs.DeviceList.{Devices, DeviceLine, Heading, named, call_of, steady_of, heading_of, line_of, with_line, after_call, with_known, known_named, is_steady_test, after_known, device_words, begins_comment, after_words, after_line, only, is_marked, listed_lines}
+use Rattle.device_list.specs.Kinds.{Kind, Settings, Final, Sub, Known, Steady, Calls, every_kind, has, has_words, uses, kinds_said, uses_only, call_among, steady_among, heading_among, said_among, words_among, line_among, lines_among, LinesGoByKinds, ListsGoByKinds, FurtherKindsChangeNothing, KindsAreAll}
 use Rattle.device_list.specs.declared.devices_error.DevicesError.{DevicesError}
 use Rattle.device_list.specs.declared.devices_error.DevicesError.TheVariants.{BadLine, ByteOrderMark}
-use Rattle.device_list.proofs.LineLemmas.{named_is_bad, steady_is_bad, final_is_bad, known_is_bad, known_is_no_test, test_is}
+use Rattle.device_list.proofs.LineLemmas.{named_is_bad, steady_is_bad, final_is_bad, known_is_bad, known_is_no_test, test_is, calls_are_bad, calls_are_not_known, calls_are_no_test}
 
 either : {A : Type 0} (b : Bool) (x : A) → cond b x x ≡ x
 either true x = refl
@@ -70,9 +71,9 @@ module _ (kinds : List Kind) where
 
   all-kinds : (h : Heading) → list_all (has kinds) (filter (uses h) every_kind) ≡ fits h
   all-kinds h =
-      all-if h.ends Final (filter (uses h) (Steady ∷ Sub ∷ Settings ∷ Known ∷ []))
-      ∙ ap (λ b. allowed h.ends Final && b) (all-if h.stays Steady (filter (uses h) (Sub ∷ Settings ∷ Known ∷ []))
-      ∙ ap (λ b. allowed h.stays Steady && b) (all-if (is_some h.word) Sub (filter (uses h) (Settings ∷ Known ∷ []))
+      all-if h.ends Final (filter (uses h) (Steady ∷ Sub ∷ Settings ∷ Known ∷ Calls ∷ []))
+      ∙ ap (λ b. allowed h.ends Final && b) (all-if h.stays Steady (filter (uses h) (Sub ∷ Settings ∷ Known ∷ Calls ∷ []))
+      ∙ ap (λ b. allowed h.stays Steady && b) (all-if (is_some h.word) Sub (filter (uses h) (Settings ∷ Known ∷ Calls ∷ []))
       ∙ ap (λ b. allowed (is_some h.word) Sub && b) (all-if (has_words h) Settings [] ∙ and-true (allowed (has_words h) Settings))))
 
   -- ---- one line
@@ -223,21 +224,67 @@ module _ (kinds : List Kind) where
         by true false e = ap (with_line devices) (unread e)
         by false false e = ap (with_line devices) (unread e)
 
+    -- what a line comes to that is not one of calls
+    abbrev read_other : (first : Text) → List Text → Result Devices DevicesError
+    read_other first words = after_known devices (cond (has kinds Known) (known_named first words) None) (has kinds Steady && is_steady_test first words) (said first words)
+
+    abbrev calls_of : (first : Text) → List Text → Result Devices DevicesError
+    calls_of first words = after_call devices (call_said number first words)
+
+    -- a line of calls
+    calls-kinds : (first : Text) (words : List Text) → is_call first words ≡ true → cond (has kinds Calls && true) (calls_of first words) (read_other first words) ≡ cond (has kinds Calls && true) (calls_of first words) refused
+    calls-kinds first words at = by (has kinds Calls)
+      where
+        unread : said first words ≡ Err (BadLine number)
+        unread = heading-kinds number first words ∙ read-bad number (fits (heading_of first words)) (heading_of first words) (calls_are_bad number first words at)
+
+        other : read_other first words ≡ refused
+        other =
+            (λ i. after_known devices (cond (has kinds Known) (calls_are_not_known first words at i) None) (has kinds Steady && calls_are_no_test first words at i) (said first words))
+            ∙ named-after first words (has kinds Known) (has kinds Steady)
+            ∙ ap (with_line devices) unread
+
+        by : (k : Bool) → cond (k && true) (calls_of first words) (read_other first words) ≡ cond (k && true) (calls_of first words) refused
+        by true = refl
+        by false = other
+
+    -- a line of another kind
+    other-kinds : (first : Text) (words : List Text) → read_other first words
+        ≡ cond (list_all (has kinds) (cond (is_some (known_named first words)) (Known ∷ []) (filter (uses (heading_of first words)) every_kind)))
+        (after_known devices (known_named first words) (is_steady_test first words) (line_of number (heading_of first words))) refused
+    other-kinds first words = by (known_named first words) refl (is_steady_test first words) refl
+      where
+        by : (o : Option Text) → known_named first words ≡ o → (test : Bool) → is_steady_test first words ≡ test
+            → after_known devices (cond (has kinds Known) o None) (has kinds Steady && test) (said first words)
+            ≡ cond (list_all (has kinds) (cond (is_some o) (Known ∷ []) (filter (uses (heading_of first words)) every_kind)))
+            (after_known devices o test (line_of number (heading_of first words))) refused
+        by (Some name) is true at = absurd (let f = sym (known_is_no_test first words name is) ∙ at in cc)
+        by (Some name) is false at = known-kinds first words name is
+        by None is true at = test-kinds first words at
+        by None is false at = command-kinds first words
+
+    -- the kinds of a line that is no comment
+    abbrev kinds_here : (call : Bool) → (first : Text) → List Text → List Kind
+    kinds_here call first words = cond call (Calls ∷ []) (cond (is_some (known_named first words)) (Known ∷ []) (filter (uses (heading_of first words)) every_kind))
+
+    abbrev read_here : (call : Bool) → (first : Text) → List Text → Result Devices DevicesError
+    read_here call first words = cond call (calls_of first words) (after_known devices (known_named first words) (is_steady_test first words) (line_of number (heading_of first words)))
+
     words-kinds : (line : Text) (words : List Text) → words_among kinds devices number line words ≡ cond (list_all (has kinds) (kinds_said words)) (after_words devices number line words) refused
     words-kinds line [] = refl
-    words-kinds line (first ∷ words) =
-        by (begins_comment first) (has_nul line) (known_named first words) refl (is_steady_test first words) refl
+    words-kinds line (first ∷ words) = by (begins_comment first) (has_nul line) (is_call first words) refl
       where
-        by : (comment nul : Bool) (o : Option Text) → known_named first words ≡ o → (test : Bool) → is_steady_test first words ≡ test
-            → cond comment (Ok devices) (cond nul refused (after_known devices (cond (has kinds Known) o None) (has kinds Steady && test) (said first words)))
-            ≡ cond (list_all (has kinds) (cond comment [] (cond (is_some o) (Known ∷ []) (filter (uses (heading_of first words)) every_kind))))
-            (cond comment (Ok devices) (cond nul refused (after_known devices o test (line_of number (heading_of first words))))) refused
-        by true nul o is test at = refl
-        by false true o is test at = sym (either (list_all (has kinds) (cond (is_some o) (Known ∷ []) (filter (uses (heading_of first words)) every_kind))) refused)
-        by false false (Some name) is true at = absurd (let f = sym (known_is_no_test first words name is) ∙ at in cc)
-        by false false (Some name) is false at = known-kinds first words name is
-        by false false None is true at = test-kinds first words at
-        by false false None is false at = command-kinds first words
+        no_call : (k : Bool) → cond (k && false) (calls_of first words) (read_other first words) ≡ read_other first words
+        no_call true = refl
+        no_call false = refl
+
+        by : (comment nul call : Bool) → is_call first words ≡ call
+            → cond comment (Ok devices) (cond nul refused (cond (has kinds Calls && call) (calls_of first words) (read_other first words)))
+            ≡ cond (list_all (has kinds) (cond comment [] (kinds_here call first words))) (cond comment (Ok devices) (cond nul refused (read_here call first words))) refused
+        by true nul call at = refl
+        by false true call at = sym (either (list_all (has kinds) (kinds_here call first words)) refused)
+        by false false true at = calls-kinds first words at
+        by false false false at = no_call (has kinds Calls) ∙ other-kinds first words
 
 pub lines_go_by_kinds : LinesGoByKinds
 lines_go_by_kinds kinds devices number line = words-kinds kinds devices number line (device_words line)
@@ -295,6 +342,7 @@ is_kind Final = refl
 is_kind Sub = refl
 is_kind Known = refl
 is_kind Steady = refl
+is_kind Calls = refl
 
 are_kinds : (kinds : List Kind) → list_all (has every_kind) kinds ≡ true
 are_kinds [] = refl

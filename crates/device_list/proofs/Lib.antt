@@ -2,6 +2,7 @@ pub mod DeviceLemmas
 mod DeviceListExamples
 mod KindExamples
 mod CalledExamples
+mod CallExamples
 pub mod MarkLemmas
 pub mod LineLemmas
 pub mod KindsOfLines
@@ -11,3 +12,5 @@ pub mod MapLemmas
 pub mod PlaceLemmas
 pub mod QuietNames
 pub mod PlainLists
+pub mod SteadyLemmas
+pub mod WordLemmas

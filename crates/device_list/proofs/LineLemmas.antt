@@ -1,5 +1,5 @@
 -- Lines that name no command, though their words begin as those of one.
-use Rattle.std.proofs.Common.{◌≡◌, ℕ, ◌+◌, take, drop, ◌&&◌, Bool, true, false, List, [], ◌∷◌, Option, Some, None, Err, codes, refl, sym, ap, ◌∙◌, inl, inr}
+use Rattle.std.proofs.Common.{◌≡◌, ℕ, ◌+◌, take, drop, ◌&&◌, ◌||◌, not, ◌⊎◌, Bool, true, false, List, [], ◌∷◌, Option, Some, None, Err, codes, cond, refl, sym, ap, ◌∙◌, inl, inr}
 use Rattle.std.proofs.lemmas.Bool.{cases_Bool, and_parts}
 use Rattle.std.proofs.lemmas.List.Folds.{list_any_at}
 use Rattle.std.proofs.lemmas.List.Quantifiers.{position-Some}
@@ -10,8 +10,13 @@ use Rattle.std.specs.Str.{bytes_eq}
 use Rattle.text.specs.Words.{is_equals}
 use Rattle.text.specs.Lines.{Text}
 use Rattle.commands.specs.KnownCommands.{known_of}
-use Rattle.device_list.specs.DeviceList.{Setting, named, call_of, steady_of, heading_of, settings, setting, left_side, line_with, line_of, known_named, is_steady_test}
+use Rattle.device_list.specs.CallLines.{is_colon, is_lone, is_call}
+use Rattle.device_list.specs.DeviceList.{Setting, Literal, named, call_of, steady_of, heading_of, settings, setting, left_side, line_with, line_of, known_named, is_steady_test}
 use Rattle.device_list.specs.declared.devices_error.DevicesError.TheVariants.{BadLine, BuiltIn}
+
+is_false : (b : Bool) → not b ≡ true → b ≡ false
+is_false true f = absurd (let g = f in cc)
+is_false false f = refl
 
 -- ---- a word without `=` is not a setting
 
@@ -28,7 +33,7 @@ not_found test bytes none = by (position test bytes) refl
 no_settings : (second : Text) (words : List Text) → list_any is_equals second ≡ false → settings false (second ∷ words) ≡ None
 no_settings second words none =
     let gone : setting false second ≡ None =
-    ap (λ (o : Option ℕ). let r : Option Setting = elim o [ None ↦ None | Some at ↦ option_map (λ left. (left, drop (at + 1) second)) (left_side false (take at second)) ] in r) (not_found is_equals second none) in
+    ap (λ (o : Option ℕ). let r : Option Setting = elim o [ None ↦ None | Some at ↦ option_map (λ left. (left, Literal (drop (at + 1) second))) (left_side false (take at second)) ] in r) (not_found is_equals second none) in
     ap (λ (o : Option Setting). let r : Option (List Setting) = elim o [ None ↦ None | Some one ↦ option_map (λ more. one ∷ more) (settings false words) ] in r) gone
 
 module _ (number : ℕ) where
@@ -102,3 +107,79 @@ test_is_built_in number first words e =
     let t = test_is first words e in
     let built_in : line_of number (heading_of (codes "steady") (codes "test" ∷ [])) ≡ Err (BuiltIn number) = refl in
     (λ i. line_of number (heading_of (t.0 i) (t.1 i))) ∙ built_in
+
+-- ---- a line of calls names no command, though it might without the lines of calls
+
+-- words of which one is `:` are no settings
+colon_sets : (words : List Text) → list_any is_colon words ≡ true → settings false words ≡ None
+colon_sets [] e = absurd (let f = e in cc)
+colon_sets (word ∷ words) e =
+    elim (cases_Bool (is_colon word)) [
+      | inl here ↦
+          let is : word ≡ codes ":" = (bytes_decides word (codes ":")).0 here in
+          let none : settings false (codes ":" ∷ words) ≡ None = refl in
+          (λ i. settings false (is i ∷ words)) ∙ none
+      | inr other ↦ by (setting false word) (colon_sets words (sym (ap (λ (b : Bool). b || list_any is_colon words) other) ∙ e))
+    ]
+  where
+    by : (o : Option Setting) → settings false words ≡ None
+        → ◌≡◌ {A = Option (List Setting)} (elim o [ None ↦ None | Some first ↦ option_map (λ more. first ∷ more) (settings false words) ]) None
+    by None rest = refl
+    by (Some first) rest = ap (λ (r : Option (List Setting)). option_map (λ more. first ∷ more) r) rest
+
+-- what a line of calls is
+abbrev IsCallLine : Text → List Text → Type 0
+IsCallLine first words = (first ≡ codes "call") × (list_any is_colon words ≡ true)
+
+abbrev IsAbsentLine : Text → List Text → Type 0
+IsAbsentLine first words = (first ≡ codes "absent") × ((name : Text) × ((words ≡ name ∷ []) × (list_any is_equals name ≡ false)))
+
+call_is : (first : Text) (words : List Text) → is_call first words ≡ true → IsCallLine first words ⊎ IsAbsentLine first words
+call_is first [] e = absurd (let f = e in cc)
+call_is first (word ∷ words) e = by (bytes_eq first (codes "call")) refl e
+  where
+    lone : (ws : List Text) → is_lone word ws ≡ true → (name : Text) × ((word ∷ ws ≡ name ∷ []) × (list_any is_equals name ≡ false))
+    lone [] f = (word, (refl, is_false (list_any is_equals word) f))
+    lone (w ∷ ws) f = absurd (let g = f in cc)
+
+    by : (b : Bool) → bytes_eq first (codes "call") ≡ b → cond b (list_any is_colon (word ∷ words)) (bytes_eq first (codes "absent") && is_lone word words) ≡ true
+        → IsCallLine first (word ∷ words) ⊎ IsAbsentLine first (word ∷ words)
+    by true is f = inl ((bytes_decides first (codes "call")).0 is, f)
+    by false is f =
+        let both = and_parts (bytes_eq first (codes "absent")) (is_lone word words) f in
+        inr ((bytes_decides first (codes "absent")).0 both.0, lone words both.1)
+
+call_heading : (words : List Text) → heading_of (codes "call") words ≡ named false false (codes "call") words
+call_heading [] = refl
+call_heading (word ∷ []) = refl
+call_heading (word ∷ second ∷ words) = refl
+
+pub calls_are_bad : (number : ℕ) (first : Text) (words : List Text) → is_call first words ≡ true → line_of number (heading_of first words) ≡ Err (BadLine number)
+calls_are_bad number first words e =
+    elim (call_is first words e) [
+      | inl call ↦
+          (λ i. line_of number (heading_of (call.0 i) words))
+          ∙ ap (line_of number) (call_heading words)
+          ∙ ap (line_with number (named false false (codes "call") words)) (colon_sets words call.1)
+      | inr absent ↦
+          let bad : line_of number (heading_of (codes "absent") (absent.1.0 ∷ [])) ≡ Err (BadLine number) = named_is_bad number false false (codes "absent") absent.1.0 [] absent.1.1.1 in
+          (λ i. line_of number (heading_of (absent.0 i) (absent.1.1.0 i))) ∙ bad
+    ]
+
+pub calls_are_not_known : (first : Text) (words : List Text) → is_call first words ≡ true → known_named first words ≡ None
+calls_are_not_known first words e =
+    elim (call_is first words e) [ inl call ↦ (λ i. known_named (call.0 i) words) ∙ none (codes "call") words refl | inr absent ↦ (λ i. known_named (absent.0 i) words) ∙ none (codes "absent") words refl ]
+  where
+    none : (name : Text) (ws : List Text) → bytes_eq name (codes "known") ≡ false → known_named name ws ≡ None
+    none name [] f = refl
+    none name (w ∷ []) f = rw f refl
+    none name (v ∷ w ∷ ws) f = refl
+
+pub calls_are_no_test : (first : Text) (words : List Text) → is_call first words ≡ true → is_steady_test first words ≡ false
+calls_are_no_test first words e =
+    elim (call_is first words e) [ inl call ↦ (λ i. is_steady_test (call.0 i) words) ∙ no (codes "call") words refl | inr absent ↦ (λ i. is_steady_test (absent.0 i) words) ∙ no (codes "absent") words refl ]
+  where
+    no : (name : Text) (ws : List Text) → bytes_eq name (codes "steady") ≡ false → is_steady_test name ws ≡ false
+    no name [] f = refl
+    no name (w ∷ []) f = rw f refl
+    no name (v ∷ w ∷ ws) f = refl

@@ -5,12 +5,12 @@ use Rattle.std.specs.Borrow.{Bor}
 use Rattle.std.specs.Str.{bytes_eq}
 use Rattle.std.specs.Map.{lookup, set_value}
 use Rattle.std.proofs.lemmas.List.{map-append}
-use Rattle.indexmap.specs.IndexMap.{IndexMap, insert_entry}
+use Rattle.indexmap.specs.IndexMap.{insert_entry}
 use Rattle.text.specs.Lines.{Text}
-use Rattle.device_list.specs.DeviceList.{Devices, is_listed, joint, changed_at}
+use Rattle.device_list.specs.DeviceList.{joint, changed_at}
 use Rattle.device_list.specs.DevicesShown.{Bytes, setting_shown}
-use Rattle.device_list.specs.CommandsShown.{listed_shown, found_shown, commands_shown, table_shown, subs_shown}
-use Rattle.device_list.specs.declared.device_tables.Listed.{Listed}
+use Rattle.device_list.specs.CommandsShown.{listed_shown, found_shown}
+use Rattle.device_list.specs.declared.listed.Listed.{Listed}
 
 abbrev pub is_key : Text → Bytes → Bool
 is_key name key = bytes_eq name key.items
@@ -75,15 +75,10 @@ module _ {V S : Type 0} (shown : V → S) where
       ap table inserted ∙ (changed-absent change es k w absent e ∙ ap (changed_at change (table es)) key)
 
 -- one more line for what is listed
-pub listed-joined : (l w more : Listed) → w.ends ≡ (l.ends || more.ends) → w.stays ≡ (l.stays || more.stays) → w.sets.items ≡ l.sets.items ++ more.sets.items → listed_shown w ≡ joint (listed_shown l) (listed_shown more)
-listed-joined l w more ends stays sets =
+pub listed-joined : (l w more : Listed) → w.ends ≡ (l.ends || more.ends) → w.stays ≡ (l.stays || more.stays) → w.always ≡ l.always → w.sets.items ≡ l.sets.items ++ more.sets.items → listed_shown w ≡ joint (listed_shown l) (listed_shown more)
+listed-joined l w more ends stays always sets =
     let shown : map setting_shown w.sets.items ≡ map setting_shown l.sets.items ++ map setting_shown more.sets.items = ap (map setting_shown) sets ∙ map-append setting_shown l.sets.items more.sets.items in cc
 
--- whether one of the maps has a name
-pub has-either : {S : Type 0} (commands : List (Bytes × Listed)) (subs : List (Bytes × IndexMap Bytes Listed S)) (known : List Text) (test : Bool) (name : Text) (devices : Devices)
-    → (let d : Devices = record { commands = commands_shown commands; subs = subs_shown subs; known = known; test_stays = test } in d) ≡ devices
-    → (a b : Bool) → a ≡ is_some (lookup (is_key name) commands) → b ≡ is_some (lookup (is_key name) subs) → (a || b) ≡ is_listed devices name
-has-either commands subs known test name devices view a b here there =
-    let first = ap is_some (looked_up listed_shown commands name _ refl) ∙ is_some-shown listed_shown (lookup (is_key name) commands) in
-    let second = ap is_some (looked_up table_shown subs name _ refl) ∙ is_some-shown table_shown (lookup (is_key name) subs) in
-    (λ i. (here ∙ sym first) i || (there ∙ sym second) i) ∙ ap (λ d. is_listed d name) view
+-- whether a map has a name
+pub has-name : {V S : Type 0} (shown : V → S) (es : List (Bytes × V)) (name : Text) (b : Bool) → b ≡ is_some (lookup (is_key name) es) → b ≡ is_some (lookup (bytes_eq name) (table shown es))
+has-name shown es name b here = here ∙ sym (ap is_some (looked_up shown es name _ refl) ∙ is_some-shown shown (lookup (is_key name) es))

@@ -9,9 +9,9 @@ use Rattle.std.proofs.lemmas.List.Elements.{All-nil, All-cons, All-head, All-tai
 use Rattle.std.proofs.lemmas.Slice.Eq.{bytes_eq-Decides}
 use Rattle.indexmap.specs.IndexMap.{insert_entry}
 use Rattle.text.specs.Lines.{Text}
-use Rattle.device_list.specs.DeviceList.{Effect, Effects, Devices, effect_in, sub_effect, effect_of}
+use Rattle.device_list.specs.DeviceList.{Pattern, Effect, Effects, Devices, effect_in, sub_effect, call_effect, line_effect, effect_of, first_fitting}
 use Rattle.device_list.specs.DevicesShown.{Bytes}
-use Rattle.device_list.specs.NamedPlaces.{at_place, IsPlaced, placed_sub, placed_effect}
+use Rattle.device_list.specs.NamedPlaces.{at_place, IsPlaced, placed_sub, placed_call, placed_line, placed_effect}
 use Rattle.device_list.specs.declared.device_tables.Places.{Places}
 use Rattle.device_list.proofs.MapLemmas.{is_key, same_key, table, looked_up}
 
@@ -62,12 +62,28 @@ named-at devices es i k places all e =
     (All-get_or (Named devices) es i (k, places) (slice_get_within es i (k, places) e) all)
 
 -- what is at the places of a name is what a look-up of the name finds
-pub placed-effect : (devices : Devices) (name : Text) (places : Places) (words : List Text) → IsPlaced devices name places → placed_effect devices places words ≡ effect_of devices name words
-placed-effect devices name places words there =
-    ap (λ (o : Option Effects). elim (placed_sub o words) [ Some effect ↦ Some effect | None ↦ at_place devices.commands places.command ]) there.1
-    ∙ (ap (λ (o : Option Effect). elim (placed_sub (lookup (bytes_eq name) devices.subs) words) [ Some effect ↦ Some effect | None ↦ o ]) there.0
-    ∙ ap (λ (o : Option Effect). elim o [ Some effect ↦ Some effect | None ↦ effect_in devices.commands name ]) (by words))
+module _ (devices : Devices) (name : Text) (places : Places) (words : List Text) (there : IsPlaced devices name places) where
+  placed-line : placed_line devices places words ≡ line_effect devices name words
+  placed-line =
+      ap (λ (o : Option Effects). elim (placed_sub o words) [ Some effect ↦ Some effect | None ↦ at_place devices.commands places.command ]) there.1.0
+      ∙ (ap (λ (o : Option Effect). elim (placed_sub (lookup (bytes_eq name) devices.subs) words) [ Some effect ↦ Some effect | None ↦ o ]) there.0
+      ∙ ap (λ (o : Option Effect). elim o [ Some effect ↦ Some effect | None ↦ effect_in devices.commands name ]) (by words))
+    where
+      by : (ws : List Text) → placed_sub (lookup (bytes_eq name) devices.subs) ws ≡ sub_effect devices name ws
+      by [] = refl
+      by (w ∷ ws) = refl
+
+  pub placed-effect : placed_effect devices places words ≡ effect_of devices name words
+  placed-effect =
+      ap (λ (o : Option (List (Pattern × Effect))). elim (placed_call o words) [ Some effect ↦ Some effect | None ↦ placed_line devices places words ]) there.1.1
+      ∙ ap (λ (o : Option Effect). elim (call_effect devices name words) [ Some effect ↦ Some effect | None ↦ o ]) placed-line
+
+-- without lines of calls, the other lines decide
+pub without_calls : (devices : Devices) (name : Text) (words : List Text) → devices.calls ≡ [] → effect_of devices name words ≡ line_effect devices name words
+without_calls devices name words e = ap (λ (calls : List (Text × List (Pattern × Effect))). decide (said (lookup (bytes_eq name) calls))) e
   where
-    by : (ws : List Text) → placed_sub (lookup (bytes_eq name) devices.subs) ws ≡ sub_effect devices name ws
-    by [] = refl
-    by (w ∷ ws) = refl
+    said : Option (List (Pattern × Effect)) → Option Effect
+    said o = elim o [ None ↦ None | Some lines ↦ first_fitting lines words ]
+
+    decide : Option Effect → Option Effect
+    decide o = elim o [ Some effect ↦ Some effect | None ↦ line_effect devices name words ]

@@ -8,19 +8,20 @@ use Rattle.text.specs.Lines.{numbered_lines}
 use Rattle.text.specs.Lines.{Text}
 use Rattle.text.specs.Words.{has_nul}
 use Rattle.builtins.specs.Builtins.{is_built_in}
-use Rattle.device_list.specs.DeviceList.{Effect, Effects, Devices, effect_in, effect_of, joint, joined_in, only, device_words, begins_comment, with_line, after_words, after_line, listed_lines}
+use Rattle.device_list.specs.DeviceList.{Effect, Effects, Devices, effect_in, line_effect, effect_of, joint, joined_in, only, device_words, begins_comment, with_line, after_words, after_line, listed_lines}
 use Rattle.device_list.specs.DeviceLaws.{quiet, is_name_alone, NamesAreQuiet}
 use Rattle.device_list.specs.declared.devices_error.DevicesError.{DevicesError}
 use Rattle.device_list.specs.declared.devices_error.DevicesError.TheVariants.{BadLine, BuiltIn}
 use Rattle.device_list.proofs.JoinedLines.{ok-same}
 use Rattle.device_list.proofs.MarkLemmas.{lines_of}
+use Rattle.device_list.proofs.PlaceLemmas.{without_calls}
 
 abbrev AllQuiet : Effects → Type 0
 AllQuiet = AllByRecursion (λ d. d.1 ≡ quiet)
 
--- no command does anything, and there is no `sub` line
+-- no command does anything, and there is no `sub` line and no line of calls
 abbrev AreQuiet : Devices → Type 0
-AreQuiet devices = AllQuiet devices.commands × (devices.subs ≡ [])
+AreQuiet devices = AllQuiet devices.commands × ((devices.subs ≡ []) × (devices.calls ≡ []))
 
 joined-quiet : (effects : Effects) (name : Text) → AllQuiet effects → AllQuiet (joined_in effects name quiet)
 joined-quiet [] name all = (refl, tt)
@@ -39,12 +40,12 @@ named-quiet (d ∷ effects) name effect all e = by (bytes_eq name d.0) e (named-
     by false f rest = rest f
 
 -- without `sub` lines, the name decides what a call does
-by_name : (devices : Devices) (name : Text) (words : List Text) → devices.subs ≡ [] → effect_of devices name words ≡ effect_in devices.commands name
+by_name : (devices : Devices) (name : Text) (words : List Text) → devices.subs ≡ [] → line_effect devices name words ≡ effect_in devices.commands name
 by_name devices name [] e = refl
 by_name devices name (word ∷ words) e = rw e refl
 
 found-quiet : (devices : Devices) (name : Text) (words : List Text) (effect : Effect) → AreQuiet devices → effect_of devices name words ≡ Some effect → effect ≡ quiet
-found-quiet devices name words effect all e = named-quiet devices.commands name effect all.0 (sym (by_name devices name words all.1) ∙ e)
+found-quiet devices name words effect all e = named-quiet devices.commands name effect all.0 (sym (by_name devices name words all.1.0) ∙ (sym (without_calls devices name words all.1.1) ∙ e))
 
 words-quiet : (devices next : Devices) (number : ℕ) (line : Text) (words : List Text) → nat_le (length words) 1 ≡ true → after_words devices number line words ≡ Ok next → AreQuiet devices → AreQuiet next
 words-quiet devices next number line [] short e all = subst AreQuiet (ok-same e) all
@@ -72,4 +73,4 @@ lines-quiet (l ∷ lines) devices done short e all =
 
 pub names_are_quiet : NamesAreQuiet
 names_are_quiet text devices e short name words effect found =
-    found-quiet devices name words effect (lines-quiet (numbered_lines text) (only []) devices short (lines_of text devices e) (tt, refl)) found
+    found-quiet devices name words effect (lines-quiet (numbered_lines text) (only []) devices short (lines_of text devices e) (tt, (refl, refl))) found

@@ -10,12 +10,14 @@ use Rattle.text.specs.Lines.{numbered_lines}
 use Rattle.text.specs.Lines.{Text}
 use Rattle.text.specs.Words.{has_nul}
 use Rattle.builtins.specs.Builtins.{is_built_in}
-use Rattle.device_list.specs.DeviceList.{Effect, Effects, Devices, Setting, DeviceLine, Heading, effect_in, effect_at, joint, joint_behind, joined_behind, joined_by, joined, changed_at, only, listed, device_words, begins_comment, heading_of, settings, line_with, line_of, known_named, with_known, is_steady_test, after_known, after_words, after_line, listed_lines}
-use Rattle.device_list.specs.Kinds.{Kind, Settings, Final, Sub, Known, Steady, every_kind, same_kind, has, has_words, uses, kinds_said, kinds_of, EachCall, SaysNothing, UnusedKindsSayNothing}
+use Rattle.device_list.specs.CallLines.{call_said, is_call}
+use Rattle.device_list.specs.DeviceList.{Effect, Effects, Devices, Setting, DeviceLine, Heading, effect_in, effect_at, line_effect, joint, joint_behind, joined_behind, joined_by, joined, changed_at, only, listed, device_words, begins_comment, heading_of, settings, line_with, line_of, known_named, with_known, is_steady_test, after_known, after_call, after_words, after_line, listed_lines}
+use Rattle.device_list.specs.Kinds.{Kind, Settings, Final, Sub, Known, Steady, Calls, may_say, every_kind, same_kind, has, has_words, uses, kinds_said, kinds_of, EachCall, SaysNothing, UnusedKindsSayNothing}
 use Rattle.device_list.specs.declared.devices_error.DevicesError.{DevicesError}
 use Rattle.device_list.specs.declared.devices_error.DevicesError.TheVariants.{BadLine, BuiltIn}
 use Rattle.device_list.proofs.JoinedLines.{ok-same}
 use Rattle.device_list.proofs.LineLemmas.{test_is}
+use Rattle.device_list.proofs.PlaceLemmas.{without_calls}
 use Rattle.device_list.proofs.MarkLemmas.{lines_of}
 
 is_false : (b : Bool) → not b ≡ true → b ≡ false
@@ -30,9 +32,9 @@ any-if false kind other more = refl
 
 unused : (kind : Kind) (h : Heading) → has (filter (uses h) every_kind) kind ≡ false → uses h kind ≡ false
 unused kind h e =
-    let ends = or_parts (h.ends && same_kind kind Final) (has (filter (uses h) (Steady ∷ Sub ∷ Settings ∷ Known ∷ [])) kind) (sym (any-if h.ends kind Final (filter (uses h) (Steady ∷ Sub ∷ Settings ∷ Known ∷ []))) ∙ e) in
-    let stays = or_parts (h.stays && same_kind kind Steady) (has (filter (uses h) (Sub ∷ Settings ∷ Known ∷ [])) kind) (sym (any-if h.stays kind Steady (filter (uses h) (Sub ∷ Settings ∷ Known ∷ []))) ∙ ends.1) in
-    let sub = or_parts (is_some h.word && same_kind kind Sub) (has (filter (uses h) (Settings ∷ Known ∷ [])) kind) (sym (any-if (is_some h.word) kind Sub (filter (uses h) (Settings ∷ Known ∷ []))) ∙ stays.1) in
+    let ends = or_parts (h.ends && same_kind kind Final) (has (filter (uses h) (Steady ∷ Sub ∷ Settings ∷ Known ∷ Calls ∷ [])) kind) (sym (any-if h.ends kind Final (filter (uses h) (Steady ∷ Sub ∷ Settings ∷ Known ∷ Calls ∷ []))) ∙ e) in
+    let stays = or_parts (h.stays && same_kind kind Steady) (has (filter (uses h) (Sub ∷ Settings ∷ Known ∷ Calls ∷ [])) kind) (sym (any-if h.stays kind Steady (filter (uses h) (Sub ∷ Settings ∷ Known ∷ Calls ∷ []))) ∙ ends.1) in
+    let sub = or_parts (is_some h.word && same_kind kind Sub) (has (filter (uses h) (Settings ∷ Known ∷ Calls ∷ [])) kind) (sym (any-if (is_some h.word) kind Sub (filter (uses h) (Settings ∷ Known ∷ Calls ∷ []))) ∙ stays.1) in
     let sets = or_parts (has_words h && same_kind kind Settings) false (sym (any-if (has_words h) kind Settings []) ∙ sub.1) in
     by kind ends.0 stays.0 sub.0 sets.0
   where
@@ -42,6 +44,7 @@ unused kind h e =
     by Sub ends stays sub sets = sym (and-true (is_some h.word)) ∙ sub
     by Settings ends stays sub sets = sym (and-true (has_words h)) ∙ sets
     by Known ends stays sub sets = refl
+    by Calls ends stays sub sets = refl
 
 -- ---- what each line keeps of a list, the whole list keeps
 
@@ -49,10 +52,10 @@ module _ (kind : Kind) (P : Devices → Type 0)
     (command : (devices : Devices) (number : ℕ) (h : Heading) (one : DeviceLine) → line_of number h ≡ Ok one → uses h kind ≡ false → P devices → P (joined devices one))
     (known : same_kind kind Known ≡ false → (devices : Devices) (name : Text) → P devices → P (with_known devices name))
     (test : same_kind kind Steady ≡ false → (devices : Devices) → P devices → P (record devices { test_stays = true })) where
-  words-keep : (devices next : Devices) (number : ℕ) (line : Text) (words : List Text) → has (kinds_said words) kind ≡ false → after_words devices number line words ≡ Ok next → P devices → P next
+  words-keep : (devices next : Devices) (number : ℕ) (line : Text) (words : List Text) → may_say (kinds_said words) kind ≡ false → after_words devices number line words ≡ Ok next → P devices → P next
   words-keep devices next number line [] none e p = subst P (ok-same e) p
   words-keep devices next number line (first ∷ words) none e p =
-      by (begins_comment first) (has_nul line) (known_named first words) (is_steady_test first words) refl (line_of number (heading_of first words)) refl none e
+      by (begins_comment first) (has_nul line) (is_call first words) (known_named first words) (is_steady_test first words) refl (line_of number (heading_of first words)) refl none e
     where
       steady_test : is_steady_test first words ≡ true → has (filter (uses (heading_of first words)) every_kind) kind ≡ false → same_kind kind Steady ≡ false
       steady_test at without =
@@ -60,43 +63,47 @@ module _ (kind : Kind) (P : Devices → Type 0)
           let here : has (filter (uses (heading_of (codes "steady") (codes "test" ∷ []))) every_kind) kind ≡ false = sym (λ i. has (filter (uses (heading_of (t.0 i) (t.1 i))) every_kind) kind) ∙ without in
           (or_parts (same_kind kind Steady) false here).0
 
-      by : (comment nul : Bool) (o : Option Text) (is_test : Bool) → is_steady_test first words ≡ is_test → (r : Result DeviceLine DevicesError) → line_of number (heading_of first words) ≡ r
-          → has (cond comment [] (cond (is_some o) (Known ∷ []) (filter (uses (heading_of first words)) every_kind))) kind ≡ false
-          → cond comment (Ok devices) (cond nul (Err (BadLine number)) (after_known devices o is_test r)) ≡ Ok next → P next
-      by true nul o is_test at r is without f = subst P (ok-same f) p
-      by false true o is_test at r is without f = absurd (let g = f in cc)
-      by false false (Some name) is_test at r is without f = subst P (ok-same f) (known (or_parts (same_kind kind Known) false without).0 devices name p)
-      by false false None true at r is without f = subst P (ok-same f) (test (steady_test at without) devices p)
-      by false false None false at (Err fault) is without f = absurd (let g = f in cc)
-      by false false None false at (Ok one) is without f = subst P (ok-same f) (command devices number (heading_of first words) one is (unused kind (heading_of first words) without) p)
+      used : (kinds : List Kind) → may_say kinds kind ≡ false → has kinds kind ≡ false
+      used kinds f = (or_parts (has kinds kind) (has kinds Calls) f).0
 
-  lines-keep : (lines : List (ℕ × Text)) (devices done : Devices) → list_all (λ l. not (has (kinds_of l.1) kind)) lines ≡ true → listed_lines devices lines ≡ Ok done → P devices → P done
+      by : (comment nul call : Bool) (o : Option Text) (is_test : Bool) → is_steady_test first words ≡ is_test → (r : Result DeviceLine DevicesError) → line_of number (heading_of first words) ≡ r
+          → may_say (cond comment [] (cond call (Calls ∷ []) (cond (is_some o) (Known ∷ []) (filter (uses (heading_of first words)) every_kind)))) kind ≡ false
+          → cond comment (Ok devices) (cond nul (Err (BadLine number)) (cond call (after_call devices (call_said number first words)) (after_known devices o is_test r))) ≡ Ok next → P next
+      by true nul call o is_test at r is without f = subst P (ok-same f) p
+      by false true call o is_test at r is without f = absurd (let g = f in cc)
+      by false false true o is_test at r is without f = absurd (let g = (or_parts (has (Calls ∷ []) kind) true without).1 in cc)
+      by false false false (Some name) is_test at r is without f = subst P (ok-same f) (known (or_parts (same_kind kind Known) false (used (Known ∷ []) without)).0 devices name p)
+      by false false false None true at r is without f = subst P (ok-same f) (test (steady_test at (used (filter (uses (heading_of first words)) every_kind) without)) devices p)
+      by false false false None false at (Err fault) is without f = absurd (let g = f in cc)
+      by false false false None false at (Ok one) is without f = subst P (ok-same f) (command devices number (heading_of first words) one is (unused kind (heading_of first words) (used (filter (uses (heading_of first words)) every_kind) without)) p)
+
+  lines-keep : (lines : List (ℕ × Text)) (devices done : Devices) → list_all (λ l. not (may_say (kinds_of l.1) kind)) lines ≡ true → listed_lines devices lines ≡ Ok done → P devices → P done
   lines-keep [] devices done none e p = subst P (ok-same e) p
   lines-keep (l ∷ lines) devices done none e p =
-      let both = and_parts (not (has (kinds_of l.1) kind)) (list_all (λ l. not (has (kinds_of l.1) kind)) lines) none in
-      by (after_line devices l.0 l.1) refl e (is_false (has (kinds_of l.1) kind) both.0) (λ next. lines-keep lines next done both.1)
+      let both = and_parts (not (may_say (kinds_of l.1) kind)) (list_all (λ l. not (may_say (kinds_of l.1) kind)) lines) none in
+      by (after_line devices l.0 l.1) refl e (is_false (may_say (kinds_of l.1) kind) both.0) (λ next. lines-keep lines next done both.1)
     where
       by : (r : Result Devices DevicesError) → after_line devices l.0 l.1 ≡ r → ◌≡◌ {A = Result Devices DevicesError} (elim r [ Ok next ↦ listed_lines next lines | Err fault ↦ Err fault ]) (Ok done)
-          → has (kinds_of l.1) kind ≡ false → ((next : Devices) → listed_lines next lines ≡ Ok done → P next → P done) → P done
+          → may_say (kinds_of l.1) kind ≡ false → ((next : Devices) → listed_lines next lines ≡ Ok done → P next → P done) → P done
       by (Err fault) is f without later = absurd (let g = f in cc)
       by (Ok next) is f without later = later next f (words-keep devices next l.0 l.1 (device_words l.1) without is p)
 
-  list-keeps : (text : Text) (devices : Devices) → listed text ≡ Ok devices → list_all (λ l. not (has (kinds_of l.1) kind)) (numbered_lines text) ≡ true → P (only []) → P devices
+  list-keeps : (text : Text) (devices : Devices) → listed text ≡ Ok devices → list_all (λ l. not (may_say (kinds_of l.1) kind)) (numbered_lines text) ≡ true → P (only []) → P devices
   list-keeps text devices e none p = lines-keep (numbered_lines text) (only []) devices none (lines_of text devices e) p
 
 -- ---- what each line says, each call does
 
 -- what a line of a command says
 line-says : (number : ℕ) (h : Heading) (one : DeviceLine) → line_of number h ≡ Ok one
-    → (sets : List Setting) × (settings (is_some h.word) h.words ≡ Some sets) × ((let l : DeviceLine = record { name = h.name; word = h.word; effect = record { ends = h.ends; stays = h.stays; sets = sets } } in l) ≡ one)
+    → (sets : List Setting) × (settings (is_some h.word) h.words ≡ Some sets) × ((let l : DeviceLine = record { name = h.name; word = h.word; effect = record { ends = h.ends; stays = h.stays; always = None; sets = sets } } in l) ≡ one)
 line-says number h one e = by (settings (is_some h.word) h.words) refl (is_built_in h.name) refl e
   where
     by : (o : Option (List Setting)) → settings (is_some h.word) h.words ≡ o → (b : Bool) → is_built_in h.name ≡ b → line_with number h o ≡ Ok one
-        → (sets : List Setting) × (settings (is_some h.word) h.words ≡ Some sets) × ((let l : DeviceLine = record { name = h.name; word = h.word; effect = record { ends = h.ends; stays = h.stays; sets = sets } } in l) ≡ one)
+        → (sets : List Setting) × (settings (is_some h.word) h.words ≡ Some sets) × ((let l : DeviceLine = record { name = h.name; word = h.word; effect = record { ends = h.ends; stays = h.stays; always = None; sets = sets } } in l) ≡ one)
     by None found b is f = absurd (let g = f in cc)
     by (Some sets) found true is f = absurd (let g : line_with number h (Some sets) ≡ Err (BuiltIn number) = rw is refl in let k = sym g ∙ f in cc)
     by (Some sets) found false is f =
-        let made : DeviceLine = record { name = h.name; word = h.word; effect = record { ends = h.ends; stays = h.stays; sets = sets } } in
+        let made : DeviceLine = record { name = h.name; word = h.word; effect = record { ends = h.ends; stays = h.stays; always = None; sets = sets } } in
         let g : line_with number h (Some sets) ≡ Ok made = rw is refl in
         (sets, found, ok-same (sym g ∙ f))
 
@@ -122,7 +129,7 @@ module _ (Does : Effect → Type 0) (both : (before more : Effect) → Does befo
   Each = AllByRecursion (λ d. Does d.1)
 
   abbrev AllDo : Devices → Type 0
-  AllDo devices = Each devices.commands × AllByRecursion (λ t. Each t.1) devices.subs
+  AllDo devices = Each devices.commands × (AllByRecursion (λ t. Each t.1) devices.subs × (devices.calls ≡ []))
 
   joined_in-do : (effects : Effects) (name : Text) (more : Effect) → Does more → Each effects → Each (changed_at (joint_behind more) effects name)
   joined_in-do effects name more does all = changed-all Does (joint_behind more) effects name all does (λ before d. both before more d does)
@@ -130,7 +137,7 @@ module _ (Does : Effect → Type 0) (both : (before more : Effect) → Does befo
   joined-do : (devices : Devices) (name : Text) (word : Option Text) (more : Effect) → Does more → AllDo devices → AllDo (joined_by devices name word more)
   joined-do devices name None more does all = (joined_in-do devices.commands name more does all.0, all.1)
   joined-do devices name (Some word) more does all =
-      (all.0, changed-all Each (joined_behind word more) devices.subs name all.1 (does, tt) (λ effects a. joined_in-do effects word more does a))
+      (all.0, (changed-all Each (joined_behind word more) devices.subs name all.1.0 (does, tt) (λ effects a. joined_in-do effects word more does a), all.1.1))
 
   known-do : (devices : Devices) (name : Text) → AllDo devices → AllDo (with_known devices name)
   known-do devices name all = by (list_any (bytes_eq name) devices.known)
@@ -148,20 +155,23 @@ module _ (Does : Effect → Type 0) (both : (before more : Effect) → Does befo
     where
       by : (o : Option Effects) → lookup (bytes_eq name) devices.subs ≡ o → ◌≡◌ {A = Option Effect} (elim o [ None ↦ None | Some effects ↦ effect_in effects word ]) (Some effect) → Does effect
       by None is f = absurd (let g = f in cc)
-      by (Some effects) is f = found-all Does (bytes_eq word) effects effect (found-all Each (bytes_eq name) devices.subs effects all.1 is) f
+      by (Some effects) is f = found-all Does (bytes_eq word) effects effect (found-all Each (bytes_eq name) devices.subs effects all.1.0 is) f
 
-  calls-do : (devices : Devices) → AllDo devices → EachCall Does devices
-  calls-do devices all name [] effect e = named-does devices name effect all e
-  calls-do devices all name (word ∷ words) effect e = by (effect_at devices name (Some word)) refl e
+  lines-do : (devices : Devices) (name : Text) (words : List Text) (effect : Effect) → AllDo devices → line_effect devices name words ≡ Some effect → Does effect
+  lines-do devices name [] effect all e = named-does devices name effect all e
+  lines-do devices name (word ∷ words) effect all e = by (effect_at devices name (Some word)) refl e
     where
       by : (o : Option Effect) → effect_at devices name (Some word) ≡ o → ◌≡◌ {A = Option Effect} (elim o [ Some found ↦ Some found | None ↦ effect_at devices name None ]) (Some effect) → Does effect
       by None is f = named-does devices name effect all f
       by (Some found) is f = sub-does devices name word effect all (is ∙ f)
 
+  calls-do : (devices : Devices) → AllDo devices → EachCall Does devices
+  calls-do devices all name words effect e = lines-do devices name words effect all (sym (without_calls devices name words all.1.1) ∙ e)
+
 -- ---- each kind
 
 abbrev IsUnused : Kind → Text → Type 0
-IsUnused kind text = list_all (λ l. not (has (kinds_of l.1) kind)) (numbered_lines text) ≡ true
+IsUnused kind text = list_all (λ l. not (may_say (kinds_of l.1) kind)) (numbered_lines text) ≡ true
 
 abbrev GoesOn : Effect → Type 0
 GoesOn effect = effect.ends ≡ false
@@ -171,7 +181,7 @@ both-go before more a b = λ i. a i || b i
 
 final-unused : (text : Text) (devices : Devices) → listed text ≡ Ok devices → IsUnused Final text → SaysNothing Final devices
 final-unused text devices e none =
-    calls-do GoesOn both-go devices (list-keeps Final (AllDo GoesOn both-go) command (λ other devices name. known-do GoesOn both-go devices name) (λ other devices all. all) text devices e none (tt, tt))
+    calls-do GoesOn both-go devices (list-keeps Final (AllDo GoesOn both-go) command (λ other devices name. known-do GoesOn both-go devices name) (λ other devices all. all) text devices e none (tt, (tt, refl)))
   where
     command : (devices : Devices) (number : ℕ) (h : Heading) (one : DeviceLine) → line_of number h ≡ Ok one → uses h Final ≡ false → AllDo GoesOn both-go devices → AllDo GoesOn both-go (joined devices one)
     command devices number h one is without all =
@@ -189,7 +199,7 @@ AllAskAnew devices = AllDo AsksAnew both-ask devices × (devices.test_stays ≡ 
 
 steady-unused : (text : Text) (devices : Devices) → listed text ≡ Ok devices → IsUnused Steady text → SaysNothing Steady devices
 steady-unused text devices e none =
-    let all = list-keeps Steady AllAskAnew command known (λ unlike devices p. absurd (let f = unlike in cc)) text devices e none ((tt, tt), refl) in
+    let all = list-keeps Steady AllAskAnew command known (λ unlike devices p. absurd (let f = unlike in cc)) text devices e none ((tt, (tt, refl)), refl) in
     (calls-do AsksAnew both-ask devices all.0, all.1)
   where
     same_test : (devices : Devices) (name : Text) (word : Option Text) (more : Effect) → (joined_by devices name word more).test_stays ≡ devices.test_stays
@@ -239,7 +249,7 @@ both-nothing before more a b = λ i. a i ++ b i
 
 settings-unused : (text : Text) (devices : Devices) → listed text ≡ Ok devices → IsUnused Settings text → SaysNothing Settings devices
 settings-unused text devices e none =
-    calls-do SetsNothing both-nothing devices (list-keeps Settings (AllDo SetsNothing both-nothing) command (λ other devices name. known-do SetsNothing both-nothing devices name) (λ other devices all. all) text devices e none (tt, tt))
+    calls-do SetsNothing both-nothing devices (list-keeps Settings (AllDo SetsNothing both-nothing) command (λ other devices name. known-do SetsNothing both-nothing devices name) (λ other devices all. all) text devices e none (tt, (tt, refl)))
   where
     no_words : (words : List Text) → ◌≡◌ {A = Bool} (elim words [ [] ↦ false | word ∷ more ↦ true ]) false → words ≡ []
     no_words [] f = refl
@@ -265,9 +275,26 @@ known-unused text devices e none = list-keeps Known NoneKnown command (λ unlike
     command : (devices : Devices) (number : ℕ) (h : Heading) (one : DeviceLine) → line_of number h ≡ Ok one → uses h Known ≡ false → NoneKnown devices → NoneKnown (joined devices one)
     command devices number h one is without all = same_known devices one.name one.word one.effect ∙ all
 
+abbrev TakesOutcomes : Effect → Type 0
+TakesOutcomes effect = effect.always ≡ None
+
+both-take : (before more : Effect) → TakesOutcomes before → TakesOutcomes more → TakesOutcomes (joint before more)
+both-take before more a b = a
+
+calls-unused : (text : Text) (devices : Devices) → listed text ≡ Ok devices → IsUnused Calls text → SaysNothing Calls devices
+calls-unused text devices e none =
+    let all = list-keeps Calls (AllDo TakesOutcomes both-take) command (λ other devices name. known-do TakesOutcomes both-take devices name) (λ other devices all. all) text devices e none (tt, (tt, refl)) in
+    (calls-do TakesOutcomes both-take devices all, all.1.1)
+  where
+    command : (devices : Devices) (number : ℕ) (h : Heading) (one : DeviceLine) → line_of number h ≡ Ok one → uses h Calls ≡ false → AllDo TakesOutcomes both-take devices → AllDo TakesOutcomes both-take (joined devices one)
+    command devices number h one is without all =
+        let says = line-says number h one is in
+        joined-do TakesOutcomes both-take devices one.name one.word one.effect (sym (λ i. (says.2 i).effect.always)) all
+
 pub unused_kinds_say_nothing : UnusedKindsSayNothing
 unused_kinds_say_nothing Final text devices e none = final-unused text devices e none
 unused_kinds_say_nothing Steady text devices e none = steady-unused text devices e none
 unused_kinds_say_nothing Sub text devices e none = sub-unused text devices e none
 unused_kinds_say_nothing Settings text devices e none = settings-unused text devices e none
 unused_kinds_say_nothing Known text devices e none = known-unused text devices e none
+unused_kinds_say_nothing Calls text devices e none = calls-unused text devices e none

@@ -1,8 +1,8 @@
 -- What a name calls (ours, as the device list is).
-use Rattle.std.specs.Prelude.{◌-◌, cond, List, [], ◌∷◌, length, Option, Some, None, slice_get}
+use Rattle.std.specs.Prelude.{◌-◌, cond, List, [], ◌∷◌, ◌++◌, length, Option, Some, None, slice_get}
 use Rattle.builtins.specs.Builtins.{builtin_of}
 use Rattle.commands.specs.BuiltInCommands.{Deed, ChangesVariables, carried, deed_of}
-use Rattle.device_list.specs.DeviceList.{LeftSide, Variable, WordAt, LastWord, Setting, Effect, Devices, effect_of, computed_by}
+use Rattle.device_list.specs.DeviceList.{LeftSide, Variable, WordAt, LastWord, RightSide, Literal, ValueAt, LastValue, Setting, Effect, Devices, effect_of, computed_by}
 use Rattle.rehearse_terms.specs.State.{Text}
 use Rattle.commands.specs.VariableNames.{is_bad_name}
 
@@ -23,14 +23,22 @@ variable_of (Variable name) words = Some name
 variable_of (WordAt place) words = named_by (slice_get words place)
 variable_of LastWord words = named_by (slice_get words (length words - 1))
 
--- what a call with these words sets; a word that names no variable sets nothing
+-- the value that the right side of a setting means in a call with these words
+abbrev pub value_of : RightSide → List Text → Option Text
+value_of (Literal text) words = Some text
+value_of (ValueAt place) words = slice_get words place
+value_of LastValue words = slice_get words (length words - 1)
+
+-- what one setting sets
+abbrev pub set_in : Option Text → Option Text → List (Text × Text)
+set_in None value = []
+set_in (Some name) None = []
+set_in (Some name) (Some value) = (name, value) ∷ []
+
+-- what a call with these words sets; a word that names no variable sets nothing, nor does a word that is not there
 abbrev pub sets_in : List Text → List Setting → List (Text × Text)
 sets_in words [] = []
-sets_in words (set ∷ sets) =
-    elim (variable_of set.0 words) [
-      | None ↦ sets_in words sets
-      | Some name ↦ (name, set.1) ∷ sets_in words sets
-    ]
+sets_in words (set ∷ sets) = set_in (variable_of set.0 words) (value_of set.1 words) ++ sets_in words sets
 
 abbrev pub listed_by : Devices → (name : Text) → (words : List Text) → Called
 listed_by devices name words = elim (effect_of devices name words) [ Some effect ↦ Device effect | None ↦ NoCommand ]

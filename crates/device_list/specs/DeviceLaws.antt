@@ -38,6 +38,7 @@ whole_effect [] = None
 whole_effect (one ∷ more) = Some (record {
   ends = list_any (λ l. l.effect.ends) (one ∷ more);
   stays = list_any (λ l. l.effect.stays) (one ∷ more);
+  always = one.effect.always;
   sets = flat_map (λ l. l.effect.sets) (one ∷ more);
 })
 
@@ -50,7 +51,7 @@ LinesAreJoined = (text : Text) (devices : Devices) → listed text ≡ Ok device
 
 -- a command that only succeeds or fails
 abbrev pub quiet : Effect
-quiet = record { ends = false; stays = false; sets = [] }
+quiet = record { ends = false; stays = false; always = None; sets = [] }
 
 abbrev pub is_name_alone : Text → Bool
 is_name_alone line = nat_le (length (device_words line)) 1

@@ -1,36 +1,19 @@
 -- The device list: which commands are device commands, and what each does on success. Ours.
-use Rattle.std.specs.Prelude.{ℕ, ◌+◌, ◌-◌, ◌==◌, nat_eq, min, ◌||◌, ◌&&◌, ◌++◌, not, Bool, true, false, List, [], ◌∷◌, length, take, drop, filter, Option, Some, None, is_some, option_map, Result, Ok, Err, codes, if◌then◌else◌}
+use Rattle.std.specs.Prelude.{ℕ, ◌==◌, nat_eq, ◌||◌, ◌&&◌, ◌++◌, not, Bool, true, false, List, [], ◌∷◌, length, map, filter, Option, Some, None, is_some, Result, Ok, Err, codes, if◌then◌else◌}
 use Rattle.std.specs.Str.{bytes_eq}
-use Rattle.std.specs.List.{list_any, slice_split, position, starts_with}
+use Rattle.std.specs.List.{list_any, slice_split, starts_with}
 use Rattle.std.specs.Map.{lookup}
 use Rattle.text.specs.Bytes as ascii
 use Rattle.text.specs.Lines.{numbered_lines}
-use Rattle.text.specs.Numbers.{are_digits, value_in}
 use Rattle.text.specs.Words.{has_nul, is_equals, is_space, trimmed}
 use Rattle.text.specs.Lines.{Text}
 use Rattle.builtins.specs.Builtins.{is_built_in}
 use Rattle.commands.specs.KnownCommands.{known_of}
 use Rattle.commands.specs.Computed.{Computed, computes}
+pub use Rattle.device_list.specs.Settings.{LeftSide, Variable, WordAt, LastWord, RightSide, Literal, ValueAt, LastValue, Setting, Effect, is_variable, is_decimal, word_of_call, left_side, setting, settings}
+pub use Rattle.device_list.specs.CallLines.{Pattern, Call, first_fitting, call_said, is_call}
 use Rattle.device_list.specs.declared.devices_error.DevicesError.{DevicesError}
 use Rattle.device_list.specs.declared.devices_error.DevicesError.TheVariants.{BadLine, BuiltIn, ByteOrderMark}
-
--- the left side of a setting: a variable, or the word of the call that names it; words are counted from 0, or it is the
--- last
-pub data LeftSide : Type 0 where
-  Variable : Text → LeftSide
-  WordAt : ℕ → LeftSide
-  LastWord : LeftSide
-
--- what is set, and its value
-abbrev pub Setting : Type 0
-Setting = LeftSide × Text
-
--- what a device command does on success: what it sets in the environment, in order, and whether the run ends; and
--- whether its answers stay: asked again with the same words in one run, it answers as before
-pub record Effect : Type 0 where
-  pub ends : Bool
-  pub stays : Bool
-  pub sets : List Setting
 
 -- effects by names of commands, or by the first words of the calls of one command
 abbrev pub Effects : Type 0
@@ -39,11 +22,12 @@ Effects = List (Text × Effect)
 abbrev pub effect_in : Effects → Text → Option Effect
 effect_in effects name = lookup (bytes_eq name) effects
 
--- what a list says of commands by their names, what its `sub` lines say of the calls of a name, which commands are
--- computed, each once, and whether the answers of `test -e` stay
+-- what a list says of commands by their names, what its `sub` lines say of the calls of a name, and what its lines of calls
+-- say of those that fit a pattern; which commands are computed, each once, and whether the answers of `test -e` stay
 pub record Devices : Type 0 where
   pub commands : Effects
   pub subs : List (Text × Effects)
+  pub calls : List (Text × List (Pattern × Effect))
   pub known : List Text
   pub test_stays : Bool
 
@@ -57,10 +41,21 @@ abbrev pub sub_effect : Devices → (name : Text) → (words : List Text) → Op
 sub_effect devices name [] = None
 sub_effect devices name (word ∷ words) = effect_at devices name (Some word)
 
--- The `sub` lines of its first word decide for a call, or else the lines of its name; otherwise it is not listed.
+-- what the lines of calls say of a call
+abbrev pub call_effect : Devices → (name : Text) → (words : List Text) → Option Effect
+call_effect devices name words =
+    elim (lookup (bytes_eq name) devices.calls) [ None ↦ None | Some lines ↦ first_fitting lines words ]
+
+-- what the other lines say: the `sub` lines of its first word, or else the lines of its name
+abbrev pub line_effect : Devices → (name : Text) → (words : List Text) → Option Effect
+line_effect devices name words =
+    elim (sub_effect devices name words) [ Some effect ↦ Some effect | None ↦ effect_at devices name None ]
+
+-- The first line of calls that fits decides for a call, or else its `sub` lines, or else the lines of its name; otherwise it
+-- is not listed.
 abbrev pub effect_of : Devices → (name : Text) → (words : List Text) → Option Effect
 effect_of devices name words =
-    elim (sub_effect devices name words) [ Some effect ↦ Some effect | None ↦ effect_at devices name None ]
+    elim (call_effect devices name words) [ Some effect ↦ Some effect | None ↦ line_effect devices name words ]
 
 -- what a call comes to, if the list has its command computed and its words can be
 abbrev pub computed_by : Devices → (name : Text) → (words : List Text) → Option Computed
@@ -70,7 +65,8 @@ computed_by devices name words =
 
 -- whether a line names the command
 abbrev pub is_listed : Devices → Text → Bool
-is_listed devices name = is_some (effect_in devices.commands name) || is_some (lookup (bytes_eq name) devices.subs)
+is_listed devices name = is_some (effect_in devices.commands name)
+    || (is_some (lookup (bytes_eq name) devices.subs) || is_some (lookup (bytes_eq name) devices.calls))
 
 -- ---- the words of a line
 
@@ -80,50 +76,6 @@ abbrev pub device_words : Text → List Text
 device_words line = filter (λ word. not (length word == 0)) (slice_split is_space (trimmed line))
 
 -- ---- what a line says
-
--- a variable's name is not empty and does not start with `-`
-abbrev pub is_variable : Text → Bool
-is_variable [] = false
-is_variable (b ∷ bytes) = not (b == ascii.minus)
-
--- the word with this number, counted from 1; a number above the greatest of 64 bits counts as that one
-abbrev pub numbered : ℕ → Option LeftSide
-numbered number = if number == 0 then None else Some (WordAt (number - 1))
-
-abbrev pub is_decimal : Text → Bool
-is_decimal word = not (length word == 0) && are_digits word
-
--- what follows an `@`: `last`, or the number of a word
-abbrev pub word_of_call : Text → Option LeftSide
-word_of_call which =
-    if bytes_eq which (codes "last") then Some LastWord
-    else (if is_decimal which then numbered (min (value_in 10 which) 18446744073709551615) else None)
-
-abbrev pub variable : Text → Option LeftSide
-variable name = if is_variable name then Some (Variable name) else None
-
--- in a `sub` line, an `@` starts a word of the call
-abbrev pub left_side : (of_calls : Bool) → Text → Option LeftSide
-left_side of_calls [] = None
-left_side of_calls (b ∷ bytes) =
-    if of_calls && bytes_eq (b ∷ []) (codes "@") then word_of_call bytes else variable (b ∷ bytes)
-
--- A setting is a left side, the first `=`, and a value that may be empty.
-abbrev pub setting : (of_calls : Bool) → Text → Option Setting
-setting of_calls word =
-    elim (position is_equals word) [
-      | None ↦ None
-      | Some at ↦ option_map (λ left. (left, drop (at + 1) word)) (left_side of_calls (take at word))
-    ]
-
--- the settings, if each of the words is one
-abbrev pub settings : (of_calls : Bool) → List Text → Option (List Setting)
-settings of_calls [] = Some []
-settings of_calls (word ∷ words) =
-    elim (setting of_calls word) [
-      | None ↦ None
-      | Some first ↦ option_map (λ more. first ∷ more) (settings of_calls words)
-    ]
 
 -- the name of a command; for a `sub` line the first word of its calls; whether it is final, and whether it is steady;
 -- and the words after that
@@ -171,7 +123,7 @@ pub record DeviceLine : Type 0 where
 abbrev pub line_with : ℕ → Heading → Option (List Setting) → Result DeviceLine DevicesError
 line_with number h None = Err (BadLine number)
 line_with number h (Some sets) = if is_built_in h.name then Err (BuiltIn number)
-    else Ok (record { name = h.name; word = h.word; effect = record { ends = h.ends; stays = h.stays; sets = sets } })
+    else Ok (record { name = h.name; word = h.word; effect = record { ends = h.ends; stays = h.stays; always = None; sets = sets } })
 
 -- a line with the first word of its calls is a `sub` line
 abbrev pub line_of : ℕ → Heading → Result DeviceLine DevicesError
@@ -189,11 +141,13 @@ changed_at change [] name = (name, change None) ∷ []
 changed_at change (e ∷ table) name = if bytes_eq name e.0 then (e.0, change (Some e.1)) ∷ table
     else e ∷ changed_at change table name
 
--- one more line: final if one of the two is, steady if one of the two is, settings in their order
+-- one more line: final if one of the two is, steady if one of the two is, settings in their order. (Lines that are joined
+-- name no answer that is always the same.)
 abbrev pub joint : Effect → Effect → Effect
 joint before more = record {
   ends = before.ends || more.ends;
   stays = before.stays || more.stays;
+  always = before.always;
   sets = before.sets ++ more.sets;
 }
 
@@ -219,6 +173,18 @@ joined devices more = joined_by devices more.name more.word more.effect
 abbrev pub with_line : Devices → Result DeviceLine DevicesError → Result Devices DevicesError
 with_line devices (Ok more) = Ok (joined devices more)
 with_line devices (Err fault) = Err fault
+
+-- a line of calls goes after those of the same name
+abbrev pub with_fitting : Call → Option (List (Pattern × Effect)) → List (Pattern × Effect)
+with_fitting call None = (call.pattern, call.effect) ∷ []
+with_fitting call (Some lines) = lines ++ (call.pattern, call.effect) ∷ []
+
+abbrev pub with_call : Devices → Call → Devices
+with_call devices call = record devices { calls = changed_at (with_fitting call) devices.calls call.name }
+
+abbrev pub after_call : Devices → Result Call DevicesError → Result Devices DevicesError
+after_call devices (Ok call) = Ok (with_call devices call)
+after_call devices (Err fault) = Err fault
 
 -- a line `known NAME`, if NAME may be computed
 abbrev pub known_named : Text → List Text → Option Text
@@ -252,8 +218,9 @@ after_words devices number line [] = Ok devices
 after_words devices number line (first ∷ words) =
     if begins_comment first then Ok devices
     else (if has_nul line then Err (BadLine number)
+    else (if is_call first words then after_call devices (call_said number first words)
     else after_known devices (known_named first words) (is_steady_test first words)
-    (line_of number (heading_of first words)))
+    (line_of number (heading_of first words))))
 
 abbrev pub after_line : Devices → ℕ → Text → Result Devices DevicesError
 after_line devices number line = after_words devices number line (device_words line)
@@ -269,7 +236,7 @@ listed_lines devices (l ∷ lines) =
 
 -- only commands by their names
 abbrev pub only : Effects → Devices
-only commands = record { commands = commands; subs = []; known = []; test_stays = false }
+only commands = record { commands = commands; subs = []; calls = []; known = []; test_stays = false }
 
 -- UTF-8's byte order mark, which some editors write in front of a text
 abbrev pub byte_order_mark : Text
@@ -281,3 +248,27 @@ is_marked text = starts_with nat_eq text byte_order_mark
 -- The commands that a device list names, or its first fault. The mark would be part of the first word.
 abbrev pub listed : Text → Result Devices DevicesError
 listed text = if is_marked text then Err ByteOrderMark else listed_lines (only []) (numbered_lines text)
+
+-- ---- a list as if each of its lines said `steady`
+
+-- An answer that is always the same stays in any case.
+abbrev pub steady_effect : Effect → Effect
+steady_effect effect = record effect { stays = not (is_some effect.always) }
+
+abbrev pub steady_effect_if : Bool → Effect → Effect
+steady_effect_if steady effect = if steady then steady_effect effect else effect
+
+abbrev pub steady_effects : {K : Type 0} → List (K × Effect) → List (K × Effect)
+steady_effects = map (λ e. (e.0, steady_effect e.1))
+
+-- the same list, with each device command and `test -e` steady: each question has one answer in a run
+abbrev pub all_steady : Devices → Devices
+all_steady devices = record devices {
+  commands = steady_effects devices.commands;
+  subs = map (λ s. (s.0, steady_effects s.1)) devices.subs;
+  calls = map (λ c. (c.0, steady_effects c.1)) devices.calls;
+  test_stays = true;
+}
+
+abbrev pub steady_if : Bool → Devices → Devices
+steady_if steady devices = if steady then all_steady devices else devices

@@ -2,10 +2,17 @@
 use Rattle.std.specs.Prelude.{ℕ, List, map, option_map, Vec}
 use Rattle.std.specs.declared.alloc.Global.{Global}
 use Rattle.device_list.specs.DeviceList as says
+use Rattle.device_list.specs.Settings as settings
+use Rattle.device_list.specs.CallLines as calls
 use Rattle.device_list.specs.declared.device_line.Heading.{Heading}
 use Rattle.device_list.specs.declared.setting.LeftSide.{LeftSide}
 use Rattle.device_list.specs.declared.setting.LeftSide.TheVariants as sides
+use Rattle.device_list.specs.declared.setting.RightSide.{RightSide}
+use Rattle.device_list.specs.declared.setting.RightSide.TheVariants as rights
 use Rattle.device_list.specs.declared.setting.Setting.{Setting}
+use Rattle.device_list.specs.declared.pattern.PatternWord.{PatternWord}
+use Rattle.device_list.specs.declared.pattern.PatternWord.TheVariants as words
+use Rattle.device_list.specs.declared.pattern.Pattern.{Pattern}
 
 abbrev pub Bytes : Type 0
 Bytes = Vec ℕ Global
@@ -15,8 +22,13 @@ left_shown (sides.Variable name) = says.Variable name.items
 left_shown (sides.WordAt place) = says.WordAt place
 left_shown sides.LastWord = says.LastWord
 
+abbrev pub right_shown : RightSide → settings.RightSide
+right_shown (rights.Literal text) = settings.Literal text.items
+right_shown (rights.ValueAt place) = settings.ValueAt place
+right_shown rights.LastValue = settings.LastValue
+
 abbrev pub setting_shown : Setting → says.Setting
-setting_shown s = (left_shown s.left, s.value.items)
+setting_shown s = (left_shown s.left, right_shown s.value)
 
 abbrev pub settings_shown : Vec Setting Global → List says.Setting
 settings_shown v = map setting_shown v.items
@@ -29,3 +41,10 @@ heading_shown h = record {
   stays = h.stays;
   words = map (λ w. w.now) h.words.now;
 }
+
+abbrev pub word_shown : PatternWord → calls.PatternWord
+word_shown (words.Exactly text) = calls.Exactly text.items
+word_shown (words.Starting text) = calls.Starting text.items
+
+abbrev pub pattern_shown : Pattern → calls.Pattern
+pattern_shown p = record { words = map word_shown p.words.items; more = p.more }

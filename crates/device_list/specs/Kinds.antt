@@ -6,7 +6,8 @@ use Rattle.std.specs.Str.{bytes_eq}
 use Rattle.text.specs.Lines.{numbered_lines}
 use Rattle.text.specs.Words.{has_nul, is_equals}
 use Rattle.text.specs.Lines.{Text}
-use Rattle.device_list.specs.DeviceList.{Effect, Devices, DeviceLine, Heading, effect_of, device_words, named, call_of, heading_of, line_of, known_named, is_steady_test, after_known, begins_comment, after_line, only, is_marked, listed}
+use Rattle.device_list.specs.CallLines.{call_said, is_call}
+use Rattle.device_list.specs.DeviceList.{Effect, Devices, DeviceLine, Heading, effect_of, device_words, named, call_of, heading_of, line_of, known_named, is_steady_test, after_known, after_call, begins_comment, after_line, only, is_marked, listed}
 use Rattle.device_list.specs.declared.devices_error.DevicesError.{DevicesError}
 use Rattle.device_list.specs.declared.devices_error.DevicesError.TheVariants.{BadLine, ByteOrderMark}
 
@@ -21,9 +22,11 @@ pub data Kind : Type 0 where
   Settings : Kind
   -- a command that is computed
   Known : Kind
+  -- a line `call` or `absent`, with all its clauses
+  Calls : Kind
 
 abbrev pub every_kind : List Kind
-every_kind = Final ∷ Steady ∷ Sub ∷ Settings ∷ Known ∷ []
+every_kind = Final ∷ Steady ∷ Sub ∷ Settings ∷ Known ∷ Calls ∷ []
 
 abbrev pub same_kind : Kind → Kind → Bool
 same_kind Final Final = true
@@ -31,6 +34,7 @@ same_kind Steady Steady = true
 same_kind Sub Sub = true
 same_kind Settings Settings = true
 same_kind Known Known = true
+same_kind Calls Calls = true
 same_kind one other = false
 
 -- whether a kind is among these
@@ -50,13 +54,15 @@ uses h Steady = h.stays
 uses h Sub = is_some h.word
 uses h Settings = has_words h
 uses h Known = false
+uses h Calls = false
 
 -- a line without a word, and a comment, use none
 abbrev pub kinds_said : List Text → List Kind
 kinds_said [] = []
 kinds_said (first ∷ words) =
     if begins_comment first then []
-    else (if is_some (known_named first words) then Known ∷ [] else filter (uses (heading_of first words)) every_kind)
+    else (if is_call first words then Calls ∷ []
+    else (if is_some (known_named first words) then Known ∷ [] else filter (uses (heading_of first words)) every_kind))
 
 abbrev pub kinds_of : (line : Text) → List Kind
 kinds_of line = kinds_said (device_words line)
@@ -97,8 +103,9 @@ module _ (kinds : List Kind) where
   words_among devices number line (first ∷ words) =
       if begins_comment first then Ok devices
       else (if has_nul line then Err (BadLine number)
+      else (if has kinds Calls && is_call first words then after_call devices (call_said number first words)
       else after_known devices (known_among first words) (has kinds Steady && is_steady_test first words)
-      (said_among number (heading_among first words)))
+      (said_among number (heading_among first words))))
 
   abbrev pub line_among : Devices → ℕ → Text → Result Devices DevicesError
   line_among devices number line = words_among devices number line (device_words line)
@@ -148,8 +155,13 @@ SaysNothing Steady devices = EachCall (λ effect. effect.stays ≡ false) device
 SaysNothing Sub devices = devices.subs ≡ []
 SaysNothing Settings devices = EachCall (λ effect. effect.sets ≡ []) devices
 SaysNothing Known devices = devices.known ≡ []
+SaysNothing Calls devices = EachCall (λ effect. effect.always ≡ None) devices × (devices.calls ≡ [])
 
--- A list says nothing of a kind that none of its lines uses.
+-- a `call` line may say something of each kind
+abbrev pub may_say : List Kind → Kind → Bool
+may_say kinds kind = has kinds kind || has kinds Calls
+
+-- A list says nothing of a kind of which none of its lines may say something.
 abbrev pub UnusedKindsSayNothing : Type 0
 UnusedKindsSayNothing = (kind : Kind) (text : Text) (devices : Devices) → listed text ≡ Ok devices →
-    list_all (λ l. not (has (kinds_of l.1) kind)) (numbered_lines text) ≡ true → SaysNothing kind devices
+    list_all (λ l. not (may_say (kinds_of l.1) kind)) (numbered_lines text) ≡ true → SaysNothing kind devices

@@ -1,3 +1,5 @@
+pub mod Settings
+pub mod CallLines
 pub mod DeviceList
 pub mod Called
 pub mod CommandsShown

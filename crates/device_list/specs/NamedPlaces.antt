@@ -4,7 +4,7 @@ use Rattle.std.specs.List.{All}
 use Rattle.std.specs.Map.{lookup}
 use Rattle.std.specs.Str.{bytes_eq}
 use Rattle.text.specs.Lines.{Text}
-use Rattle.device_list.specs.DeviceList.{Effect, Effects, Devices, effect_in}
+use Rattle.device_list.specs.DeviceList.{Pattern, Effect, Effects, Devices, effect_in, first_fitting}
 use Rattle.device_list.specs.DevicesShown.{Bytes}
 use Rattle.device_list.specs.declared.device_tables.Places.{Places}
 
@@ -17,7 +17,8 @@ at_place table (Some place) = option_map (λ e. e.1) (slice_get table place)
 abbrev pub IsPlaced : Devices → (name : Text) → Places → Type 0
 IsPlaced devices name places =
     (at_place devices.commands places.command ≡ effect_in devices.commands name)
-    × (at_place devices.subs places.sub ≡ lookup (bytes_eq name) devices.subs)
+    × ((at_place devices.subs places.sub ≡ lookup (bytes_eq name) devices.subs)
+    × (at_place devices.calls places.call ≡ lookup (bytes_eq name) devices.calls))
 
 -- so for each of these names
 abbrev pub ArePlaced : Devices → List (Bytes × Places) → Type 0
@@ -32,10 +33,21 @@ abbrev pub placed_sub : Option Effects → (words : List Text) → Option Effect
 placed_sub subs [] = None
 placed_sub subs (word ∷ words) = in_sub subs word
 
--- what a call of the command at these places does
-abbrev pub placed_effect : Devices → Places → (words : List Text) → Option Effect
-placed_effect devices places words =
+-- what the lines of calls of a name say of a call
+abbrev pub placed_call : Option (List (Pattern × Effect)) → (words : List Text) → Option Effect
+placed_call lines words = elim lines [ None ↦ None | Some found ↦ first_fitting found words ]
+
+-- what a call of the command at these places does, and what the other lines say of it
+abbrev pub placed_line : Devices → Places → (words : List Text) → Option Effect
+placed_line devices places words =
     elim (placed_sub (at_place devices.subs places.sub) words) [
       | Some effect ↦ Some effect
       | None ↦ at_place devices.commands places.command
+    ]
+
+abbrev pub placed_effect : Devices → Places → (words : List Text) → Option Effect
+placed_effect devices places words =
+    elim (placed_call (at_place devices.calls places.call) words) [
+      | Some effect ↦ Some effect
+      | None ↦ placed_line devices places words
     ]

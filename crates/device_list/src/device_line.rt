@@ -41,7 +41,7 @@ pub(crate) fn begins_comment(word: &[u8]) -> bool
 }
 
 /// Whether a word holds `=`.
-fn has_equals(word: &[u8]) -> bool
+pub(crate) fn has_equals(word: &[u8]) -> bool
     ensures { result ≡ list_any is_equals word.now }
 {
     word.iter().any(|byte| *byte == b'=')

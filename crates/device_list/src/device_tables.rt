@@ -1,40 +1,24 @@
 //! What the lines of a device list say, by the names of the commands.
-ghost use Rattle.std.specs.Prelude.{◌≡◌, [], OnOk, IfOk, Some, option_map};
-ghost use Rattle.device_list.specs.DeviceList.{only, changed_at, joined_in, joined_behind, joined_by, effect_at, sub_effect, effect_of, computed_by, with_known, is_listed};
-ghost use Rattle.device_list.specs.CommandsShown.{commands_shown, subs_shown, listed_shown, found_shown};
+ghost use Rattle.std.specs.Prelude.{◌≡◌, [], map, OnOk, IfOk, Some, is_some, option_map, ◌||◌};
+ghost use Rattle.device_list.specs.DeviceList.{only, changed_at, with_fitting, joined_in, joined_behind, joined_by, effect_at, sub_effect, call_effect, line_effect, effect_of, computed_by, with_known, is_listed, after_known, known_named, is_steady_test, line_of, heading_of};
+ghost use Rattle.device_list.specs.CommandsShown.{commands_shown, subs_shown, calls_shown, said_shown, listed_shown, found_shown};
 ghost use Rattle.std.specs.List.{list_any};
+ghost use Rattle.std.specs.Map.{lookup};
 ghost use Rattle.std.specs.Str.{bytes_eq};
 ghost use Rattle.commands.specs.TextsShown.{texts};
 ghost use Rattle.device_list.specs.NamedPlaces.{at_place};
 
+use crate::call_line::{Call, CallLine, call_said, first_fitting, is_call};
 use crate::device_line::{begins_comment, device_words, heading_of, is_steady_test, known_named};
 use crate::devices_error::DevicesError;
-use crate::setting::{Setting, settings};
+use crate::listed::{Effect, Listed};
+use crate::setting::settings;
 use builtins::is_built_in;
 use commands::{Computed, computes, known_of};
 use indexmap::IndexMap;
 use std::alloc::{AllocError, Global};
 use std::marker::Model;
 use text::{Lines, has_nul};
-
-/// What a device command does on success, and whether its answers stay.
-#[derive(Clone, Copy, Debug)]
-pub struct Effect<'a> {
-    /// Whether it ends the run.
-    pub ends: bool,
-    /// Whether it answers as before if it is asked again with the same words in one run.
-    pub stays: bool,
-    /// What it sets in the environment, in order.
-    pub sets: &'a [Setting],
-}
-
-/// What a device command of the list does on success, and whether its answers stay.
-#[derive(Drop)]
-struct Listed {
-    ends: bool,
-    stays: bool,
-    sets: Vec<Setting>,
-}
 
 /// Where the tables have a name, if they have it.
 #[derive(Clone, Copy)]
@@ -43,6 +27,8 @@ pub struct Places {
     command: Option<usize>,
     /// Among the commands of `sub` lines.
     sub: Option<usize>,
+    /// Among the commands of lines of calls.
+    call: Option<usize>,
 }
 
 /// UTF-8's byte order mark.
@@ -75,21 +61,6 @@ fn join_sub(
     Ok(())
 }
 
-impl Listed {
-    ghost use Rattle.device_list.specs.CommandsShown.{lent_effect};
-
-    /// The same, borrowed.
-    fn effect(&self) -> Effect<'_>
-        ensures { lent_effect result ≡ listed_shown self.now }
-    {
-        Effect {
-            ends: self.ends,
-            stays: self.stays,
-            sets: &self.sets,
-        }
-    }
-}
-
 /// The device commands of a device list, each with what its calls do on success.
 #[derive(Drop)]
 pub struct DeviceTables {
@@ -98,10 +69,34 @@ pub struct DeviceTables {
     commands: Table,
     /// By the name, and then by the first word of a call.
     subs: IndexMap<Vec<u8>, Table>,
+    /// The lines of calls, by the name.
+    calls: IndexMap<Vec<u8>, Vec<CallLine>>,
     /// The names of the commands that are computed, each once.
     known: Vec<Vec<u8>>,
     /// Whether the answers of `test -e` stay.
     test_stays: bool,
+}
+
+/// Adds one more line of calls to the earlier ones with its name. Errors: memory ran out.
+fn add_call(
+    alloc: Global,
+    calls: &mut IndexMap<Vec<u8>, Vec<CallLine>>,
+    call: Call<'_>,
+) -> Result<(), AllocError>
+    ensures { OnOk result (calls_shown calls.new.entries
+        ≡ changed_at (with_fitting (said_shown call.entry)) (calls_shown calls.old.entries)
+        call.entry.name.now) }
+{
+    let Call { name, line } = call;
+    if let Some(lines) = calls.get_mut(name) {
+        lines.push(line)?;
+        return Ok(());
+    }
+    let mut lines = Vec::new(alloc);
+    lines.push(line)?;
+    let name = Vec::from_slice(alloc, name)?;
+    calls.insert(name, lines)?;
+    Ok(())
 }
 
 /// Joins one more line to the earlier ones with its name. Errors: memory ran out.
@@ -137,7 +132,7 @@ fn is_among(names: &[Vec<u8>], name: &[u8]) -> bool
 
 impl Model for DeviceTables {
     ghost use Rattle.device_list.specs.DeviceList as spec;
-    ghost use Rattle.device_list.specs.CommandsShown.{commands_shown, subs_shown};
+    ghost use Rattle.device_list.specs.CommandsShown.{commands_shown, subs_shown, calls_shown};
     ghost use Rattle.commands.specs.TextsShown.{texts};
 
     ghost Value = { spec.Devices };
@@ -145,6 +140,7 @@ impl Model for DeviceTables {
     ghost view = { λ d. record {
       commands = commands_shown d.commands.entries;
       subs = subs_shown d.subs.entries;
+      calls = calls_shown d.calls.entries;
       known = texts d.known.items;
       test_stays = d.test_stays;
     } };
@@ -153,8 +149,8 @@ impl Model for DeviceTables {
 impl DeviceTables {
     ghost use Rattle.device_list.specs.CommandsShown.{lent_effect};
     ghost use Rattle.commands.specs.ComputedShown.{call_shown};
-    ghost use Rattle.device_list.specs.DeviceListAnswers.{AddsLine, IsListed};
-    ghost use Rattle.device_list.specs.NamedPlaces.{IsPlaced, ArePlaced, in_sub, placed_sub, placed_effect};
+    ghost use Rattle.device_list.specs.DeviceListAnswers.{Adds, AddsLine, IsListed};
+    ghost use Rattle.device_list.specs.NamedPlaces.{IsPlaced, ArePlaced, in_sub, placed_sub, placed_call, placed_line, placed_effect};
 
     /// A list of no command. Takes no memory.
     fn new(alloc: Global) -> Self
@@ -164,6 +160,7 @@ impl DeviceTables {
             alloc,
             commands: IndexMap::new(alloc),
             subs: IndexMap::new(alloc),
+            calls: IndexMap::new(alloc),
             known: Vec::new(alloc),
             test_stays: false,
         }
@@ -187,13 +184,43 @@ impl DeviceTables {
     pub fn has(&self, name: &[u8]) -> bool
         ensures { result ≡ is_listed self.now name.now }
     {
-        self.commands.contains_key(name) || self.subs.contains_key(name)
+        if self.commands.contains_key(name) {
+            return true;
+        }
+        self.has_calls(name)
     }
 
-    /// What a call of a command does on success, if it is listed: what the `sub` lines of its first
-    /// word say, or else what the lines of its name say. Takes no memory.
+    /// Whether a `sub` line names a command, or a line of calls.
+    fn has_calls(&self, name: &[u8]) -> bool
+        ensures { result ≡ (is_some (lookup (bytes_eq name.now) (self.now).subs)
+            || is_some (lookup (bytes_eq name.now) (self.now).calls)) }
+    {
+        self.subs.contains_key(name) || self.calls.contains_key(name)
+    }
+
+    /// What a call of a command does on success, if it is listed: what the first line of calls says that
+    /// fits it, or else what the `sub` lines of its first word say, or else what the lines of its name
+    /// say. Takes no memory.
     pub fn effect(&self, name: &[u8], words: &[Vec<u8>]) -> Option<Effect<'_>>
         ensures { option_map lent_effect result ≡ effect_of self.now name.now (texts words.now) }
+    {
+        if let Some(listed) = self.call_listed(name, words) {
+            return Some(listed.effect());
+        }
+        self.line_effect(name, words)
+    }
+
+    /// What the lines of calls say of a call.
+    fn call_listed(&self, name: &[u8], words: &[Vec<u8>]) -> Option<&Listed>
+        ensures { option_map found_shown result ≡ call_effect self.now name.now (texts words.now) }
+    {
+        let lines = self.calls.get(name)?;
+        first_fitting(lines, words)
+    }
+
+    /// What the other lines say of a call.
+    fn line_effect(&self, name: &[u8], words: &[Vec<u8>]) -> Option<Effect<'_>>
+        ensures { option_map lent_effect result ≡ line_effect self.now name.now (texts words.now) }
     {
         if let Some(listed) = self.sub_listed(name, words) {
             return Some(listed.effect());
@@ -253,6 +280,7 @@ impl DeviceTables {
         Places {
             command: self.commands.get_index_of(name),
             sub: self.subs.get_index_of(name),
+            call: self.calls.get_index_of(name),
         }
     }
 
@@ -261,7 +289,8 @@ impl DeviceTables {
         ensures { IfOk result (λ names. ArePlaced self.now names.entries) }
     {
         let mut names = IndexMap::new(self.alloc);
-        for name in self.commands.keys().chain(self.subs.keys()) {
+        let listed = self.commands.keys().chain(self.subs.keys());
+        for name in listed.chain(self.calls.keys()) {
             let places = self.places_of(name);
             let name = Vec::from_slice(self.alloc, name)?;
             names.insert(name, places)?;
@@ -272,6 +301,25 @@ impl DeviceTables {
     /// What a call of the command at these places does on success. Takes no memory.
     pub fn placed_effect(&self, places: Places, words: &[Vec<u8>]) -> Option<Effect<'_>>
         ensures { option_map lent_effect result ≡ placed_effect self.now places (texts words.now) }
+    {
+        if let Some(listed) = self.placed_call(places.call, words) {
+            return Some(listed.effect());
+        }
+        self.placed_line(places, words)
+    }
+
+    /// What the lines of calls of the name at a place say of a call.
+    fn placed_call(&self, place: Option<usize>, words: &[Vec<u8>]) -> Option<&Listed>
+        ensures { option_map found_shown result
+            ≡ placed_call (at_place (self.now).calls place) (texts words.now) }
+    {
+        let lines = value_at(&self.calls, place)?;
+        first_fitting(lines, words)
+    }
+
+    /// What the other lines of the name at these places say of a call.
+    fn placed_line(&self, places: Places, words: &[Vec<u8>]) -> Option<Effect<'_>>
+        ensures { option_map lent_effect result ≡ placed_line self.now places (texts words.now) }
     {
         if let Some(listed) = self.placed_sub(places.sub, words) {
             return Some(listed.effect());
@@ -313,6 +361,25 @@ impl DeviceTables {
         if has_nul(line) {
             return Err(DevicesError::BadLine(number));
         }
+        if is_call(first, behind) {
+            let call = call_said(self.alloc, number, first, behind)?;
+            add_call(self.alloc, &mut self.calls, call)?;
+            return Ok(());
+        }
+        self.add_other(number, first, behind)
+    }
+
+    /// Reads one more line that is not about calls. Errors: `BadLine`, `BuiltIn`, `Memory`.
+    fn add_other(
+        &mut self,
+        number: usize,
+        first: &[u8],
+        behind: &[&[u8]],
+    ) -> Result<(), DevicesError>
+        ensures { Adds (after_known self.old (known_named first.now (map (λ w. w.now) behind.now))
+            (is_steady_test first.now (map (λ w. w.now) behind.now))
+            (line_of number (heading_of first.now (map (λ w. w.now) behind.now)))) self.new result }
+    {
         if let Some(name) = known_named(first, behind) {
             self.add_known(name)?;
             return Ok(());
@@ -328,8 +395,17 @@ impl DeviceTables {
         if is_built_in(heading.name) {
             return Err(DevicesError::BuiltIn(number));
         }
-        let (ends, stays) = (heading.ends, heading.stays);
-        self.add(heading.name, heading.word, Listed { ends, stays, sets })?;
+        let (ends, stays, always) = (heading.ends, heading.stays, None);
+        self.add(
+            heading.name,
+            heading.word,
+            Listed {
+                ends,
+                stays,
+                always,
+                sets,
+            },
+        )?;
         Ok(())
     }
 

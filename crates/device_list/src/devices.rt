@@ -2,15 +2,17 @@
 ghost use Rattle.std.specs.Prelude.{◌≡◌, IfSome, option_map};
 ghost use Rattle.std.specs.List.{list_any};
 ghost use Rattle.std.specs.Str.{bytes_eq};
-ghost use Rattle.device_list.specs.DeviceList.{effect_of, computed_by, is_listed};
+ghost use Rattle.device_list.specs.DeviceList.{effect_of, computed_by, is_listed, all_steady};
 ghost use Rattle.device_list.specs.DeviceListAnswers.{IsListed};
 ghost use Rattle.device_list.specs.CommandsShown.{lent_effect};
 ghost use Rattle.commands.specs.ComputedShown.{call_shown};
-ghost use Rattle.device_list.specs.NamedPlaces.{IsPlaced};
+ghost use Rattle.device_list.specs.DeviceList as spec;
+ghost use Rattle.device_list.specs.NamedPlaces.{ArePlaced, IsPlaced};
 ghost use Rattle.commands.specs.TextsShown.{texts};
 
-use crate::device_tables::{DeviceTables, Effect, Places};
+use crate::device_tables::{DeviceTables, Places};
 use crate::devices_error::DevicesError;
+use crate::listed::Effect;
 use commands::Computed;
 use indexmap::IndexMap;
 use std::alloc::Global;
@@ -22,6 +24,8 @@ pub struct Devices {
     tables: DeviceTables,
     /// Names of the tables, each with where these have it.
     names: IndexMap<Vec<u8>, Places>,
+    /// Whether each command and `test -e` is steady.
+    all_steady: bool,
 }
 
 impl Model for Devices {
@@ -30,9 +34,22 @@ impl Model for Devices {
 
     ghost Value = { spec.Devices };
 
-    ghost view = { λ d. d.tables };
+    ghost view = { λ d. spec.steady_if d.all_steady d.tables };
 
     ghost invariant = { λ d. ArePlaced d.tables d.names.entries };
+}
+
+/// Where the tables have the name at a place, if it is this name.
+fn places_at(names: &IndexMap<Vec<u8>, Places>, name: &[u8], place: usize) -> Option<Places>
+    ensures { (list : spec.Devices) → ArePlaced list names.now.entries
+        → IfSome result (IsPlaced list name.now) }
+{
+    let (found, places) = names.get_index(place)?;
+    if found.as_slice() == name {
+        Some(*places)
+    } else {
+        None
+    }
 }
 
 impl Devices {
@@ -41,7 +58,12 @@ impl Devices {
     /// of NAME whose first word is WORD. `steady`, before all of that or after `final`, has the answers
     /// stay: asked again with the same words in one run, the command answers as before. `steady test`
     /// says so of `test -e`. `known NAME` has the calls of NAME computed, where its words can
-    /// be; NAME is `env`, `itest` or `setexpr`. Spaces, tabs and carriage returns round a line are dropped;
+    /// be; NAME is `env`, `itest` or `setexpr`. `call PATTERN : CLAUSES` is about the calls of a command that
+    /// fit a pattern: its name, and then the words of the call, of which `*` is any one, one that ends with
+    /// `*` each that starts so, and a last `**` any number. Clauses are `final`, `steady`, `always 0` and
+    /// `always 1` (the only status of the call, which then takes no outcome), and settings, in any order;
+    /// there, `VAR=@N` and `VAR=@last` have a word of the call as the value. `absent NAME` is `call NAME ** :
+    /// always 1`. Spaces, tabs and carriage returns round a line are dropped;
     /// spaces and tabs separate its words. Lines without a word, and lines that begin with `#`, are
     /// skipped. The first word is the name, unless it is `final` or `steady` and a word without `=`
     /// follows, or `sub` and two such words follow. Each further word is a setting: a variable, the first
@@ -52,13 +74,30 @@ impl Devices {
     /// A list that begins with UTF-8's byte order mark is refused for it: `ByteOrderMark`. Otherwise the
     /// first faulty line is refused: `BadLine` where it holds NUL, or a further word has no `=`, an
     /// empty variable, one that begins with `-`, or in a `sub` line one that begins with `@` and is no
-    /// word of the call; else `BuiltIn` where its name is that of a built-in command.
+    /// word of the call; in a line of calls, where a clause is none or is there twice, a word holds a single
+    /// quote, the name is missing or holds `*`, or `**` is not last; else `BuiltIn` where its name is that of
+    /// a built-in command.
     pub fn parse(alloc: Global, text: &[u8]) -> Result<Self, DevicesError>
         ensures { IsListed text.now result }
     {
         let tables = DeviceTables::parse(alloc, text)?;
         let names = tables.names()?;
-        Ok(Devices { tables, names })
+        let all_steady = false;
+        Ok(Devices {
+            tables,
+            names,
+            all_steady,
+        })
+    }
+
+    /// The same list, as if each of its lines said `steady`, and with `steady test`. Takes no memory.
+    pub fn steady(self) -> Self
+        ensures { result ≡ all_steady self }
+    {
+        Devices {
+            all_steady: true,
+            ..self
+        }
     }
 
     /// Whether a line names a command. Takes no memory.
@@ -68,12 +107,14 @@ impl Devices {
         self.tables.has(name)
     }
 
-    /// What a call of a command does on success, if it is listed: what the `sub` lines of its first
-    /// word say, or else what the lines of its name say. Takes no memory.
+    /// What a call of a command does on success, if it is listed: what the first line of calls says that
+    /// fits it, or else what the `sub` lines of its first word say, or else what the lines of its name
+    /// say. Takes no memory.
     pub fn effect(&self, name: &[u8], words: &[Vec<u8>]) -> Option<Effect<'_>>
         ensures { option_map lent_effect result ≡ effect_of self.now name.now (texts words.now) }
     {
-        self.tables.effect(name, words)
+        let effect = self.tables.effect(name, words)?;
+        Some(effect.steady_if(self.all_steady))
     }
 
     /// What `effect` says. The name is looked up only if it is not at the place that is given. Takes no
@@ -81,16 +122,17 @@ impl Devices {
     pub fn effect_near(&self, name: &[u8], words: &[Vec<u8>], place: usize) -> Option<Effect<'_>>
         ensures { option_map lent_effect result ≡ effect_of self.now name.now (texts words.now) }
     {
-        match self.places_at(name, place) {
-            Some(places) => self.tables.placed_effect(places, words),
-            None => self.tables.effect(name, words),
-        }
+        let Some(places) = places_at(&self.names, name, place) else {
+            return self.effect(name, words);
+        };
+        let effect = self.tables.placed_effect(places, words)?;
+        Some(effect.steady_if(self.all_steady))
     }
 
     /// The place of a name among those of the list, or any number if the list does not have it. It is
     /// looked up only if the name is not at the place that is given. It takes no memory.
     pub fn place_near(&self, name: &[u8], place: usize) -> usize {
-        if self.places_at(name, place).is_some() {
+        if places_at(&self.names, name, place).is_some() {
             return place;
         }
         self.names.get_index_of(name).unwrap_or(place)
@@ -108,7 +150,7 @@ impl Devices {
     pub fn test_stays(&self) -> bool
         ensures { result ≡ (self.now).test_stays }
     {
-        self.tables.test_stays()
+        self.all_steady || self.tables.test_stays()
     }
 
     /// Whether the list has a command computed. Takes no memory.
@@ -116,17 +158,5 @@ impl Devices {
         ensures { result ≡ list_any (bytes_eq name.now) (self.now).known }
     {
         self.tables.is_known(name)
-    }
-
-    /// Where the tables have the name at a place, if it is this name.
-    fn places_at(&self, name: &[u8], place: usize) -> Option<Places>
-        ensures { IfSome result (IsPlaced self.now name.now) }
-    {
-        let (found, places) = self.names.get_index(place)?;
-        if found.as_slice() == name {
-            Some(*places)
-        } else {
-            None
-        }
     }
 }

@@ -1,14 +1,18 @@
 //! What a device list says of commands.
 #![tactic(auto)]
 
+mod call_line;
+mod clauses;
 pub mod device_laws;
 mod device_line;
 mod device_tables;
 mod devices;
 mod devices_error;
+mod listed;
+mod pattern;
 mod setting;
 
-pub use device_tables::Effect;
 pub use devices::Devices;
 pub use devices_error::DevicesError;
-pub use setting::{LeftSide, Setting};
+pub use listed::Effect;
+pub use setting::{LeftSide, RightSide, Setting};

@@ -2,8 +2,8 @@
 ghost use Rattle.std.specs.Prelude.{◌≡◌, ◌==◌, map, option_map, IfOk, OnOk};
 ghost use Rattle.std.specs.List.{position};
 ghost use Rattle.text.specs.Words.{is_equals};
-ghost use Rattle.device_list.specs.DeviceList.{is_variable, is_decimal, word_of_call, left_side, setting, settings};
-ghost use Rattle.device_list.specs.DevicesShown.{left_shown, setting_shown, settings_shown};
+ghost use Rattle.device_list.specs.Settings.{is_variable, is_decimal, word_of_call, left_side, setting, settings, value_of_word, right_side, call_setting};
+ghost use Rattle.device_list.specs.DevicesShown.{left_shown, right_shown, setting_shown, settings_shown};
 
 use std::alloc::{AllocError, Global};
 use text::{are_digits, value_in};
@@ -19,13 +19,24 @@ pub enum LeftSide {
     LastWord,
 }
 
+/// The right side of a setting.
+#[derive(Debug, Drop)]
+pub enum RightSide {
+    /// A text.
+    Literal(Vec<u8>),
+    /// A word of the call. Words are counted from 0.
+    ValueAt(u64),
+    /// The last word of the call.
+    LastValue,
+}
+
 /// What a device command sets on success.
 #[derive(Debug, Drop)]
 pub struct Setting {
     /// The variable, or the word that names it.
     pub left: LeftSide,
     /// Its value.
-    pub value: Vec<u8>,
+    pub value: RightSide,
 }
 
 /// The place of the first `=`.
@@ -96,7 +107,49 @@ fn read_setting(alloc: Global, word: &[u8], of_calls: bool) -> Result<Option<Set
     let Some(left) = left_side(alloc, &word[..at], of_calls)? else {
         return Ok(None);
     };
-    let value = Vec::from_slice(alloc, &word[at + 1..])?;
+    let value = RightSide::Literal(Vec::from_slice(alloc, &word[at + 1..])?);
+    Ok(Some(Setting { left, value }))
+}
+
+/// The value that a word of the call has.
+fn value_of_word(word: LeftSide) -> RightSide
+    ensures { right_shown result ≡ value_of_word (left_shown word) }
+{
+    match word {
+        LeftSide::Variable(name) => RightSide::Literal(name),
+        LeftSide::WordAt(place) => RightSide::ValueAt(place),
+        LeftSide::LastWord => RightSide::LastValue,
+    }
+}
+
+/// The right side of a setting of a `call` line, if it is one: an `@` starts a word of the call.
+fn right_side(alloc: Global, value: &[u8]) -> Result<Option<RightSide>, AllocError>
+    ensures { IfOk result (λ right. option_map right_shown right ≡ right_side value.now) }
+{
+    if let [b'@', which @ ..] = value {
+        let Some(word) = word_of_call(which) else {
+            return Ok(None);
+        };
+        return Ok(Some(value_of_word(word)));
+    }
+    let value = Vec::from_slice(alloc, value)?;
+    Ok(Some(RightSide::Literal(value)))
+}
+
+/// The setting that a word of a `call` line is, if it is one.
+#[tactic(auto, using(crate::proofs::DeviceLemmas::cuts))]
+pub(crate) fn call_setting(alloc: Global, word: &[u8]) -> Result<Option<Setting>, AllocError>
+    ensures { IfOk result (λ s. option_map setting_shown s ≡ call_setting word.now) }
+{
+    let Some(at) = equals_at(word) else {
+        return Ok(None);
+    };
+    let Some(left) = left_side(alloc, &word[..at], true)? else {
+        return Ok(None);
+    };
+    let Some(value) = right_side(alloc, &word[at + 1..])? else {
+        return Ok(None);
+    };
     Ok(Some(Setting { left, value }))
 }
 

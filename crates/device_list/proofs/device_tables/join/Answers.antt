@@ -2,16 +2,16 @@ use Rattle.std.proofs.Common.{◌||◌, ◌∙◌, ap, sym, refl}
 use Rattle.indexmap.specs.IndexMap.{insert_entry}
 use Rattle.device_list.specs.DeviceList.{joint_behind}
 use Rattle.device_list.specs.CommandsShown.{listed_shown, commands_shown}
-use Rattle.device_list.specs.declared.device_tables.Listed.{Listed}
+use Rattle.device_list.specs.declared.listed.Listed.{Listed}
 use Rattle.device_list.proofs.MapLemmas.{listed-joined, changed-present, changed-inserted, same_key}
 use Rattle.device_list.proofs.device_tables.join.Goals as goal
 
 pub returns-in-Some : goal.returns-in-Some
 returns-in-Some c =
-    let w : Listed = record { ends = c.in-Some.listed.now.ends || c.args.more.ends; stays = c.in-Some.listed.now.stays || c.args.more.stays; sets = c.append.new.self } in
+    let w : Listed = record { ends = c.in-Some.listed.now.ends || c.args.more.ends; stays = c.in-Some.listed.now.stays || c.args.more.stays; always = c.in-Some.listed.now.always; sets = c.append.new.self } in
     ap commands_shown (c.get_mut.follows.holds w).0
     ∙ changed-present listed_shown (joint_behind (listed_shown c.args.more)) c.args.table.now.entries c.args.name.now c.in-Some.listed.now w
-    (sym c.in-Some.ensures.value) (listed-joined c.in-Some.listed.now w c.args.more refl refl c.in_ok-append.ensures.items)
+    (sym c.in-Some.ensures.value) (listed-joined c.in-Some.listed.now w c.args.more refl refl refl c.in_ok-append.ensures.items)
 
 pub returns : goal.returns
 returns c =

@@ -1,13 +1,32 @@
-use Rattle.std.proofs.Common.{ap, ◌∙◌}
-use Rattle.device_list.specs.DeviceList.{Devices}
-use Rattle.device_list.specs.NamedPlaces.{placed_effect}
+use Rattle.std.proofs.Common.{◌≡◌, ap, sym, ◌∙◌, Some, option_map}
+use Rattle.device_list.specs.DeviceList.{Devices, steady_effect_if, effect_of}
+use Rattle.device_list.specs.CommandsShown.{lent_effect}
 use Rattle.commands.specs.TextsShown.{texts}
 use Rattle.device_list.proofs.PlaceLemmas.{placed-effect}
+use Rattle.device_list.proofs.SteadyLemmas.{effect-steady}
 use Rattle.device_list.proofs.devices.Devices.effect_near.Goals as goal
 
-pub returns-in-Some : goal.returns-in-Some
-returns-in-Some c =
+pub returns : goal.returns
+returns c =
     let words = texts c.args.words.now in
-    c.placed_effect.ensures
-    ∙ (ap (λ (d : Devices). placed_effect d c.in-Some.places words) c.self.view_is
-    ∙ placed-effect c.args.self.now c.args.name.now c.in-Some.places words c.in-Some.ensures)
+    let name = c.args.name.now in
+    let list = c.self.inside.tables in
+    let steady = c.self.inside.all_steady in
+    let found : Some (lent_effect c.in_ok-effect.effect) ≡ effect_of list name words =
+    ap (option_map lent_effect) (sym c.in_ok-effect.was) ∙ c.placed_effect.ensures
+    ∙ placed-effect list name c.in-Some.places words (c.in-Some.ensures list c.self.invariant) in
+    ap Some c.steady_if.ensures
+    ∙ ap (option_map (steady_effect_if steady)) found
+    ∙ sym (effect-steady list name steady words)
+    ∙ ap (λ (d : Devices). effect_of d name words) c.self.view_is
+
+pub returns-in_err-effect : goal.returns-in_err-effect
+returns-in_err-effect c =
+    let words = texts c.args.words.now in
+    let name = c.args.name.now in
+    let list = c.self.inside.tables in
+    let steady = c.self.inside.all_steady in
+    ap (option_map lent_effect) c.from_residual.ensures
+    ∙ ap (option_map (steady_effect_if steady)) (c.in_err-effect.ensures ∙ placed-effect list name c.in-Some.places words (c.in-Some.ensures list c.self.invariant))
+    ∙ sym (effect-steady list name steady words)
+    ∙ ap (λ (d : Devices). effect_of d name words) c.self.view_is

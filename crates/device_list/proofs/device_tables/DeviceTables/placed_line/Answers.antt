@@ -4,7 +4,7 @@ use Rattle.device_list.specs.NamedPlaces.{at_place, placed_sub}
 use Rattle.commands.specs.TextsShown.{texts}
 use Rattle.device_list.specs.CommandsShown.{listed_shown, found_shown}
 use Rattle.device_list.proofs.PlaceLemmas.{at_place-shown}
-use Rattle.device_list.proofs.device_tables.DeviceTables.placed_effect.Goals as goal
+use Rattle.device_list.proofs.device_tables.DeviceTables.placed_line.Goals as goal
 
 pub returns : goal.returns
 returns c =

@@ -4,7 +4,7 @@ use Rattle.device_list.specs.DeviceList.{Effect, Devices, sub_effect, effect_at}
 use Rattle.commands.specs.TextsShown.{texts}
 use Rattle.device_list.specs.CommandsShown.{listed_shown, found_shown}
 use Rattle.device_list.proofs.MapLemmas.{looked_up}
-use Rattle.device_list.proofs.device_tables.DeviceTables.effect.Goals as goal
+use Rattle.device_list.proofs.device_tables.DeviceTables.line_effect.Goals as goal
 
 pub returns-in-Some : goal.returns-in-Some
 returns-in-Some c =

@@ -1,0 +1,176 @@
+-- Worked examples of the lines of calls, computed.
+use Rattle.std.proofs.Common.{◌≡◌, true, false, [], ◌∷◌, map, Some, None, Ok, Err, refl}
+use Rattle.std.specs.Prelude.{codes}
+use Rattle.text.specs.Lines.{Text}
+use Rattle.device_list.specs.Called.{sets_in}
+use Rattle.device_list.specs.CallLines.{Exactly, Starting, Pattern, fits}
+use Rattle.device_list.specs.DeviceList.{Variable, WordAt, LastWord, Literal, ValueAt, LastValue, Effect, Devices, only, effect_of, is_listed, listed, all_steady}
+use Rattle.device_list.specs.DeviceLaws.{quiet}
+use Rattle.device_list.specs.declared.devices_error.DevicesError.TheVariants.{BadLine, BuiltIn}
+
+-- a list of one line
+abbrev one : (name : Text) → Pattern → Effect → Devices
+one name pattern effect = record (only []) { calls = (name, (pattern, effect) ∷ []) ∷ [] }
+
+abbrev any : Pattern
+any = record { words = []; more = true }
+
+abbrev alone : Pattern
+alone = record { words = []; more = false }
+
+-- ---- patterns
+
+words_exactly : listed (codes "call mmc dev 0 :") ≡ Ok (one (codes "mmc") (record { words = Exactly (codes "dev") ∷ Exactly (codes "0") ∷ []; more = false }) quiet)
+words_exactly = refl
+
+stars : listed (codes "call mmc d* * ** :") ≡ Ok (one (codes "mmc") (record { words = Starting (codes "d") ∷ Starting [] ∷ []; more = true }) quiet)
+stars = refl
+
+name_alone : listed (codes "call reset : final") ≡ Ok (one (codes "reset") alone (record quiet { ends = true }))
+name_alone = refl
+
+-- the words fit one by one, and only `**` fits further ones
+fitting : map (fits (record { words = Exactly (codes "dev") ∷ Starting (codes "m") ∷ []; more = false }))
+    ((codes "dev" ∷ codes "mmc" ∷ []) ∷ (codes "dev" ∷ codes "m" ∷ []) ∷ (codes "dev" ∷ codes "usb" ∷ []) ∷ (codes "de" ∷ codes "mmc" ∷ []) ∷ (codes "dev" ∷ []) ∷ (codes "dev" ∷ codes "mmc" ∷ codes "0" ∷ []) ∷ [] ∷ [])
+    ≡ true ∷ true ∷ false ∷ false ∷ false ∷ false ∷ false ∷ []
+fitting = refl
+
+rest_fits : map (fits (record { words = Exactly (codes "dev") ∷ []; more = true })) ((codes "dev" ∷ []) ∷ (codes "dev" ∷ codes "0" ∷ codes "1" ∷ []) ∷ [] ∷ (codes "x" ∷ []) ∷ []) ≡ true ∷ true ∷ false ∷ false ∷ []
+rest_fits = refl
+
+rest_not_last : map (λ line. listed line) (codes "call mmc ** dev :" ∷ codes "call mmc ** ** :" ∷ []) ≡ Err (BadLine 1) ∷ Err (BadLine 1) ∷ []
+rest_not_last = refl
+
+star_in_the_name : listed (codes "call mm* dev :") ≡ Err (BadLine 1)
+star_in_the_name = refl
+
+no_name : listed (codes "load\ncall : final") ≡ Err (BadLine 2)
+no_name = refl
+
+built_in_name : listed (codes "call echo ** : steady") ≡ Err (BuiltIn 1)
+built_in_name = refl
+
+-- ---- clauses
+
+in_any_order : map (λ line. listed line) (codes "call go ** : final a=1 steady" ∷ codes "call go ** : steady final a=1" ∷ [])
+    ≡ Ok (one (codes "go") any (record { ends = true; stays = true; always = None; sets = (Variable (codes "a"), Literal (codes "1")) ∷ [] }))
+    ∷ Ok (one (codes "go") any (record { ends = true; stays = true; always = None; sets = (Variable (codes "a"), Literal (codes "1")) ∷ [] })) ∷ []
+in_any_order = refl
+
+always_succeeds : listed (codes "call pci enum : always 0") ≡ Ok (one (codes "pci") (record { words = Exactly (codes "enum") ∷ []; more = false }) (record quiet { always = Some true }))
+always_succeeds = refl
+
+-- an answer that is always the same is not remembered
+always_fails : listed (codes "call usb ** : steady always 1") ≡ Ok (one (codes "usb") any (record quiet { always = Some false }))
+always_fails = refl
+
+other_status : map (λ line. listed line) (codes "call usb ** : always 2" ∷ codes "call usb ** : always" ∷ codes "call usb ** : always final" ∷ []) ≡ Err (BadLine 1) ∷ Err (BadLine 1) ∷ Err (BadLine 1) ∷ []
+other_status = refl
+
+twice : map (λ line. listed line) (codes "call usb ** : final final" ∷ codes "call usb ** : steady steady" ∷ codes "call usb ** : always 0 always 0" ∷ []) ≡ Err (BadLine 1) ∷ Err (BadLine 1) ∷ Err (BadLine 1) ∷ []
+twice = refl
+
+settings_in_order : listed (codes "call part ** : a=1 @1=2 @last= a=3") ≡ Ok (one (codes "part") any (record quiet {
+  sets = (Variable (codes "a"), Literal (codes "1")) ∷ (WordAt 0, Literal (codes "2")) ∷ (LastWord, Literal []) ∷ (Variable (codes "a"), Literal (codes "3")) ∷ [];
+}))
+settings_in_order = refl
+
+values_of_words : listed (codes "call fdt addr * : fdtaddr=@2 x=@last @1=@01") ≡ Ok (one (codes "fdt") (record { words = Exactly (codes "addr") ∷ Starting [] ∷ []; more = false }) (record quiet {
+  sets = (Variable (codes "fdtaddr"), ValueAt 1) ∷ (Variable (codes "x"), LastValue) ∷ (WordAt 0, ValueAt 0) ∷ [];
+}))
+values_of_words = refl
+
+bad_values : map (λ line. listed line) (codes "call fdt ** : a=@" ∷ codes "call fdt ** : a=@0" ∷ codes "call fdt ** : a=@x" ∷ codes "call fdt ** : @0=1" ∷ codes "call fdt ** : -a=1" ∷ codes "call fdt ** : a" ∷ [])
+    ≡ Err (BadLine 1) ∷ Err (BadLine 1) ∷ Err (BadLine 1) ∷ Err (BadLine 1) ∷ Err (BadLine 1) ∷ Err (BadLine 1) ∷ []
+bad_values = refl
+
+-- an `@` that is not the first byte of a value is one as any other
+at_inside : listed (codes "call fdt : a=b@1") ≡ Ok (one (codes "fdt") alone (record quiet { sets = (Variable (codes "a"), Literal (codes "b@1")) ∷ [] }))
+at_inside = refl
+
+quotes : map (λ line. listed line) (codes "call fdt : a='b'" ∷ codes "call 'fdt' :" ∷ []) ≡ Err (BadLine 1) ∷ Err (BadLine 1) ∷ []
+quotes = refl
+
+-- ---- `absent`
+
+absent : listed (codes "absent part") ≡ listed (codes "call part ** : always 1")
+absent = refl
+
+absent_says : listed (codes "absent part") ≡ Ok (one (codes "part") any (record quiet { always = Some false }))
+absent_says = refl
+
+absent_built_in : listed (codes "absent echo") ≡ Err (BuiltIn 1)
+absent_built_in = refl
+
+absent_of_two : map (λ line. listed line) (codes "absent part mmc" ∷ codes "absent p*" ∷ codes "absent 'p'" ∷ []) ≡ Err (BadLine 1) ∷ Err (BadLine 1) ∷ Err (BadLine 1) ∷ []
+absent_of_two = refl
+
+-- ---- commands of these names
+
+commands : map (λ line. listed line) (codes "call" ∷ codes "absent" ∷ codes "call a=1" ∷ codes "absent a=1" ∷ codes "final call" ∷ [])
+    ≡ Ok (only ((codes "call", quiet) ∷ [])) ∷ Ok (only ((codes "absent", quiet) ∷ []))
+    ∷ Ok (only ((codes "call", record quiet { sets = (Variable (codes "a"), Literal (codes "1")) ∷ [] }) ∷ []))
+    ∷ Ok (only ((codes "absent", record quiet { sets = (Variable (codes "a"), Literal (codes "1")) ∷ [] }) ∷ []))
+    ∷ Ok (only ((codes "call", record quiet { ends = true }) ∷ [])) ∷ []
+commands = refl
+
+-- without a `:` it is no line of calls
+no_colon : map (λ line. listed line) (codes "call mmc dev" ∷ codes "call mmc: final" ∷ []) ≡ Err (BadLine 1) ∷ Err (BadLine 1) ∷ []
+no_colon = refl
+
+-- ---- which line decides
+
+abbrev rescan : Devices
+rescan = record {
+  commands = (codes "mmc", quiet) ∷ [];
+  subs = (codes "mmc", (codes "dev", record quiet { stays = true }) ∷ []) ∷ [];
+  calls = (codes "mmc", (record { words = Exactly (codes "dev") ∷ Exactly (codes "0") ∷ []; more = false }, record quiet { always = Some true }) ∷ (record { words = Exactly (codes "dev") ∷ []; more = true }, record quiet { ends = true }) ∷ (record { words = Exactly (codes "dev") ∷ Exactly (codes "1") ∷ []; more = false }, quiet) ∷ []) ∷ [];
+  known = [];
+  test_stays = false;
+}
+
+read_so : listed (codes "call mmc dev 0 : always 0\nmmc\ncall mmc dev ** : final\nsteady sub mmc dev\ncall mmc dev 1 :") ≡ Ok rescan
+read_so = refl
+
+first_that_fits : map (λ words. effect_of rescan (codes "mmc") words) ((codes "dev" ∷ codes "0" ∷ []) ∷ (codes "dev" ∷ codes "1" ∷ []) ∷ (codes "dev" ∷ []) ∷ (codes "part" ∷ []) ∷ [] ∷ [])
+    ≡ Some (record quiet { always = Some true }) ∷ Some (record quiet { ends = true }) ∷ Some (record quiet { ends = true }) ∷ Some quiet ∷ Some quiet ∷ []
+first_that_fits = refl
+
+-- a call that no line of its name fits goes by its `sub` lines, and then by its name, if these are there
+others_go_on : map (λ words. effect_of (record rescan { calls = (codes "mmc", (alone, record quiet { ends = true }) ∷ []) ∷ [] }) (codes "mmc") words) ([] ∷ (codes "dev" ∷ []) ∷ (codes "x" ∷ []) ∷ [])
+    ≡ Some (record quiet { ends = true }) ∷ Some (record quiet { stays = true }) ∷ Some quiet ∷ []
+others_go_on = refl
+
+not_listed : effect_of (one (codes "mmc") alone quiet) (codes "mmc") (codes "dev" ∷ []) ≡ None
+not_listed = refl
+
+named : map (is_listed (one (codes "mmc") alone quiet)) (codes "mmc" ∷ codes "usb" ∷ []) ≡ true ∷ false ∷ []
+named = refl
+
+-- ---- values in a call
+
+sets_words : sets_in (codes "addr" ∷ codes "40" ∷ codes "r" ∷ []) ((Variable (codes "a"), ValueAt 1) ∷ (Variable (codes "b"), LastValue) ∷ (WordAt 2, ValueAt 0) ∷ [])
+    ≡ (codes "a", codes "40") ∷ (codes "b", codes "r") ∷ (codes "r", codes "addr") ∷ []
+sets_words = refl
+
+-- a word that is not there sets nothing
+no_word : sets_in (codes "addr" ∷ []) ((Variable (codes "a"), ValueAt 1) ∷ (Variable (codes "b"), Literal (codes "1")) ∷ []) ≡ (codes "b", codes "1") ∷ []
+no_word = refl
+
+no_words : sets_in [] ((Variable (codes "a"), LastValue) ∷ []) ≡ []
+no_words = refl
+
+-- ---- every line steady
+
+steady_lines : all_steady rescan ≡ record {
+  commands = (codes "mmc", record quiet { stays = true }) ∷ [];
+  subs = (codes "mmc", (codes "dev", record quiet { stays = true }) ∷ []) ∷ [];
+  calls = (codes "mmc", (record { words = Exactly (codes "dev") ∷ Exactly (codes "0") ∷ []; more = false }, record quiet { always = Some true }) ∷ (record { words = Exactly (codes "dev") ∷ []; more = true }, record quiet { ends = true; stays = true }) ∷ (record { words = Exactly (codes "dev") ∷ Exactly (codes "1") ∷ []; more = false }, record quiet { stays = true }) ∷ []) ∷ [];
+  known = [];
+  test_stays = true;
+}
+steady_lines = refl
+
+-- as the list would say it
+as_if_said : map (λ text. listed text) (codes "steady load a=1\nfinal steady go\nsteady sub mmc dev\nsteady test" ∷ []) ≡ Ok (all_steady (record (only ((codes "load", record quiet { sets = (Variable (codes "a"), Literal (codes "1")) ∷ [] }) ∷ (codes "go", record quiet { ends = true }) ∷ [])) { subs = (codes "mmc", (codes "dev", quiet) ∷ []) ∷ [] })) ∷ []
+as_if_said = refl

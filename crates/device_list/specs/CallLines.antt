@@ -1,0 +1,191 @@
+-- The lines of a device list that are about the calls which fit a pattern. Ours.
+use Rattle.std.specs.Prelude.{ℕ, ◌+◌, ◌-◌, ◌==◌, nat_eq, nat_le, ◌||◌, ◌&&◌, not, Bool, true, false, List, [], ◌∷◌, ◌++◌, length, take, drop, Option, Some, None, is_some, option_map, Result, Ok, Err, codes, slice_get, if◌then◌else◌}
+use Rattle.std.specs.Str.{bytes_eq}
+use Rattle.std.specs.List.{list_any, starts_with}
+use Rattle.text.specs.Words.{is_equals}
+use Rattle.text.specs.Lines.{Text}
+use Rattle.builtins.specs.Builtins.{is_built_in}
+use Rattle.device_list.specs.Settings.{Setting, Effect, call_setting}
+use Rattle.device_list.specs.declared.devices_error.DevicesError.{DevicesError}
+use Rattle.device_list.specs.declared.devices_error.DevicesError.TheVariants.{BadLine, BuiltIn}
+
+-- ---- patterns
+
+-- a word of a pattern: this word, or each word that starts so
+pub data PatternWord : Type 0 where
+  Exactly : Text → PatternWord
+  Starting : Text → PatternWord
+
+-- the words of a call after its name, and whether any further words may follow
+pub record Pattern : Type 0 where
+  pub words : List PatternWord
+  pub more : Bool
+
+abbrev pub fits_word : PatternWord → (word : Text) → Bool
+fits_word (Exactly text) word = bytes_eq text word
+fits_word (Starting text) word = starts_with nat_eq word text
+
+abbrev pub fits_words : List PatternWord → (more : Bool) → (words : List Text) → Bool
+fits_words [] more [] = true
+fits_words [] more (word ∷ words) = more
+fits_words (first ∷ pattern) more [] = false
+fits_words (first ∷ pattern) more (word ∷ words) = fits_word first word && fits_words pattern more words
+
+-- whether a call with these words fits
+abbrev pub fits : Pattern → (words : List Text) → Bool
+fits pattern words = fits_words pattern.words pattern.more words
+
+-- The first line that fits decides.
+abbrev pub first_fitting : List (Pattern × Effect) → (words : List Text) → Option Effect
+first_fitting [] words = None
+first_fitting (line ∷ lines) words = if fits line.0 words then Some line.1 else first_fitting lines words
+
+-- ---- the pattern of a line
+
+-- `**` is any number of words
+abbrev pub is_rest : (word : Text) → Bool
+is_rest word = bytes_eq word (codes "**")
+
+abbrev pub is_star : ℕ → Bool
+is_star b = b == 42
+
+-- A word that ends with `*` is each word that starts as it does without the star, so `*` is any word.
+abbrev pub pattern_word : (word : Text) → PatternWord
+pattern_word word =
+    if bytes_eq (drop (length word - 1) word) (codes "*") then Starting (take (length word - 1) word) else Exactly word
+
+-- the words of a pattern, if none is `**`
+abbrev pub pattern_words : List Text → Option (List PatternWord)
+pattern_words [] = Some []
+pattern_words (word ∷ words) =
+    if is_rest word then None else option_map (λ more. pattern_word word ∷ more) (pattern_words words)
+
+abbrev pub ends_in_rest : (words : List Text) → Bool
+ends_in_rest words = elim (slice_get words (length words - 1)) [ None ↦ false | Some last ↦ is_rest last ]
+
+-- the words before that
+abbrev pub fixed_words : (words : List Text) → List Text
+fixed_words words = if ends_in_rest words then take (length words - 1) words else words
+
+-- the pattern that words are, of which the last may be `**`
+abbrev pub pattern_of : (words : List Text) → Option Pattern
+pattern_of words =
+    option_map (λ fixed. record { words = fixed; more = ends_in_rest words }) (pattern_words (fixed_words words))
+
+-- ---- the clauses of a line
+
+-- the clauses so far, and whether the last one was `always`, which a `0` or a `1` follows
+pub record Clauses : Type 0 where
+  pub effect : Effect
+  pub waits : Bool
+
+abbrev pub no_clause : Clauses
+no_clause = record { effect = record { ends = false; stays = false; always = None; sets = [] }; waits = false }
+
+-- the answer of a status
+abbrev pub answer_of : (word : Text) → Option Bool
+answer_of word =
+    if bytes_eq word (codes "0") then Some true else (if bytes_eq word (codes "1") then Some false else None)
+
+abbrev pub with_always : Clauses → Option Bool → Option Clauses
+with_always clauses None = None
+with_always clauses (Some success) =
+    Some (record { effect = record clauses.effect { always = Some success }; waits = false })
+
+abbrev pub with_setting : Clauses → Option Setting → Option Clauses
+with_setting clauses None = None
+with_setting clauses (Some set) =
+    Some (record clauses { effect = record clauses.effect { sets = clauses.effect.sets ++ set ∷ [] } })
+
+-- a clause that stands at most once
+abbrev pub once : (before : Bool) → (after : Clauses) → Option Clauses
+once true after = None
+once false after = Some after
+
+-- the clauses after one more word
+abbrev pub with_clause : Clauses → (word : Text) → Option Clauses
+with_clause clauses word =
+    if clauses.waits then with_always clauses (answer_of word)
+    else (if bytes_eq word (codes "final")
+    then once clauses.effect.ends (record clauses { effect = record clauses.effect { ends = true } })
+    else (if bytes_eq word (codes "steady")
+    then once clauses.effect.stays (record clauses { effect = record clauses.effect { stays = true } })
+    else (if bytes_eq word (codes "always")
+    then once (is_some clauses.effect.always) (record clauses { waits = true })
+    else with_setting clauses (call_setting word))))
+
+abbrev pub clauses_of : Clauses → List Text → Option Clauses
+clauses_of clauses [] = if clauses.waits then None else Some clauses
+clauses_of clauses (word ∷ words) =
+    elim (with_clause clauses word) [ None ↦ None | Some next ↦ clauses_of next words ]
+
+-- An answer that is always the same need not be remembered.
+abbrev pub effect_said : Clauses → Effect
+effect_said clauses =
+    record clauses.effect { stays = clauses.effect.stays && not (is_some clauses.effect.always) }
+
+-- ---- a line
+
+-- the name of a command, and what the calls that fit the pattern do
+pub record Call : Type 0 where
+  pub name : Text
+  pub pattern : Pattern
+  pub effect : Effect
+
+abbrev pub call_with : ℕ → (name : Text) → Option Pattern → Option Clauses → Result Call DevicesError
+call_with number name None clauses = Err (BadLine number)
+call_with number name (Some pattern) None = Err (BadLine number)
+call_with number name (Some pattern) (Some clauses) =
+    if list_any is_star name then Err (BadLine number)
+    else (if is_built_in name then Err (BuiltIn number)
+    else Ok (record { name = name; pattern = pattern; effect = effect_said clauses }))
+
+-- the words on both sides of the `:`, the name of the command first
+abbrev pub call_between : ℕ → (pattern clauses : List Text) → Result Call DevicesError
+call_between number [] clauses = Err (BadLine number)
+call_between number (name ∷ pattern) clauses =
+    call_with number name (pattern_of pattern) (clauses_of no_clause clauses)
+
+abbrev pub is_colon : (word : Text) → Bool
+is_colon word = bytes_eq word (codes ":")
+
+abbrev pub is_quote : ℕ → Bool
+is_quote b = b == 39
+
+-- quotes are not read yet
+abbrev pub has_quote : (words : List Text) → Bool
+has_quote words = list_any (λ word. list_any is_quote word) words
+
+-- how many words come before the first `:`
+abbrev pub colon_place : (words : List Text) → ℕ
+colon_place [] = 0
+colon_place (word ∷ words) = if is_colon word then 0 else colon_place words + 1
+
+abbrev pub lacks_colon : (words : List Text) → Bool
+lacks_colon words = nat_le (length words) (colon_place words)
+
+-- a line `call PATTERN : CLAUSES`, the words after `call`
+abbrev pub call_line : ℕ → (words : List Text) → Result Call DevicesError
+call_line number words =
+    if has_quote words || lacks_colon words then Err (BadLine number)
+    else call_between number (take (colon_place words) words) (drop (colon_place words + 1) words)
+
+-- `absent NAME` is `call NAME ** : always 1`
+abbrev pub absent_words : (words : List Text) → List Text
+absent_words words = words ++ codes "**" ∷ codes ":" ∷ codes "always" ∷ codes "1" ∷ []
+
+-- what a line of calls says
+abbrev pub call_said : ℕ → (first : Text) → (words : List Text) → Result Call DevicesError
+call_said number first words =
+    call_line number (if bytes_eq first (codes "call") then words else absent_words words)
+
+abbrev pub is_lone : (name : Text) → (words : List Text) → Bool
+is_lone name [] = not (list_any is_equals name)
+is_lone name (word ∷ words) = false
+
+-- whether a line is one of calls: `call` with a `:` among its words, or `absent` with one word that is no setting
+abbrev pub is_call : (first : Text) → (words : List Text) → Bool
+is_call first [] = false
+is_call first (word ∷ words) =
+    if bytes_eq first (codes "call") then list_any is_colon (word ∷ words)
+    else bytes_eq first (codes "absent") && is_lone word words

@@ -1,0 +1,104 @@
+-- What a device command does on success, and the settings of a line. Ours.
+use Rattle.std.specs.Prelude.{ℕ, ◌+◌, ◌-◌, ◌==◌, min, ◌&&◌, not, Bool, true, false, List, [], ◌∷◌, length, take, drop, Option, Some, None, option_map, codes, if◌then◌else◌}
+use Rattle.std.specs.Str.{bytes_eq}
+use Rattle.std.specs.List.{position}
+use Rattle.text.specs.Bytes as ascii
+use Rattle.text.specs.Numbers.{are_digits, value_in}
+use Rattle.text.specs.Words.{is_equals}
+use Rattle.text.specs.Lines.{Text}
+
+-- the left side of a setting: a variable, or the word of the call that names it; words are counted from 0, or it is the
+-- last
+pub data LeftSide : Type 0 where
+  Variable : Text → LeftSide
+  WordAt : ℕ → LeftSide
+  LastWord : LeftSide
+
+-- the right side: a text, or a word of the call
+pub data RightSide : Type 0 where
+  Literal : Text → RightSide
+  ValueAt : ℕ → RightSide
+  LastValue : RightSide
+
+-- what is set, and its value
+abbrev pub Setting : Type 0
+Setting = LeftSide × RightSide
+
+-- what a device command does on success: what it sets in the environment, in order, and whether the run ends; whether
+-- its answers stay: asked again with the same words in one run, it answers as before; and the only answer that it has, if
+-- it has one: whether it succeeds
+pub record Effect : Type 0 where
+  pub ends : Bool
+  pub stays : Bool
+  pub always : Option Bool
+  pub sets : List Setting
+
+-- ---- the settings of a line
+
+-- a variable's name is not empty and does not start with `-`
+abbrev pub is_variable : Text → Bool
+is_variable [] = false
+is_variable (b ∷ bytes) = not (b == ascii.minus)
+
+-- the word with this number, counted from 1; a number above the greatest of 64 bits counts as that one
+abbrev pub numbered : ℕ → Option LeftSide
+numbered number = if number == 0 then None else Some (WordAt (number - 1))
+
+abbrev pub is_decimal : Text → Bool
+is_decimal word = not (length word == 0) && are_digits word
+
+-- what follows an `@`: `last`, or the number of a word
+abbrev pub word_of_call : Text → Option LeftSide
+word_of_call which =
+    if bytes_eq which (codes "last") then Some LastWord
+    else (if is_decimal which then numbered (min (value_in 10 which) 18446744073709551615) else None)
+
+abbrev pub variable : Text → Option LeftSide
+variable name = if is_variable name then Some (Variable name) else None
+
+-- in a `sub` line, an `@` starts a word of the call
+abbrev pub left_side : (of_calls : Bool) → Text → Option LeftSide
+left_side of_calls [] = None
+left_side of_calls (b ∷ bytes) =
+    if of_calls && bytes_eq (b ∷ []) (codes "@") then word_of_call bytes else variable (b ∷ bytes)
+
+-- A setting is a left side, the first `=`, and a value that may be empty.
+abbrev pub setting : (of_calls : Bool) → Text → Option Setting
+setting of_calls word =
+    elim (position is_equals word) [
+      | None ↦ None
+      | Some at ↦ option_map (λ left. (left, Literal (drop (at + 1) word))) (left_side of_calls (take at word))
+    ]
+
+-- the settings, if each of the words is one
+abbrev pub settings : (of_calls : Bool) → List Text → Option (List Setting)
+settings of_calls [] = Some []
+settings of_calls (word ∷ words) =
+    elim (setting of_calls word) [
+      | None ↦ None
+      | Some first ↦ option_map (λ more. first ∷ more) (settings of_calls words)
+    ]
+
+-- the value that a word of the call has
+abbrev pub value_of_word : LeftSide → RightSide
+value_of_word (Variable name) = Literal name
+value_of_word (WordAt place) = ValueAt place
+value_of_word LastWord = LastValue
+
+-- In a `call` line, an `@` starts a word of the call on the right side, too.
+abbrev pub right_side : Text → Option RightSide
+right_side [] = Some (Literal [])
+right_side (b ∷ bytes) =
+    if bytes_eq (b ∷ []) (codes "@") then option_map value_of_word (word_of_call bytes) else Some (Literal (b ∷ bytes))
+
+abbrev pub both_sides : Option LeftSide → Option RightSide → Option Setting
+both_sides None right = None
+both_sides (Some left) right = option_map (λ value. (left, value)) right
+
+-- a setting of a `call` line
+abbrev pub call_setting : (word : Text) → Option Setting
+call_setting word =
+    elim (position is_equals word) [
+      | None ↦ None
+      | Some at ↦ both_sides (left_side true (take at word)) (right_side (drop (at + 1) word))
+    ]

@@ -1,0 +1,181 @@
+//! The lines of a device list that are about the calls which fit a pattern.
+ghost use Rattle.std.specs.Prelude.{◌≡◌, map, option_map, IfOk};
+ghost use Rattle.std.specs.List.{list_any};
+ghost use Rattle.commands.specs.TextsShown.{texts};
+ghost use Rattle.device_list.specs.CallLines.{colon_place, call_between, call_line, absent_words, call_said, is_call, has_quote, is_colon, is_quote, is_star, first_fitting};
+ghost use Rattle.device_list.specs.CommandsShown.{call_lines_shown, found_shown};
+ghost use Rattle.device_list.specs.DeviceListAnswers.{SaysCall};
+
+use crate::clauses::listed_of;
+use crate::device_line::has_equals;
+use crate::devices_error::DevicesError;
+use crate::listed::Listed;
+use crate::pattern::{Pattern, pattern_of};
+use builtins::is_built_in;
+use std::alloc::{AllocError, Global};
+
+/// What the calls that fit a pattern do.
+#[derive(Drop)]
+pub(crate) struct CallLine {
+    pub(crate) pattern: Pattern,
+    pub(crate) listed: Listed,
+}
+
+/// A line of calls: the name of the command, and what the calls do.
+#[derive(Drop)]
+pub(crate) struct Call<'a> {
+    pub(crate) name: &'a [u8],
+    pub(crate) line: CallLine,
+}
+
+/// What the first line that fits says. Takes no memory.
+pub(crate) fn first_fitting<'a>(lines: &'a [CallLine], words: &[Vec<u8>]) -> Option<&'a Listed>
+    ensures { option_map found_shown result ≡ first_fitting (call_lines_shown lines.now) (texts words.now) }
+{
+    for line in lines {
+        if line.pattern.fits(words) {
+            return Some(&line.listed);
+        }
+    }
+    None
+}
+
+/// Whether a word holds `*`.
+fn has_star(word: &[u8]) -> bool
+    ensures { result ≡ list_any is_star word.now }
+{
+    word.iter().any(|byte| *byte == b'*')
+}
+
+/// Whether a word holds a single quote.
+fn is_quoted(word: &[u8]) -> bool
+    ensures { result ≡ list_any is_quote word.now }
+{
+    word.iter().any(|byte| *byte == b'\'')
+}
+
+/// Whether a word holds a single quote.
+fn has_quote(words: &[&[u8]]) -> bool
+    ensures { result ≡ has_quote (map (λ w. w.now) words.now) }
+{
+    for word in words {
+        if is_quoted(word) {
+            return true;
+        }
+    }
+    false
+}
+
+/// Whether a word is `:`.
+fn is_colon(word: &[u8]) -> bool
+    ensures { result ≡ is_colon word.now }
+{
+    word == b":".as_slice()
+}
+
+/// Whether a word is `:`.
+fn has_colon(words: &[&[u8]]) -> bool
+    ensures { result ≡ list_any is_colon (map (λ w. w.now) words.now) }
+{
+    for word in words {
+        if is_colon(word) {
+            return true;
+        }
+    }
+    false
+}
+
+/// How many words come before the first `:`.
+fn colon_place(words: &[&[u8]]) -> usize
+    ensures { result ≡ colon_place (map (λ w. w.now) words.now) }
+{
+    let mut at = 0;
+    for word in words {
+        if is_colon(word) {
+            return at;
+        }
+        at += 1;
+    }
+    at
+}
+
+/// The line with these words before its `:` and after it. Errors: `BadLine`, `BuiltIn`, `Memory`.
+fn call_between<'a>(
+    alloc: Global,
+    number: usize,
+    pattern: &[&'a [u8]],
+    clauses: &[&[u8]],
+) -> Result<Call<'a>, DevicesError>
+    ensures { SaysCall (call_between number (map (λ w. w.now) pattern.now) (map (λ w. w.now) clauses.now))
+        result }
+{
+    let [name, words @ ..] = pattern else {
+        return Err(DevicesError::BadLine(number));
+    };
+    let Some(pattern) = pattern_of(alloc, words)? else {
+        return Err(DevicesError::BadLine(number));
+    };
+    let Some(listed) = listed_of(alloc, clauses)? else {
+        return Err(DevicesError::BadLine(number));
+    };
+    if has_star(name) {
+        return Err(DevicesError::BadLine(number));
+    }
+    if is_built_in(name) {
+        return Err(DevicesError::BuiltIn(number));
+    }
+    let line = CallLine { pattern, listed };
+    Ok(Call { name, line })
+}
+
+/// What a line `call` says, by the words after that. Errors: `BadLine`, `BuiltIn`, `Memory`.
+fn call_line<'a>(alloc: Global, number: usize, words: &[&'a [u8]]) -> Result<Call<'a>, DevicesError>
+    ensures { SaysCall (call_line number (map (λ w. w.now) words.now)) result }
+{
+    let at = colon_place(words);
+    if has_quote(words) || words.len() <= at {
+        return Err(DevicesError::BadLine(number));
+    }
+    call_between(alloc, number, &words[..at], &words[at + 1..])
+}
+
+/// The words of the line `call` that a line `absent` stands for.
+fn absent_words<'a>(alloc: Global, words: &[&'a [u8]]) -> Result<Vec<&'a [u8]>, AllocError>
+    ensures { IfOk result (λ all. map (λ w. w.now) all.items
+        ≡ absent_words (map (λ w. w.now) words.now)) }
+{
+    let mut all = Vec::from_slice(alloc, words)?;
+    all.push(b"**".as_slice())?;
+    all.push(b":".as_slice())?;
+    all.push(b"always".as_slice())?;
+    all.push(b"1".as_slice())?;
+    Ok(all)
+}
+
+/// What a line of calls says. Errors: `BadLine`, `BuiltIn`, `Memory`.
+pub(crate) fn call_said<'a>(
+    alloc: Global,
+    number: usize,
+    first: &[u8],
+    behind: &[&'a [u8]],
+) -> Result<Call<'a>, DevicesError>
+    ensures { SaysCall (call_said number first.now (map (λ w. w.now) behind.now)) result }
+{
+    if first == b"call".as_slice() {
+        return call_line(alloc, number, behind);
+    }
+    let words = absent_words(alloc, behind)?;
+    call_line(alloc, number, &words)
+}
+
+/// Whether a line is one of calls: `call` with a `:` among its words, or `absent` with one word that is no
+/// setting.
+pub(crate) fn is_call(first: &[u8], behind: &[&[u8]]) -> bool
+    ensures { result ≡ is_call first.now (map (λ w. w.now) behind.now) }
+{
+    match behind {
+        [_, ..] if first == b"call".as_slice() => has_colon(behind),
+        [name] => first == b"absent".as_slice() && !has_equals(name),
+        _ => false,
+    }
+}
