@@ -69,12 +69,13 @@ in_joined = refl
 -- ---- a device list: a line of a name, a `sub` line, a computed command
 
 abbrev quiet : Effect
-quiet = record { ends = false; stays = false; sets = [] }
+quiet = record { ends = false; stays = false; always = None; sets = [] }
 
 abbrev list : Devices
 list = record {
   commands = (codes "load", quiet) ∷ [];
   subs = (codes "mmc", (codes "dev", quiet) ∷ []) ∷ [];
+  calls = [];
   known = codes "itest" ∷ [];
   test_stays = false;
 }

@@ -5,7 +5,7 @@ use Rattle.hushlang.specs.Expansion.{fields, joined, atoms}
 use Rattle.rehearse_terms.specs.Outcomes.{Success, Failure}
 use Rattle.hushlang.specs.Trees.{tree_of}
 use Rattle.rehearse_terms.specs.State.{Text}
-use Rattle.device_list.specs.DeviceList.{Variable, only}
+use Rattle.device_list.specs.DeviceList.{Variable, Literal, only}
 use Rattle.rehearse_rules.specs.Execution.{End, CutSteps, Size}
 use Rattle.rehearse_rules.specs.Runs.{steps, work}
 use Rattle.device_list.specs.DeviceLaws.{is_name_alone}
@@ -49,11 +49,11 @@ unfolding told_of
 loops_at_step_bound_0 = refl
 
 -- steps and work with a final command and settings: a setting is no step
-steps_of_a_final_command : map (steps (bootcmd (limits (only ((codes "go", record { ends = true; stays = false; sets = (Variable (codes "a"), codes "1") ∷ (Variable (codes "b"), codes "2") ∷ [] }) ∷ [])) 3 100) (codes "for i in 1 2; do x=1; go $i; done; true"))) ((Success ∷ []) ∷ (Failure ∷ Success ∷ []) ∷ (Failure ∷ Failure ∷ []) ∷ []) ≡ 3 ∷ 5 ∷ 6 ∷ []
+steps_of_a_final_command : map (steps (bootcmd (limits (only ((codes "go", record { ends = true; stays = false; always = None; sets = (Variable (codes "a"), Literal (codes "1")) ∷ (Variable (codes "b"), Literal (codes "2")) ∷ [] }) ∷ [])) 3 100) (codes "for i in 1 2; do x=1; go $i; done; true"))) ((Success ∷ []) ∷ (Failure ∷ Success ∷ []) ∷ (Failure ∷ Failure ∷ []) ∷ []) ≡ 3 ∷ 5 ∷ 6 ∷ []
 unfolding tree_of fields joined atoms digits
 steps_of_a_final_command = refl
 
-work_of_a_final_command : work (bootcmd (limits (only ((codes "go", record { ends = true; stays = false; sets = [] }) ∷ [])) 3 100) (codes "for i in 1 2; do x=1; go $i; done; true")) ((Success ∷ []) ∷ (Failure ∷ Success ∷ []) ∷ (Failure ∷ Failure ∷ []) ∷ []) ≡ 6
+work_of_a_final_command : work (bootcmd (limits (only ((codes "go", record { ends = true; stays = false; always = None; sets = [] }) ∷ [])) 3 100) (codes "for i in 1 2; do x=1; go $i; done; true")) ((Success ∷ []) ∷ (Failure ∷ Success ∷ []) ∷ (Failure ∷ Failure ∷ []) ∷ []) ≡ 6
 unfolding tree_of fields joined atoms digits
 work_of_a_final_command = refl
 

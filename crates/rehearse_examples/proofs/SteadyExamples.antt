@@ -1,13 +1,15 @@
 -- Worked examples, computed: device commands whose answers stay.
-use Rattle.std.proofs.Common.{true, false, [], ◌∷◌, Some, None, codes, refl, ◌≡◌}
-use Rattle.device_list.specs.DeviceList.{Variable, LastWord, Effect, Devices, effect_of, only}
+use Rattle.std.proofs.Common.{Ok, true, false, [], ◌∷◌, Some, None, codes, refl, ◌≡◌}
+use Rattle.device_list.specs.CallLines.{Exactly}
+use Rattle.device_list.specs.DeviceList.{Variable, Literal, LastWord, Effect, Devices, effect_of, only}
+use Rattle.device_list.specs.DeviceList as lists
 use Rattle.device_list.specs.DeviceLaws.{quiet}
 use Rattle.rehearse_rules.specs.Laws.{failing}
 use Rattle.rehearse_rules.specs.Runs.{Task}
 use Rattle.rehearse_rules.proofs.ExampleRehearsals.{limits, bootcmd, bootcmd_among, z, listed, ends_along, listed_along, along}
 
 abbrev steady : Effect
-steady = record { ends = false; stays = true; sets = [] }
+steady = record { ends = false; stays = true; always = None; sets = [] }
 
 -- the device list `steady load`
 abbrev steady_load : Devices
@@ -23,7 +25,7 @@ again_listed = along 1 again z None _ refl refl
 
 -- what a success sets, it sets again: the device list `steady load a=1`
 abbrev sets_again : Task
-sets_again = bootcmd (limits (only ((codes "load", record steady { sets = (Variable (codes "a"), codes "1") ∷ [] }) ∷ [])) 16 10000) (codes "load; setenv a 2; load")
+sets_again = bootcmd (limits (only ((codes "load", record steady { sets = (Variable (codes "a"), Literal (codes "1")) ∷ [] }) ∷ [])) 16 10000) (codes "load; setenv a 2; load")
 
 sets_again_listed : listed sets_again (codes "a" ∷ []) None ≡ codes "run 0\ndev 0 load\ndev 0 load\nvar a=1\nend 0\nrun 1\ndev 1 load\ndev 1 load\nvar a=2\nend 1\ndone\n"
 unfolding listed_along ends_along
@@ -104,7 +106,7 @@ in_a_text_listed = along 1 in_a_text z None _ refl refl
 
 -- the device list `steady sub mmc dev`, `mmc`: other calls of the name are asked each time
 abbrev sub_list : Devices
-sub_list = record { commands = (codes "mmc", quiet) ∷ []; subs = (codes "mmc", (codes "dev", steady) ∷ []) ∷ []; known = []; test_stays = false }
+sub_list = record { commands = (codes "mmc", quiet) ∷ []; subs = (codes "mmc", (codes "dev", steady) ∷ []) ∷ []; calls = []; known = []; test_stays = false }
 
 abbrev steady_sub : Task
 steady_sub = failing (bootcmd (limits sub_list 16 10000) (codes "mmc dev 1; mmc dev 1; mmc rescan; mmc rescan")) 0
@@ -115,7 +117,7 @@ steady_sub_listed = along 0 steady_sub z None _ refl refl
 
 -- the device list `steady sub part list @last=1`: the variable is that of the call, and is set by each of them
 abbrev part_list : Devices
-part_list = record { commands = []; subs = (codes "part", (codes "list", record steady { sets = (LastWord, codes "1") ∷ [] }) ∷ []) ∷ []; known = []; test_stays = false }
+part_list = record { commands = []; subs = (codes "part", (codes "list", record steady { sets = (LastWord, Literal (codes "1")) ∷ [] }) ∷ []) ∷ []; calls = []; known = []; test_stays = false }
 
 abbrev parts : Task
 parts = bootcmd (limits part_list 16 10000) (codes "part list mmc v; setenv v; part list mmc v")
@@ -125,7 +127,7 @@ unfolding listed_along ends_along
 parts_listed = along 1 parts (codes "v" ∷ []) None _ refl refl
 
 -- the device list `steady mmc`, `sub mmc rescan`: the `sub` lines decide for a call
-sub_lines_decide : effect_of (record { commands = (codes "mmc", steady) ∷ []; subs = (codes "mmc", (codes "rescan", quiet) ∷ []) ∷ []; known = []; test_stays = false }) (codes "mmc") (codes "rescan" ∷ []) ≡ Some quiet
+sub_lines_decide : effect_of (record { commands = (codes "mmc", steady) ∷ []; subs = (codes "mmc", (codes "rescan", quiet) ∷ []) ∷ []; calls = []; known = []; test_stays = false }) (codes "mmc") (codes "rescan" ∷ []) ≡ Some quiet
 sub_lines_decide = refl
 
 -- an answer that is told again counts against the bound of device commands
@@ -143,3 +145,34 @@ steady_boot = bootcmd (limits (only ((codes "bootm", record steady { ends = true
 steady_boot_listed : listed steady_boot z None ≡ codes "run 0\ndev 0 bootm\nunset z\nbooted bootm\nrun 1\ndev 1 bootm\ndev 1 bootm\ntext no\\n\nunset z\nend 0\ndone\n"
 unfolding listed_along ends_along
 steady_boot_listed = along 1 steady_boot z None _ refl refl
+
+-- ---- answers that are always the same
+
+-- the device list `call usb start : always 0`, `absent part`, `load`: the one succeeds and the other fails, without an
+-- outcome, and neither counts as a failure
+abbrev fixed_list : Devices
+fixed_list = record {
+  commands = (codes "load", quiet) ∷ [];
+  subs = [];
+  calls = (codes "usb", (record { words = Exactly (codes "start") ∷ []; more = false }, record quiet { always = Some true }) ∷ []) ∷ (codes "part", (record { words = []; more = true }, record quiet { always = Some false }) ∷ []) ∷ [];
+  known = [];
+  test_stays = false;
+}
+
+fixed_read : lists.listed (codes "load\ncall usb start : always 0\nabsent part") ≡ Ok fixed_list
+fixed_read = refl
+
+abbrev fixed : Task
+fixed = failing (bootcmd (limits fixed_list 16 10000) (codes "usb start; part list mmc; echo $?; load")) 0
+
+fixed_listed : listed fixed z None ≡ codes "run 0\ndev 0 usb start\ndev 1 part list mmc\ndev 0 load\ntext 1\\n\nunset z\nend 0\ndone\n"
+unfolding listed_along ends_along
+fixed_listed = along 0 fixed z None _ refl refl
+
+-- a call that no line fits is unknown
+abbrev unfitted : Task
+unfitted = bootcmd (limits fixed_list 16 10000) (codes "usb stop")
+
+unfitted_listed : listed unfitted z None ≡ codes "run .\nunset z\nstop unknown usb\ndone\n"
+unfolding listed_along ends_along
+unfitted_listed = along 0 unfitted z None _ refl refl

@@ -1,12 +1,12 @@
 -- Outcomes of device commands in a store.
-use Rattle.std.proofs.Common.{ℕ, Bool, true, false, List, [], ◌∷◌, ◌+◌, map, drop, length, get_or, Option, Some, None, refl, sym, ap, subst, ◌∙◌, ◌≡◌, ◌<◌, ◌≤◌, arith}
+use Rattle.std.proofs.Common.{ℕ, Bool, true, false, List, [], ◌∷◌, ◌++◌, ◌+◌, map, drop, length, get_or, Option, Some, None, refl, sym, ap, subst, ◌∙◌, ◌≡◌, ◌<◌, ◌≤◌, arith}
 use Rattle.std.proofs.Math.ListN.{drop_of_length-le}
 use Rattle.std.specs.FinMap.{entries}
 use Rattle.hushlang.proofs.ExpandLemmas.{drop_next}
 use Rattle.bootstore_state.specs.Moment.{RunningFrame}
 use Rattle.bootstore_state.specs.Record.{Record, changed, with_environment, with_device, with_status}
 use Rattle.rehearse_terms.specs.Outcomes.{OutcomeWord, Outcome, Success, Failure}
-use Rattle.device_list.specs.Called.{variable_of, sets_in}
+use Rattle.device_list.specs.Called.{variable_of, value_of, set_in, sets_in}
 use Rattle.device_list.specs.DeviceList as says
 use Rattle.device_list.specs.DevicesShown.{setting_shown}
 use Rattle.device_list.specs.declared.setting.Setting.{Setting}
@@ -23,12 +23,12 @@ use Rattle.rehearse_machine.proofs.StoreMoves.{keeps_both, keeps_change}
 -- one setting of a call, and then the others
 set_cons : (words : List Text) (set : says.Setting) (sets : List says.Setting) (environment : Variables)
     → with_all (sets_in words (set ∷ sets)) environment ≡ with_all (sets_in words sets) (with_all (sets_in words (set ∷ [])) environment)
-set_cons words set sets environment = by (variable_of set.0 words)
+set_cons words set sets environment = by (variable_of set.0 words) (value_of set.1 words)
   where
-    by : (o : Option Text) → with_all (elim o [ None ↦ sets_in words sets | Some name ↦ (name, set.1) ∷ sets_in words sets ]) environment
-        ≡ with_all (sets_in words sets) (with_all (elim o [ None ↦ [] | Some name ↦ (name, set.1) ∷ [] ]) environment)
-    by None = refl
-    by (Some name) = refl
+    by : (name value : Option Text) → with_all (set_in name value ++ sets_in words sets) environment ≡ with_all (sets_in words sets) (with_all (set_in name value ++ []) environment)
+    by None value = refl
+    by (Some name) None = refl
+    by (Some name) (Some value) = refl
 
 abbrev in_call : List Text → List Setting → List (Text × Text)
 in_call words sets = sets_in words (map setting_shown sets)
@@ -69,25 +69,20 @@ all_set words sets i old now past before = (
   before.kept,
 )
 
--- a setting whose word names no variable
-pub sets_none : (words : List Text) (set : says.Setting) (old : Record) → variable_of set.0 words ≡ None
-    → Changes old old (λ m. record m { environment = with_all (sets_in words (set ∷ [])) m.environment })
-sets_none words set old e = (
-  λ w. ap (λ (o : Option Text). remember (λ m. record m { environment = with_all (elim o [ None ↦ [] | Some name ↦ (name, set.1) ∷ [] ]) m.environment }) (state_at old.present w)) (sym e),
-  refl,
-  record { marked = refl; begun = refl },
-)
+-- what one setting sets
+abbrev pub environment_with : (set : List (Text × Text)) → State → State
+environment_with set = remember (λ m. record m { environment = with_all (set ++ []) m.environment })
 
--- and a setting of a variable
-pub sets_one : (words : List Text) (set : says.Setting) (old new : Record) (name : Text) → variable_of set.0 words ≡ Some name → new ≡ changed (with_environment name (Some set.1)) old
+-- a setting of a variable
+pub sets_one : (words : List Text) (set : says.Setting) (old new : Record) (name value : Text) → variable_of set.0 words ≡ Some name → value_of set.1 words ≡ Some value → new ≡ changed (with_environment name (Some value)) old
     → Changes old new (λ m. record m { environment = with_all (sets_in words (set ∷ [])) m.environment })
-sets_one words set old new name e made = (
+sets_one words set old new name value named valued made = (
   λ w.
       ap (λ (x : Record). state_at x.present w) made
-      ∙ ap (λ (x : Variables). remember (λ m. record m { environment = x }) (state_at old.present w)) (stored_changes old.present.environment name set.1)
-      ∙ ap (λ (o : Option Text). remember (λ m. record m { environment = with_all (elim o [ None ↦ [] | Some name ↦ (name, set.1) ∷ [] ]) m.environment }) (state_at old.present w)) (sym e),
+      ∙ ap (λ (x : Variables). remember (λ m. record m { environment = x }) (state_at old.present w)) (stored_changes old.present.environment name value)
+      ∙ sym (λ i. environment_with (set_in (named i) (valued i)) (state_at old.present w)),
   ap (λ (r : Record). r.present.frames) made,
-  subst (Keeps old) (sym made) (keeps_change (with_environment name (Some set.1)) old refl),
+  subst (Keeps old) (sym made) (keeps_change (with_environment name (Some value)) old refl),
 )
 
 module _ (outcome : Outcome) (request : Request) (old mid late : Record) (entry : LoggedCommand) (words : entry.words ≡ request.name ∷ request.words) (stays : entry.stays ≡ request.effect.stays) (again : entry.again ≡ request.again) (success : succeeds outcome ≡ entry.success) (device : mid ≡ changed (with_device entry) old) (n : ℕ) (code : n ≡ status_after outcome request) (status : late ≡ changed (with_status n) mid) where

@@ -19,9 +19,9 @@ pub struct Ask<'a> {
     pub name: Vec<u8>,
     /// The words after its name.
     pub words: Vec<Vec<u8>>,
-    /// What it does on success, and whether its answers stay.
+    /// What it does on success, and how it answers.
     pub effect: Effect<'a>,
-    /// Whether it was asked before, and is told the same again.
+    /// Whether it has its answer without an outcome.
     pub again: bool,
     /// Its status.
     pub statuses: Statuses,

@@ -1,8 +1,8 @@
 //! Outcomes of device commands.
 ghost use Rattle.std.specs.Prelude.{◌≡◌, ◌∷◌, [], false, map, option_map, if◌then◌else◌};
 ghost use Rattle.text.specs.TextsShown.{bytes_of_words};
-ghost use Rattle.device_list.specs.Called.{named_by, variable_of, sets_in};
-ghost use Rattle.device_list.specs.DevicesShown.{left_shown, setting_shown};
+ghost use Rattle.device_list.specs.Called.{named_by, variable_of, value_of, sets_in};
+ghost use Rattle.device_list.specs.DevicesShown.{left_shown, right_shown, setting_shown};
 ghost use Rattle.rehearse_terms.specs.Outcomes.{Outcome};
 ghost use Rattle.rehearse_rules.specs.Execution.{succeeds, with_all};
 ghost use Rattle.device_list.specs.CommandsShown.{lent_effect};
@@ -14,7 +14,7 @@ use crate::ask::{Ask, Statuses, Step};
 use crate::told::told;
 use bootstore_state::{LogEntry, Store, StoreError};
 use commands::is_bad_name;
-use device_list::{Effect, LeftSide, Setting};
+use device_list::{Effect, LeftSide, RightSide, Setting};
 use rehearse_rules::Halt;
 use rehearse_terms::RunBounds;
 use std::alloc::Global;
@@ -129,8 +129,31 @@ fn set_one<S: Store>(store: &mut S, words: &[Vec<u8>], set: &Setting) -> Result<
     let Some(name) = variable_of(&set.left, words) else {
         return Ok(());
     };
-    store.set_env(name, Some(&set.value))?;
+    let Some(value) = value_of(&set.value, words) else {
+        return Ok(());
+    };
+    store.set_env(name, Some(value))?;
     Ok(())
+}
+
+/// The value that the right side of a setting means in a call with these words.
+fn value_of<'a>(right: &'a RightSide, words: &'a [Vec<u8>]) -> Option<&'a [u8]>
+    ensures { option_map (λ v. v.now) result ≡ value_of (right_shown right.now)
+        (bytes_of_words words.now) }
+{
+    match right {
+        RightSide::Literal(text) => Some(text),
+        RightSide::ValueAt(place) => bytes_of_word(words.get(*place as usize)),
+        RightSide::LastValue => bytes_of_word(words.last()),
+    }
+}
+
+/// The bytes of a word, if there is one.
+fn bytes_of_word(word: Option<&Vec<u8>>) -> Option<&[u8]>
+    ensures { option_map (λ v. v.now) result ≡ option_map (λ w. w.now.items) word.entry }
+{
+    let word = word?;
+    Some(word)
 }
 
 /// The variable that the left side of a setting means in a call with these words.

@@ -88,6 +88,7 @@ fn ask_file<'d, S: Store>(
     let effect = Effect {
         ends: false,
         stays: devices.test_stays(),
+        always: None,
         sets: &[],
     };
     ask(alloc, store, bounds, name, &question, effect, statuses)

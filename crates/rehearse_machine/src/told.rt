@@ -39,8 +39,8 @@ fn answer_in(log: &[LogEntry], name: &[u8], words: &[Vec<u8>]) -> Option<bool>
     None
 }
 
-/// The answer that stays for a command, if its answers stay and it was asked before with the same
-/// words.
+/// The answer that a command has without an outcome: that of before, if its answers stay and it was
+/// asked before with the same words; or the only one that it has.
 pub(crate) fn told<S: Store>(
     store: &S,
     name: &[u8],
@@ -53,6 +53,6 @@ pub(crate) fn told<S: Store>(
     if effect.stays {
         answer_in(store.log(), name, words)
     } else {
-        None
+        effect.always
     }
 }

@@ -1,5 +1,5 @@
 -- Over a device list on which no answer stays, no command is told an answer again.
-use Rattle.std.proofs.Common.{◌≡◌, ◌∙◌, Bool, true, false, not, cond, List, [], ◌∷◌, ◌++◌, length, map, refl, sym, ap, subst, nat_lt}
+use Rattle.std.proofs.Common.{None, ◌≡◌, ◌∙◌, Bool, true, false, not, cond, List, [], ◌∷◌, ◌++◌, length, map, refl, sym, ap, subst, nat_lt}
 use Rattle.std.proofs.lemmas.List.Elements.{filter-append}
 use Rattle.device_list.specs.Called.{sets_in}
 use Rattle.device_list.specs.DeviceList.{Effect}
@@ -36,9 +36,12 @@ asks-take r (Success ∷ rest) s fresh h =
     asks-boot r.effect.ends r.name (set_environment (sets_in r.words r.effect.sets) (logged Success r (record s { word = rest }))) (one_more s.log e fresh h)
 asks-take r (Failure ∷ rest) s fresh h = one_more s.log (record { success = false; words = r.name ∷ r.words; stays = r.effect.stays; again = r.again }) fresh h
 
-asks-device : (limits : Limits) (r : Request) → r.again ≡ false → r.effect.stays ≡ false → KeepsLog AllTook (device limits r)
+abbrev AsksAnew : Effect → Type 0
+AsksAnew effect = (effect.stays ≡ false) × (effect.always ≡ None)
+
+asks-device : (limits : Limits) (r : Request) → r.again ≡ false → AsksAnew r.effect → KeepsLog AllTook (device limits r)
 asks-device limits r fresh anew s h =
-    subst (λ (a : Answer). AllAsked (state_of a)) (sym (asks_anew limits r s anew))
+    subst (λ (a : Answer). AllAsked (state_of a)) (sym (asks_anew limits r s anew.0 anew.1))
     (by (nat_lt (length s.log) limits.device_bound))
   where
     by : (room : Bool) → AllAsked (state_of (elim room [ true ↦ take_outcome r s.word s | false ↦ Ended CutDevices s ]))
@@ -46,6 +49,6 @@ asks-device limits r fresh anew s h =
     by false = h
 
 pub whole_log_is_word : WholeLogIsWord
-whole_log_is_word task w each run =
-    let all : AllAsked (state_of (run_on task w)) = run-keeps AllTook task.limits (λ (effect : Effect). effect.stays ≡ false) each.1 each.0 (asks-device task.limits) task.limits.step_bound task.name task.text (start task.environment w) refl in
+whole_log_is_word task w each always run =
+    let all : AllAsked (state_of (run_on task w)) = run-keeps AllTook task.limits AsksAnew (each.1, refl) (λ name words effect e. (each.0 name words effect e, always name words effect e)) (asks-device task.limits) task.limits.step_bound task.name task.text (start task.environment w) refl in
     ap (map (λ e. e.success)) (sym all) ∙ log_is_word task w run

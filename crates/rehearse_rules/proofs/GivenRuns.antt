@@ -97,11 +97,13 @@ called_apart devices name words = by (builtin_of name) refl
         (λ i. chosen devices name words (none i) (e i))
 
 -- a device command whose answers do not stay asks each time
-pub asks_anew : (bounds : Limits) (request : Request) (s : State) → request.effect.stays ≡ false → device bounds request s ≡ asked_anew bounds request s
-asks_anew bounds request s e = ap (λ (b : Bool). let a : Answer = elim (nat_lt (length s.log) bounds.device_bound) [
-  | true ↦ tell_or_take (cond b (answer_in s.log (request.name ∷ request.words)) None) request s
-  | false ↦ Ended CutDevices s
-] in a) e
+pub asks_anew : (bounds : Limits) (request : Request) (s : State) → request.effect.stays ≡ false → request.effect.always ≡ None → device bounds request s ≡ asked_anew bounds request s
+asks_anew bounds request s e none =
+    ap (λ (b : Bool). let a : Answer = elim (nat_lt (length s.log) bounds.device_bound) [
+      | true ↦ tell_or_take (cond b (answer_in s.log (request.name ∷ request.words)) request.effect.always) request s
+      | false ↦ Ended CutDevices s
+    ] in a) e
+    ∙ ap (λ (o : Option Bool). let a : Answer = elim (nat_lt (length s.log) bounds.device_bound) [ true ↦ tell_or_take o request s | false ↦ Ended CutDevices s ] in a) none
 
 module _ (bounds : Limits) (own : bounds.shell ≡ Profile) (devices : Devices) (test : devices.test_stays ≡ false) (others : Others) (given : AreGiven bounds devices others) where
   module _ (f g : Script → Does) (same : f ≡ g) where
@@ -109,7 +111,7 @@ module _ (bounds : Limits) (own : bounds.shell ≡ Profile) (devices : Devices) 
     asked_in shell stays name words = record {
       name = name;
       words = question_in shell words;
-      effect = record { ends = false; stays = stays; sets = [] };
+      effect = record { ends = false; stays = stays; always = None; sets = [] };
       again = false;
       on_success = status_when (truth_if shell true words);
       on_failure = status_when (truth_if shell false words);

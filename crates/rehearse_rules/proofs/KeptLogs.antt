@@ -2,7 +2,7 @@
 use Rattle.std.proofs.Common.{◌≡◌, ℕ, zero, suc, Bool, true, false, List, [], ◌∷◌, length, Option, Some, None, refl, nat_lt, nat_le, nat_eq}
 use Rattle.hushlang.specs.Tree as tree
 use Rattle.hushlang.specs.Tree.{Script, AndOr, Joined, Command, Arms}
-use Rattle.hushlang.specs.Expansion.{joined, size, most_bytes}
+use Rattle.hushlang.specs.Expansion.{size, most_bytes}
 use Rattle.builtins.specs.Builtins.{Builtin, builtin_of}
 use Rattle.commands.specs.Computed.{Computed}
 use Rattle.device_list.specs.Called.{Called, BuiltIn, Device, NoCommand, called_by}
@@ -11,7 +11,7 @@ use Rattle.device_list.specs.DeviceList.{Effect, computed_by, effect_of}
 use Rattle.rehearse_rules.proofs.TakenOutcomes.{skipped}
 use Rattle.rehearse_terms.specs.declared.shell.Shell.{Shell}
 use Rattle.rehearse_rules.specs.ByShell.{unread, leaves_in, status_of_exit, asks_in, truth_in, fields_in, turns_in, skips_rest, status_of_loop, follows, assigned_in}
-use Rattle.rehearse_rules.specs.Execution.{Limits, Answer, Normal, Exit, Ended, Dry, CutSteps, Size, Request, go_on, set_status, set_local, status_when, goes, holds, begin, device, test_effect, text_end, run_text, run_all, command, simple, sized, assign, turns, begin_turn, for_each, exec_script, exec_list, exec_joined, exec_command, exec_arms, exec, Unsupported, assign_local, request_of, test_request, started_text}
+use Rattle.rehearse_rules.specs.Execution.{Limits, Answer, Normal, Exit, Ended, Dry, CutSteps, Size, Request, go_on, set_status, status_when, goes, holds, begin, device, test_effect, text_end, run_text, run_all, command, simple, sized, assign, turns, begin_turn, for_each, exec_script, exec_list, exec_joined, exec_command, exec_arms, exec, Unsupported, assign_local, request_of, test_request, started_text}
 use Rattle.rehearse_rules.specs.Runs.{state_of}
 use Rattle.rehearse_terms.specs.State.{Text, get, LoggedCommand, State}
 use Rattle.rehearse_rules.specs.Parameters.{parameters_in}

@@ -113,7 +113,7 @@ was_told false = refl
 
 -- the answer is what the log has, if the command is steady
 asked_by : (r : Request) (s : State) (o : Option Bool) → told r s.log ≡ o → r.effect.stays ≡ true → answer_in s.log (r.name ∷ r.words) ≡ o
-asked_by r s o e stays = sym (ap (λ (b : Bool). cond b (answer_in s.log (r.name ∷ r.words)) None) stays) ∙ e
+asked_by r s o e stays = sym (ap (λ (b : Bool). cond b (answer_in s.log (r.name ∷ r.words)) r.effect.always) stays) ∙ e
 
 tells-fits : (r : Request) (s : State) (o : Option Bool) → told r s.log ≡ o → r.again ≡ false → Fitting s.log → FittingAnswer (tell_or_take o r s)
 tells-fits r s None e fresh h =

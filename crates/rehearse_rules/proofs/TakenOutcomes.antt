@@ -7,12 +7,12 @@ use Rattle.hushlang.specs.Tree as tree
 use Rattle.hushlang.specs.Tree.{Script, AndOr, Joined, Command, Arms}
 use Rattle.rehearse_terms.specs.State.{Text, get, Memory, State, LoggedCommand, asked_of}
 use Rattle.rehearse_rules.specs.Parameters.{parameters_in}
-use Rattle.hushlang.specs.Expansion.{joined, size, most_bytes}
+use Rattle.hushlang.specs.Expansion.{size, most_bytes}
 use Rattle.hushlang_old.specs.TreesByShell.{tree_in, lacks_end_in}
 use Rattle.device_list.specs.Called.{Called, BuiltIn, Device, NoCommand, called_by, sets_in}
 use Rattle.commands.specs.BuiltInCommands.{ChangesVariables, WritesText, RunsTexts, Tests, Exits, variables_changed, text_written}
 use Rattle.rehearse_rules.specs.ByShell.{unread, leaves_in, status_of_exit, asks_in, truth_in, fields_in, turns_in, skips_rest, status_of_nothing, status_of_no_block, status_of_loop, follows, assigned_in}
-use Rattle.rehearse_rules.specs.Execution.{Limits, Answer, Normal, Exit, Ended, Dry, Ending, CutDevices, CutSteps, Unknown, Size, go_on, remember, set_status, set_local, status_when, goes, holds, begin, take_outcome, with_outcome, outcome_when, told, told_again, tell_or_take, device, Request, test_effect, logged, set_environment, boot, text_end, run_text, run_all, command, simple, sized, assign, turns, begin_turn, for_each, exec_script, exec_list, exec_joined, exec_command, exec_arms, exec, succeeds, Unsupported, assign_local, request_of, test_request, started_text}
+use Rattle.rehearse_rules.specs.Execution.{Limits, Answer, Normal, Exit, Ended, Dry, Ending, CutDevices, CutSteps, Unknown, Size, go_on, remember, set_status, status_when, goes, holds, begin, take_outcome, with_outcome, outcome_when, told, told_again, tell_or_take, device, Request, logged, set_environment, boot, text_end, run_text, run_all, command, simple, sized, assign, turns, begin_turn, for_each, exec_script, exec_list, exec_joined, exec_command, exec_arms, exec, succeeds, Unsupported, assign_local, request_of, test_request, started_text}
 use Rattle.rehearse_rules.specs.Runs.{state_of}
 
 -- the state with these outcomes after its own

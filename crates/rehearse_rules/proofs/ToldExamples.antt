@@ -2,7 +2,7 @@
 use Rattle.std.proofs.Common.{◌≡◌, ℕ, Bool, true, false, List, [], ◌∷◌, Some, None, codes, refl, map}
 use Rattle.rehearse_terms.specs.Outcomes.{OutcomeWord, Success, Failure}
 use Rattle.rehearse_terms.specs.State.{Text, Variables, LoggedCommand, State, start}
-use Rattle.device_list.specs.DeviceList.{Variable, Effect, only}
+use Rattle.device_list.specs.DeviceList.{Variable, Literal, Effect, only}
 use Rattle.device_list.specs.DeviceLaws.{quiet}
 use Rattle.rehearse_terms.specs.declared.shell.Shell.TheVariants.{Profile}
 use Rattle.rehearse_rules.specs.Execution.{Limits, Normal, Ended, Dry, Booted, CutDevices, Request, told, tell_or_take, device, test_effect, request_of}
@@ -35,6 +35,13 @@ name_and_words = refl
 
 not_asked_yet : told (request steady) [] ≡ None
 not_asked_yet = refl
+
+-- an answer that is always the same is told from the first time on, and again
+always_told : map (λ success. told (request (record quiet { always = Some success })) []) (true ∷ false ∷ []) ≡ Some true ∷ Some false ∷ []
+always_told = refl
+
+always_told_again : told (request (record quiet { always = Some true })) (logged (codes "load") ∷ []) ≡ Some true
+always_told_again = refl
 
 -- ---- what it comes to, in a state with this log and this word
 
@@ -75,7 +82,7 @@ none_left = refl
 
 -- what a success sets, it sets when it is told; a failure sets nothing
 abbrev setting : Effect
-setting = record steady { sets = (Variable (codes "b"), codes "3") ∷ [] }
+setting = record steady { sets = (Variable (codes "b"), Literal (codes "3")) ∷ [] }
 
 success_sets : tell_or_take (Some true) (request setting) (at [] []) ≡ Normal (then_at (entry true true true ∷ []) [] 0 ((codes "b", codes "3") ∷ []))
 success_sets = refl

@@ -83,8 +83,8 @@ holds true status = not (nat_eq status 0)
 
 -- ---- device commands
 
--- a device command that is asked: its name, its words, and what it does on success; whether it was asked before, and is
--- told the same again; and its status on success, and on failure
+-- a device command that is asked: its name, its words, and what it does on success; whether it has its
+-- answer without an outcome; and its status on success, and on failure
 pub record Request : Type 0 where
   pub name : Text
   pub words : List Text
@@ -103,7 +103,7 @@ status_after Failure request = request.on_failure
 
 -- `test -e` changes nothing; its answers stay if the list says so
 abbrev pub test_effect : Devices → Effect
-test_effect devices = record { ends = false; stays = devices.test_stays; sets = [] }
+test_effect devices = record { ends = false; stays = devices.test_stays; always = None; sets = [] }
 
 -- the question of a `test`: its status says whether the words hold
 abbrev pub test_request : Limits → (name : Text) → (words : List Text) → Request
@@ -154,14 +154,16 @@ abbrev pub take_outcome : Request → OutcomeWord → State → Answer
 take_outcome request [] s = Dry s
 take_outcome request (outcome ∷ rest) s = with_outcome outcome request (record s { word = rest })
 
--- the answer that stays for it: a command whose answers stay, and that was asked before with the same words
+-- the answer that it has without an outcome: that of before, if its answers stay and it was asked before with the same words;
+-- or the only one that it has
 abbrev pub told : Request → List LoggedCommand → Option Bool
-told request log = if request.effect.stays then answer_in log (request.name ∷ request.words) else None
+told request log =
+    if request.effect.stays then answer_in log (request.name ∷ request.words) else request.effect.always
 
 abbrev pub told_again : Request → Request
 told_again request = record request { again = true }
 
--- it has the answer that stays for it, and takes no outcome; or else it takes one
+-- it has an answer, and takes no outcome; or else it takes one
 abbrev pub tell_or_take : (told : Option Bool) → Request → State → Answer
 tell_or_take (Some success) request s = with_outcome (outcome_when success) (told_again request) s
 tell_or_take None request s = take_outcome request s.word s

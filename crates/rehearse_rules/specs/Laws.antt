@@ -2,7 +2,7 @@
 use Rattle.std.specs.Prelude.{ℕ, ◌+◌, ◌^◌, true, filter, List, [], ◌∷◌, ◌++◌, length, map, flat_map, take, drop, Option, Some, None, ◌≡◌, ◌≢◌, ◌↔◌, ◌≤◌, ◌<◌, codes}
 use Rattle.rehearse_terms.specs.Outcomes.{OutcomeWord, Outcome, Run, Short, common_prefix, comes_before, has_success, turned, is_within, first_run, first_from}
 use Rattle.rehearse_terms.specs.State.{Text, LoggedCommand, State, asked_of}
-use Rattle.device_list.specs.Kinds.{Steady, SaysNothing}
+use Rattle.device_list.specs.Kinds.{Steady, EachCall, SaysNothing}
 use Rattle.rehearse_rules.specs.Execution.{Ended, Dry, CutSteps, CutDevices, succeeds}
 use Rattle.rehearse_rules.specs.Runs.{Task, run_on, state_of, steps, asked, kind, all_runs, runs, IsListed, rest}
 use Rattle.rehearse_rules.specs.Listing.{listing, line, spelled, record_of, words_listed, closing}
@@ -43,10 +43,11 @@ abbrev pub LogIsWord : Type 0
 LogIsWord = (task : Task) (w : OutcomeWord) → kind task w ≡ Run →
     map (λ e. e.success) (asked_of (state_of (run_on task w)).log) ≡ map succeeds w
 
--- Over a device list that says of no answer that it stays, no command is told an answer again, so the outcomes in the
--- whole log are its word.
+-- Over a device list that says of no answer that it stays or is always the same, each command takes an outcome, so the
+-- outcomes in the whole log are its word.
 abbrev pub WholeLogIsWord : Type 0
-WholeLogIsWord = (task : Task) (w : OutcomeWord) → SaysNothing Steady task.limits.devices → kind task w ≡ Run →
+WholeLogIsWord = (task : Task) (w : OutcomeWord) → SaysNothing Steady task.limits.devices →
+    EachCall (λ effect. effect.always ≡ None) task.limits.devices → kind task w ≡ Run →
     map (λ e. e.success) (state_of (run_on task w)).log ≡ map succeeds w
 
 -- Of two commands in the log of a run whose answers stay, with the same words, the later one has the answer of the earlier

@@ -8,5 +8,5 @@ use Rattle.rehearse_machine.proofs.outcomes.set_one.Goals as goal
 pub returns : goal.returns
 returns g c =
     let old = g.S.Store.record_of c.args.store.now in
-    sets_one (bytes_of_words c.args.words.now) (setting_shown c.args.set.now) old (g.S.Store.record_of c.set_env.new.self) c.in-Some.name.now (sym c.in-Some.ensures)
-    (c.in_ok-set_env.ensures.ok ∙ ap (λ (v : List ℕ). changed (with_environment c.in-Some.name.now (Some v)) old) c.deref.ensures.value)
+    sets_one (bytes_of_words c.args.words.now) (setting_shown c.args.set.now) old (g.S.Store.record_of c.set_env.new.self) c.in-Some.name.now c.in-Some-value_of.value.now (sym c.in-Some.ensures) (sym c.in-Some-value_of.ensures)
+    c.in_ok-set_env.ensures.ok
