@@ -41,6 +41,7 @@ pub fn read_sources<F: Files>(
         origin,
         device_list,
         script,
+        ..
     } = inputs;
     let images = read_origin(alloc, files, origin)?;
     let device_list = read_list(alloc, files, device_list)?;

@@ -26,7 +26,7 @@ AsksFor words what = AsksForAs Ubtool words what
 
 -- these files are read, and no script
 abbrev pub read_from : OriginShown → (device_list : Text) → InputsShown
-read_from origin device_list = record { origin = origin; device_list = device_list; script = None }
+read_from origin device_list = record { origin = origin; device_list = device_list; steady = false; script = None }
 
 -- the value alone
 abbrev pub bare : PrintForm

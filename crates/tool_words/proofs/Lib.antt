@@ -5,6 +5,7 @@ pub mod AnswerLemmas
 pub mod CommandLineExamples
 mod TextExamples
 mod ScriptExamples
+mod SteadyExamples
 mod ImageExamples
 mod InspectExamples
 pub mod CalledLemmas

@@ -32,10 +32,12 @@ pub data OriginShown : Type 0 where
   texts : (path : Text) → (order : ByteOrder) → OriginShown
   no_images : (order : ByteOrder) → OriginShown
 
--- what a rehearsal reads: the images, a device list, and a script that runs in place of a variable
+-- what a rehearsal reads: the images, a device list, and a script that runs in place of a variable; and whether each
+-- device command and `test -e` is steady, as if each line of the list said so
 pub record InputsShown : Type 0 where
   pub origin : OriginShown
   pub device_list : Text
+  pub steady : Bool
   pub script : Option Text
 
 -- what `endings` is asked for
@@ -219,16 +221,16 @@ abbrev pub variable_of : List Row → Text
 variable_of rows = unwrap_or (first_of (codes "script") rows) (variable_named rows)
 
 -- what a rehearsal reads: a script takes no variable beside it
-abbrev pub inputs_with : (device_list : Text) → (script : Option Text) → Result OriginShown OriginError →
-    Result InputsShown OriginError
-inputs_with device_list script (Err error) = Err error
-inputs_with device_list script (Ok origin) =
-    Ok (record { origin = origin; device_list = device_list; script = script })
+abbrev pub inputs_with : (device_list : Text) → (steady : Bool) → (script : Option Text) →
+    Result OriginShown OriginError → Result InputsShown OriginError
+inputs_with device_list steady script (Err error) = Err error
+inputs_with device_list steady script (Ok origin) =
+    Ok (record { origin = origin; device_list = device_list; steady = steady; script = script })
 
 abbrev pub inputs_asked : (device_list : Text) → List Row → Result InputsShown OriginError
 inputs_asked device_list rows =
     if is_some (first_of (codes "script") rows) && is_some (first_of (codes "variable") rows) then Err ScriptAndVariable
-    else inputs_with device_list (first_of (codes "script") rows) (origin_beside rows)
+    else inputs_with device_list (is_set (codes "steady") rows) (first_of (codes "script") rows) (origin_beside rows)
 
 -- the bounds if none are given
 abbrev pub usual_devices : ℕ

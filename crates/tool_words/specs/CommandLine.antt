@@ -88,6 +88,10 @@ setenv = command (codes "setenv") (config ∷ image ∷ second ∷ big_endian �
 abbrev pub device_list : Rule
 device_list = record (lettered_option (codes "device-list") (letter (codes "d"))) { required = true }
 
+-- each device command and `test -e` is steady
+abbrev pub steady : Rule
+steady = long_flag (codes "steady")
+
 -- `-b NAME`, and the two bounds
 abbrev pub variable : Rule
 variable = lettered_option (codes "variable") (letter (codes "b"))
@@ -118,7 +122,7 @@ limit = number_option (codes "limit") 1 most_records
 
 abbrev pub rehearse : App
 rehearse = command (codes "rehearse")
-    (config ∷ image ∷ second ∷ text_file ∷ big_endian ∷ device_list ∷ variable ∷ script_file ∷ devices ∷ steps ∷ shell ∷ word ∷ failures ∷ after ∷ limit ∷ names ∷ [])
+    (config ∷ image ∷ second ∷ text_file ∷ big_endian ∷ device_list ∷ steady ∷ variable ∷ script_file ∷ devices ∷ steps ∷ shell ∷ word ∷ failures ∷ after ∷ limit ∷ names ∷ [])
 
 -- how many states may be searched, and the greatest number of them that can be allowed
 abbrev pub most_states : ℕ
@@ -133,7 +137,7 @@ flow = long_flag (codes "flow")
 
 abbrev pub endings : App
 endings = command (codes "endings")
-    (config ∷ image ∷ second ∷ text_file ∷ big_endian ∷ device_list ∷ variable ∷ script_file ∷ devices ∷ steps ∷ shell ∷ states ∷ flow ∷ names ∷ [])
+    (config ∷ image ∷ second ∷ text_file ∷ big_endian ∷ device_list ∷ steady ∷ variable ∷ script_file ∷ devices ∷ steps ∷ shell ∷ states ∷ flow ∷ names ∷ [])
 
 -- how many device commands may fail in a run that `causes` looks at, and the greatest number of them that can be allowed
 abbrev pub most_cause_failures : ℕ
@@ -148,7 +152,7 @@ check = long_flag (codes "check")
 
 abbrev pub causes : App
 causes = command (codes "causes")
-    (config ∷ image ∷ second ∷ text_file ∷ big_endian ∷ device_list ∷ variable ∷ script_file ∷ devices ∷ steps ∷ shell ∷ cause_failures ∷ check ∷ [])
+    (config ∷ image ∷ second ∷ text_file ∷ big_endian ∷ device_list ∷ steady ∷ variable ∷ script_file ∷ devices ∷ steps ∷ shell ∷ cause_failures ∷ check ∷ [])
 
 -- `--size N` and `-o FILE`, which each call of `image` needs, and `TEXT`
 abbrev pub size : Rule

@@ -146,13 +146,15 @@ pub enum Origin {
     },
 }
 
-/// The files that a rehearsal reads.
+/// The files that a rehearsal reads, and how it takes the device list.
 #[derive(Debug, Drop)]
 pub struct Inputs {
     /// What names the images.
     pub origin: Origin,
     /// The path of the device list.
     pub device_list: String,
+    /// Whether each device command and `test -e` is steady, as if each line of the list said so.
+    pub steady: bool,
     /// The path of the script that runs in place of a variable, if one is given.
     pub script: Option<String>,
 }

@@ -99,12 +99,14 @@ Examples:
 
 pub(crate) const REHEARSE_NOTES: &str = "\
 Each way that the device commands can succeed or fail is a run, and each run is
-listed once, success before failure. A run's word has a digit for each device
-command: 0 where it succeeds, 1 where it fails. A run that meets a bound is
-listed as cut. With --failures 1 the runs are those in which any one device
-command fails, or none; with 2, any two. What a steady command is told again has
-no digit, and does not count as a failure. With --word the run of one word is
-written alone, also of a word that endings names. The image is never written.
+listed once, success before failure. A run's word has a digit for each answer: 0
+for a success, 1 for a failure. An answer that a steady command gives again has
+no digit, and is not counted again. A run that meets a bound is listed as cut.
+With --failures 1 the runs are those in which any one answer is a failure, or
+none; with 2, any two. With --steady a question, which is a command with its
+words, has one answer in a run: the failures are then facts of the board, each
+counted once. With --word the run of one word is written alone, also of a word
+that endings names. The image is never written.
 
 A line of the device list is one of these:
 
@@ -117,13 +119,15 @@ A line of the device list is one of these:
 
 They go together as in 'final steady sub NAME WORD VAR=VALUE'. In a sub line,
 @1=VALUE or @last=VALUE sets the variable that a word of the call names. The
-line 'steady test' is about 'test -e'. Lines that begin with # are skipped.
+line 'steady test' is about 'test -e'. With --steady each command and 'test -e'
+is steady, whatever the list says. Lines that begin with # are skipped.
 
 Examples:
   ubtool rehearse -d devices.txt
   ubtool rehearse -d devices.txt -b altbootcmd --failures 1 bootargs fdtfile
   ubtool rehearse -d devices.txt --limit 20 --after 0110
   ubtool rehearse -d devices.txt --word 0110 bootargs
+  ubtool rehearse -d devices.txt --steady --failures 1
   ubtool rehearse --text env.txt -d devices.txt
   ubtool rehearse --script boot.scr --text env.txt -d devices.txt
 ";
@@ -131,7 +135,7 @@ Examples:
 pub(crate) const ENDINGS_NOTES: &str = "\
 All runs are counted by how they end, even if they are too many to list. A line
 for each ending is written, in the order of the first run that ends so. After it
-comes a line for each device command that has to fail. The last line is about
+comes a line for each answer that has to be a failure. The last line is about
 all runs:
 
   ends COUNT first WORD fewest FAILURES WORD ENDING
@@ -141,14 +145,14 @@ all runs:
   all COUNT states STATES
 
 COUNT runs end so. The first WORD is that of the first of them, the second that
-of the first of those in which the fewest device commands fail, where what a
-steady command is told again does not count. ENDING is the last line of their
-records, as rehearse lists them. Runs that leave another value of a NAME of the
-call are another ending, and each NAME has a line var or unset, in the order of
-the call; with --flow a NAME has no effect. The lines fails are the device
-commands that fail in the run of the second WORD, in its order. A state is what
-variables, status and script are when a device command asks; each is gone
-through once.
+of the first of those with the fewest FAILURES. An answer that a steady command
+gives again is not counted again. ENDING is the last line of their records, as
+rehearse lists them. Runs that leave another value of a NAME of the call are
+another ending, and each NAME has a line var or unset, in the order of the call;
+with --flow a NAME has no effect. The lines fails are the commands that fail in
+the run of the second WORD, in its order, one for each failure. With --steady
+they are facts of the board, each once. A state is what variables, status,
+answers and script are when a device command asks; each is gone through once.
 
 With --flow a line for each state and for each way to end is written instead.
 Numbers count from 1, where a run begins, and a word leads from line to line:
@@ -164,32 +168,35 @@ Examples:
   ubtool endings -c fw_env.config -d devices.txt --states 5000000
   ubtool endings -d devices.txt --flow
   ubtool endings -d devices.txt bootargs
+  ubtool endings -d devices.txt --steady
   ubtool endings --text env.txt -d devices.txt
   ubtool endings --script boot.cmd -d devices.txt
 ";
 
 pub(crate) const CAUSES_NOTES: &str = "\
-All runs are gone through in which at most N device commands fail. For each
-ending it is told what has to fail, in one or more causes: a line, and then a
-line for each device command that fails:
+All runs are gone through in which at most N answers are failures. For each
+ending, the report says what has to fail, in one or more causes: a line, and
+then a line for each failure:
 
   cause FAILURES ENDING
   fails WORDS
 
-FAILURES device commands fail in a run, and no run with the same ending has only
-some of these failures. ENDING is the last line of its record, as rehearse lists
-it. A cause of 0 failures is how the script ends if all goes well. What a steady
-command is told again does not count. A run that meets a bound has an ending
+A run has FAILURES failures, and no run with the same ending has only some of
+them. ENDING is the last line of its record, as rehearse lists it. A cause of 0
+failures is how the script ends if all goes well. An answer that a steady
+command gives again is not counted again. A run that meets a bound has an ending
 too, cut devices or cut steps.
 
 With --check the endings that boot are left out, and the status is 1 if another
-is left. Status 0 says: whatever N device commands fail, this board boots. The
-image is read and never written.
+is left. Status 0 says: whatever N answers are failures, this board boots. With
+--steady it says: whatever N facts of the board are not so, it boots. The image
+is read and never written.
 
 Examples:
   ubtool causes -d devices.txt
   ubtool causes -d devices.txt -b altbootcmd --failures 1
   ubtool causes -c fw_env.config -d devices.txt --check
+  ubtool causes -d devices.txt --check --steady --failures 1
   ubtool causes -i env.img -d devices.txt --failures 3
   ubtool causes --script boot.cmd -d devices.txt
 ";
@@ -206,13 +213,13 @@ Examples:
 ";
 
 pub(crate) const INSPECT_NOTES: &str = "\
-For each copy it is told where it is, which CRC is there, which one is right,
-its flag if it is a copy of a pair, and whether it counts; of a pair then why.
+The report says of each copy where it is, which CRC it has, which one is right,
+its flag if it is a copy of a pair, and whether it counts; of a pair also why.
 Last come the number of variables and the bytes of the data that are used and
-free, or the first fault of the data. If no copy counts, it is told as what the
-bytes would be right: single or a copy of a pair, with the CRC in the other byte
-order, in a smaller size, at an offset. The status is 1 if no copy counts or the
-data have a fault. Nothing is written but this report.
+free, or the first fault of the data. If no copy counts, the report says as what
+the bytes would be right: single or a copy of a pair, with the CRC in the other
+byte order, in a smaller size, at an offset. The status is 1 if no copy counts
+or the data have a fault. Nothing is written but this report.
 
 Examples:
   ubtool inspect

@@ -151,6 +151,7 @@ pub(crate) fn inputs_of(
     Ok(Inputs {
         origin: origin_beside(alloc, matches)?,
         device_list,
+        steady: is_set(matches, "steady"),
         script,
     })
 }

@@ -132,6 +132,17 @@ const SETENV: [Argument<'static>; 9] = [
     VALUES,
 ];
 
+/// The flag for a list whose commands are all steady.
+const STEADY: Argument<'static> = Argument {
+    id: "steady",
+    form: Form::Flag,
+    letter: None,
+    alias: None,
+    required: false,
+    value: "",
+    help: "Each question has one answer in a run, as if each line said steady [default: as the list says]",
+};
+
 const VARIABLE: Argument<'static> = Argument {
     id: "variable",
     form: Form::Value,
@@ -191,7 +202,7 @@ const FAILURES: Argument<'static> = Argument {
     alias: None,
     required: false,
     value: "N",
-    help: "The runs in which at most N device commands fail, 0 to 32 [default: all]",
+    help: "The runs in which at most N answers are failures, 0 to 32 [default: all]",
 };
 
 const AFTER: Argument<'static> = Argument {
@@ -214,13 +225,14 @@ const LIMIT: Argument<'static> = Argument {
     help: "At most N records, 1 to 4294967295 [default: all]",
 };
 
-const REHEARSE: [Argument<'static>; 16] = [
+const REHEARSE: [Argument<'static>; 17] = [
     CONFIG,
     IMAGE,
     SECOND,
     TEXT,
     BIG_ENDIAN,
     DEVICE_LIST,
+    STEADY,
     VARIABLE,
     SCRIPT_FILE,
     DEVICES,
@@ -256,13 +268,14 @@ const FLOW: Argument<'static> = Argument {
     help: "Write the states as a graph, a line each",
 };
 
-const ENDINGS: [Argument<'static>; 14] = [
+const ENDINGS: [Argument<'static>; 15] = [
     CONFIG,
     IMAGE,
     SECOND,
     TEXT,
     BIG_ENDIAN,
     DEVICE_LIST,
+    STEADY,
     VARIABLE,
     SCRIPT_FILE,
     Argument {
@@ -292,13 +305,14 @@ const CHECK: Argument<'static> = Argument {
     help: "Only what does not boot; status 1 if there is any",
 };
 
-const CAUSES: [Argument<'static>; 13] = [
+const CAUSES: [Argument<'static>; 14] = [
     CONFIG,
     IMAGE,
     SECOND,
     TEXT,
     BIG_ENDIAN,
     DEVICE_LIST,
+    STEADY,
     VARIABLE,
     SCRIPT_FILE,
     Argument {
@@ -312,7 +326,7 @@ const CAUSES: [Argument<'static>; 13] = [
     SHELL,
     Argument {
         form: Form::Number(0, CAUSE_FAILURES_MAX),
-        help: "The runs in which at most N device commands fail, 0 to 3 [default: 2]",
+        help: "The runs in which at most N answers are failures, 0 to 3 [default: 2]",
         ..FAILURES
     },
     CHECK,
