@@ -1,19 +1,16 @@
 -- Causes that are not found are not written.
-use Rattle.std.proofs.Common.{◌≡◌, List, Ok, refl}
+use Rattle.std.proofs.Common.{Bool, Option, refl}
 use Rattle.output.specs.Sink.{Sink}
-use Rattle.device_list.specs.DeviceList.{Devices, listed}
-use Rattle.rehearse_terms.specs.State.{Text}
+use Rattle.rehearse_rules.specs.Runs.{Task}
 use Rattle.rehearse_rules.specs.declared.rehearse_error.RehearseError.{RehearseError}
 use Rattle.rehearse_rules.specs.declared.rehearse_error.RehearseError.TheVariants.{DeviceList, NoSuchVariable, NotARun, States, Write, Memory, Failed}
-use Rattle.rehearse_causes.specs.TellingCauses.{IsUntold, RefusesCauses, task_asked}
-use Rattle.rehearse_causes.specs.declared.telling.CausesAsk.{CausesAsk}
+use Rattle.rehearse_causes.specs.TellingCauses.{IsUntold, RefusesCauses}
 
-pub untold : (env : List (Text × Text)) (text : Text) (devices : Devices) (ask : CausesAsk) (s : Sink) (e : RehearseError) → listed text ≡ Ok devices
-    → IsUntold (task_asked env devices ask) e → RefusesCauses env text ask s s e
-untold env text devices ask s (DeviceList fault) l h = absurd h
-untold env text devices ask s NoSuchVariable l h = (record { devices = devices; listed_as = l; so = h }, refl)
-untold env text devices ask s NotARun l h = h
-untold env text devices ask s States l h = h
-untold env text devices ask s Write l h = absurd h
-untold env text devices ask s Memory l h = refl
-untold env text devices ask s Failed l h = h
+pub untold : (found : Option Task) (check : Bool) (s : Sink) (e : RehearseError) → IsUntold found e → RefusesCauses found check s s e
+untold found check s (DeviceList fault) h = h
+untold found check s NoSuchVariable h = (h, refl)
+untold found check s NotARun h = h
+untold found check s States h = h
+untold found check s Write h = absurd h
+untold found check s Memory h = refl
+untold found check s Failed h = h

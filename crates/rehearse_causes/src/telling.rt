@@ -1,7 +1,5 @@
-//! The causes of an environment's variable, or of a given text, from the text of its device list to the lines.
-ghost use Rattle.std.specs.Prelude.{◌≡◌, IfOk, IfErr, Ok};
-ghost use Rattle.device_list.specs.DeviceList.{listed};
-ghost use Rattle.rehearse_terms.specs.State.{Text};
+//! The causes of an environment's variable, or of a given text, from its device list to the lines.
+ghost use Rattle.std.specs.Prelude.{◌≡◌, IfOk, IfErr};
 ghost use Rattle.rehearse_causes.specs.CauseLines.{causes_text, reported};
 ghost use Rattle.rehearse_causes.specs.TellingCauses.{IsUntold, RefusesCauses, TellsCauses, WithCauses, task_asked};
 
@@ -12,7 +10,7 @@ use device_list::Devices;
 use envtools::Env;
 use output::{Out, write_all};
 use rehearse_machine::Source;
-use rehearse_rules::{RehearseError, read_devices};
+use rehearse_rules::RehearseError;
 use rehearse_runs::Runs;
 use rehearse_terms::Bounds;
 use std::alloc::Global;
@@ -80,21 +78,25 @@ fn causes_in<S: Store>(
     }
 }
 
-/// Writes the causes of a variable, with a device list that was read. Errors: `NoSuchVariable`,
-/// `Memory`, `Write`.
-fn causes_with<S: Store, O: Out>(
+/// Writes what has to fail for each way in which the runs of a variable or of a given text end: for
+/// each cause a line, and a line for each device command that fails. A cause is a run of which no other with the same
+/// ending needs less. For a check, writes only those that do not boot, and returns false if there is
+/// one; else returns true. Goes through all runs of the bounds, and compares each with the causes
+/// that are kept.
+///
+/// Refusals in order: the variable, and `Memory`, with nothing written; then `Write`, with a prefix
+/// of the lines written.
+pub fn causes_env<S: Store, O: Out>(
     alloc: Global,
     env: &Env,
     devices: &Devices,
     ask: &CausesAsk<'_>,
     out: &mut O,
 ) -> Result<bool, RehearseError>
-    ensures ok { (devices_text : Text) → listed devices_text ≡ Ok devices.now
-        → IfOk result (λ fine. TellsCauses env.now devices_text ask.now (O.sink out.old)
-        (O.sink out.new) fine) }
-    ensures err { (devices_text : Text) → listed devices_text ≡ Ok devices.now
-        → IfErr result (λ e. RefusesCauses env.now devices_text ask.now (O.sink out.old)
-        (O.sink out.new) e) }
+    ensures ok { IfOk result (λ fine. TellsCauses (task_asked env.now devices.now ask.now)
+        ask.now.check (O.sink out.old) (O.sink out.new) fine) }
+    ensures err { IfErr result (λ e. RefusesCauses (task_asked env.now devices.now ask.now)
+        ask.now.check (O.sink out.old) (O.sink out.new) e) }
 {
     let told = causes_in::<S>(alloc, env, devices, ask)?;
     let Ok(text) = text_of(alloc, &told) else {
@@ -102,28 +104,4 @@ fn causes_with<S: Store, O: Out>(
     };
     write_all(out, &text)?;
     Ok(!ask.check || told.is_empty())
-}
-
-/// Writes what has to fail for each way in which the runs of a variable or of a given text end: for
-/// each cause a line, and a line for each device command that fails. A cause is a run of which no other with the same
-/// ending needs less. For a check, writes only those that do not boot, and returns false if there is
-/// one; else returns true. Goes through all runs of the bounds, and compares each with the causes
-/// that are kept.
-///
-/// Refusals in order: the device list, the variable, and `Memory`, with nothing written; then
-/// `Write`, with a prefix of the lines written.
-pub fn causes_env<S: Store, O: Out>(
-    alloc: Global,
-    env: &Env,
-    devices_text: &[u8],
-    ask: &CausesAsk<'_>,
-    out: &mut O,
-) -> Result<bool, RehearseError>
-    ensures ok { IfOk result (λ fine. TellsCauses env.now devices_text.now ask.now (O.sink out.old)
-        (O.sink out.new) fine) }
-    ensures err { IfErr result (λ e. RefusesCauses env.now devices_text.now ask.now
-        (O.sink out.old) (O.sink out.new) e) }
-{
-    let devices = read_devices(alloc, devices_text)?;
-    causes_with::<S, O>(alloc, env, &devices, ask, out)
 }

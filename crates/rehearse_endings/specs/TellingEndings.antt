@@ -1,18 +1,17 @@
 -- What is written of the endings of an environment's variable or of a given text, and why it is refused. Ours.
-use Rattle.std.specs.Prelude.{◌≡◌, ℕ, ◌+◌, ◌≤◌, Bool, true, false, List, length, map, Option, Some, None, Ok, Err}
+use Rattle.std.specs.Prelude.{◌≡◌, ℕ, ◌+◌, ◌≤◌, Bool, true, false, List, length, map, Option, Some, None}
 use Rattle.output.specs.Sink.{Sink, Wrote, BrokeOff}
 use Rattle.text.specs.TextsShown.{option_bytes}
 use Rattle.rehearse_terms.specs.State.{Text}
-use Rattle.device_list.specs.DeviceList.{Devices, listed}
 use Rattle.rehearse_rules.specs.Runs.{Task, all_runs}
-use Rattle.rehearse_machine.specs.Tasks.{SourceShown, task_found}
+use Rattle.rehearse_machine.specs.Tasks.{SourceShown}
 use Rattle.rehearse_states.specs.Endings.{endings}
 use Rattle.rehearse_states.specs.Flow.{Node, IsFlow, flow_text}
 use Rattle.rehearse_states.specs.EndingLines.{endings_text, failing}
 use Rattle.rehearse_endings.specs.States.{HasStates}
 use Rattle.rehearse_endings.specs.declared.telling.EndingsAsk.{EndingsAsk}
 use Rattle.rehearse_rules.specs.declared.rehearse_error.RehearseError.{RehearseError}
-use Rattle.rehearse_rules.specs.declared.rehearse_error.RehearseError.TheVariants.{DeviceList, NoSuchVariable, States, Write, Memory}
+use Rattle.rehearse_rules.specs.declared.rehearse_error.RehearseError.TheVariants.{NoSuchVariable, States, Write, Memory}
 
 -- the variables whose values are asked for
 abbrev pub names_of : EndingsAsk → List Text
@@ -21,13 +20,6 @@ names_of ask = map (λ n. n.now) ask.names.now
 -- what is rehearsed
 abbrev pub source_of : EndingsAsk → SourceShown
 source_of ask = record { name = ask.name.now; given = option_bytes ask.text }
-
--- the device list is valid, and the task has this property, if there is a text
-pub record HasDevices (environment : List (Text × Text)) (devices_text : Text) (ask : EndingsAsk)
-    (IsSo : Option Task → Type 0) : Type 0 where
-  pub devices : Devices
-  pub listed_as : listed devices_text ≡ Ok devices
-  pub so : IsSo (task_found environment devices (source_of ask) ask.bounds)
 
 -- the flow of the task, or how its runs end, and the values of these variables there; its runs come to this many states
 abbrev pub Tells : (names : List Text) → (flow : Bool) → Task → (states : ℕ) → Text → Type 0
@@ -51,24 +43,18 @@ IsUntold most found Memory = Unit {0}
 IsUntold most found _ = ⊥
 
 -- the lines were written
-abbrev pub TellsEndings : List (Text × Text) → Text → EndingsAsk → (old new : Sink) → Type 0
-TellsEndings environment devices_text ask old new =
-    HasDevices environment devices_text ask (λ found. (text : Text) × AreLines (names_of ask) ask.flow ask.states found text
-    × Wrote old new text)
+abbrev pub TellsEndings : (found : Option Task) → EndingsAsk → (old new : Sink) → Type 0
+TellsEndings found ask old new =
+    (text : Text) × AreLines (names_of ask) ask.flow ask.states found text × Wrote old new text
 
 -- the output failed inside the lines
-abbrev pub BreaksOff : List (Text × Text) → Text → EndingsAsk → (old new : Sink) → Type 0
-BreaksOff environment devices_text ask old new =
-    HasDevices environment devices_text ask (λ found. (text : Text) × AreLines (names_of ask) ask.flow ask.states found text
-    × BrokeOff old new text)
+abbrev pub BreaksOff : (found : Option Task) → EndingsAsk → (old new : Sink) → Type 0
+BreaksOff found ask old new =
+    (text : Text) × AreLines (names_of ask) ask.flow ask.states found text × BrokeOff old new text
 
-abbrev pub RefusesEndings : List (Text × Text) → Text → EndingsAsk → (old new : Sink) → RehearseError → Type 0
-RefusesEndings environment devices_text ask old new (DeviceList fault) =
-    (listed devices_text ≡ Err fault) × (new ≡ old)
-RefusesEndings environment devices_text ask old new NoSuchVariable =
-    HasDevices environment devices_text ask (λ found. found ≡ None) × (new ≡ old)
-RefusesEndings environment devices_text ask old new States =
-    HasDevices environment devices_text ask (HasMoreStates ask.states) × (new ≡ old)
-RefusesEndings environment devices_text ask old new Write = BreaksOff environment devices_text ask old new
-RefusesEndings environment devices_text ask old new Memory = new ≡ old
-RefusesEndings environment devices_text ask old new _ = ⊥
+abbrev pub RefusesEndings : (found : Option Task) → EndingsAsk → (old new : Sink) → RehearseError → Type 0
+RefusesEndings found ask old new NoSuchVariable = (found ≡ None) × (new ≡ old)
+RefusesEndings found ask old new States = HasMoreStates ask.states found × (new ≡ old)
+RefusesEndings found ask old new Write = BreaksOff found ask old new
+RefusesEndings found ask old new Memory = new ≡ old
+RefusesEndings found ask old new _ = ⊥

@@ -1,7 +1,5 @@
-//! How the runs of an environment's variable, or of a given text, end, from the text of its device list to the lines.
-ghost use Rattle.std.specs.Prelude.{◌≡◌, ◌+◌, IfOk, IfErr, Ok, Some, map};
-ghost use Rattle.rehearse_terms.specs.State.{Text};
-ghost use Rattle.device_list.specs.DeviceList.{listed};
+//! How the runs of an environment's variable, or of a given text, end, from its device list to the lines.
+ghost use Rattle.std.specs.Prelude.{◌≡◌, ◌+◌, IfOk, IfErr, Some, map};
 ghost use Rattle.rehearse_machine.specs.Tasks.{task_found, task_in};
 ghost use Rattle.rehearse_endings.specs.declared.sum_error.SumError.TheVariants.{States};
 ghost use Rattle.rehearse_endings.specs.States.{HasStates};
@@ -14,7 +12,7 @@ use device_list::Devices;
 use envtools::Env;
 use output::{Out, write_all};
 use rehearse_machine::{Rehearsal, Source};
-use rehearse_rules::{RehearseError, read_devices};
+use rehearse_rules::RehearseError;
 use rehearse_states::{flow_text_of, text_of};
 use rehearse_terms::RunBounds;
 use std::alloc::Global;
@@ -92,46 +90,28 @@ fn lines_in<S: Store>(
     }
 }
 
-/// Writes how all runs of a variable end, with a device list that was read. Errors:
-/// `NoSuchVariable`, `States`, `Memory`, `Write`.
-fn endings_with<S: Store, O: Out>(
+/// Writes how all runs of a variable or of a given text end: for each ending a line, the values that are left of the
+/// named variables, and the device commands that fail in the run with the fewest failures; then a
+/// line for all runs. Or it writes their flow: a line for each state in which a device command
+/// asks, and for each way to end. Refusals in order: the variable, `States` and `Memory`, with
+/// nothing written; then `Write`, with a prefix of the lines written.
+pub fn endings_env<S: Store, O: Out>(
     alloc: Global,
     env: &Env,
     devices: &Devices,
     ask: &EndingsAsk<'_>,
     out: &mut O,
 ) -> Result<(), RehearseError>
-    ensures ok { (devices_text : Text) → listed devices_text ≡ Ok devices.now
-        → IfOk result (λ _. TellsEndings env.now devices_text ask.now (O.sink out.old)
-        (O.sink out.new)) }
-    ensures err { (devices_text : Text) → listed devices_text ≡ Ok devices.now
-        → IfErr result (λ e. RefusesEndings env.now devices_text ask.now (O.sink out.old)
-        (O.sink out.new) e) }
+    ensures ok { IfOk result (λ _. TellsEndings
+        (task_found env.now devices.now (source_of ask.now) ask.now.bounds) ask.now
+        (O.sink out.old) (O.sink out.new)) }
+    ensures err { IfErr result (λ e. RefusesEndings
+        (task_found env.now devices.now (source_of ask.now) ask.now.bounds) ask.now
+        (O.sink out.old) (O.sink out.new) e) }
 {
     let text = lines_in::<S>(alloc, env, devices, ask)?;
     match write_all(out, &text) {
         Ok(()) => Ok(()),
         Err(_) => Err(RehearseError::Write),
     }
-}
-
-/// Writes how all runs of a variable or of a given text end: for each ending a line, the values that are left of the
-/// named variables, and the device commands that fail in the run with the fewest failures; then a
-/// line for all runs. Or it writes their flow: a line for each state in which a device command
-/// asks, and for each way to end. Refusals in order: the device list, the variable, `States` and
-/// `Memory`, with nothing written; then `Write`, with a prefix of the lines written.
-pub fn endings_env<S: Store, O: Out>(
-    alloc: Global,
-    env: &Env,
-    devices_text: &[u8],
-    ask: &EndingsAsk<'_>,
-    out: &mut O,
-) -> Result<(), RehearseError>
-    ensures ok { IfOk result (λ _. TellsEndings env.now devices_text.now ask.now (O.sink out.old)
-        (O.sink out.new)) }
-    ensures err { IfErr result
-        (λ e. RefusesEndings env.now devices_text.now ask.now (O.sink out.old) (O.sink out.new) e) }
-{
-    let devices = read_devices(alloc, devices_text)?;
-    endings_with::<S, O>(alloc, env, &devices, ask, out)
 }

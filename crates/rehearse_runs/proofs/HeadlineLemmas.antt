@@ -10,13 +10,13 @@ use Rattle.rehearse_rules.specs.RunsToCome.{AreToCome, GivesNoRun, SpellsNoRun}
 use Rattle.rehearse_rules.specs.Listing.{outcome_digit, spelled, record_of, line}
 use Rattle.rehearse_terms.specs.Outcomes.{Outcome, OutcomeWord, Success, Failure}
 use Rattle.rehearse_terms.specs.State.{Text}
-use Rattle.device_list.specs.DeviceList.{Devices, listed}
+use Rattle.device_list.specs.DeviceList.{Devices}
 use Rattle.rehearse_rules.specs.Runs.{Task}
 use Rattle.rehearse_machine.specs.Tasks.{SourceShown, task_found, task_from, text_in}
 use Rattle.rehearse_terms.specs.Bounds.{BoundsShown}
 use Rattle.rehearse_runs.specs.AskShown.{asking_by, asking_for, asking_of, text_given}
 use Rattle.rehearse_runs.specs.Behind.{GoesOnBehind, IsNoRun, IsNotListed, RefusesWord}
-use Rattle.rehearse_runs.specs.RehearsedEnvironment.{Begins, Refuses, RefusesAsk, RefusesRuns, Rehearses, WithDevices, WithRuns, task_asked}
+use Rattle.rehearse_runs.specs.RehearsedEnvironment.{Begins, Refuses, RefusesRuns, Rehearses, WithRuns, task_asked}
 use Rattle.rehearse_runs.specs.ListingRuns.{Breaks, Lists}
 use Rattle.rehearse_runs.specs.RunAlone.{BreaksAlone, WritesAlone}
 use Rattle.rehearse_runs.specs.RunsShown.{RunsShown}
@@ -188,33 +188,19 @@ breaks_alone env devices source bounds printed names old new Memory set h = inl 
 breaks_alone env devices source bounds printed names old new States set h = absurd h
 breaks_alone env devices source bounds printed names old new Failed set h = absurd h
 
--- ---- with the device list
+-- ---- what is asked, with its wanted runs at hand
 
 asked_as : (ask : Ask) (wanted : Wanted (Bor (List ℕ))) → ask.wanted ≡ wanted → asking_by ask.name.now wanted (map (λ n. n.now) ask.names.now) ≡ asking_of ask
 asked_as ask wanted is = ap (λ (w : Wanted (Bor (List ℕ))). asking_by ask.name.now w (map (λ n. n.now) ask.names.now)) (sym is)
 
-pub rehearses_with : (result : Result Finish RehearseError) (env : List (Text × Text)) (text : Text) (devices : Devices) (ask : Ask) (wanted : Wanted (Bor (List ℕ))) (old new : Sink) → listed text ≡ Ok devices → ask.wanted ≡ wanted
+pub rehearses_with : (result : Result Finish RehearseError) (env : List (Text × Text)) (devices : Devices) (ask : Ask) (wanted : Wanted (Bor (List ℕ))) (old new : Sink) → ask.wanted ≡ wanted
     → IfOk result (λ finish. Rehearses (task_asked env devices (text_given ask) (asking_by ask.name.now wanted (map (λ n. n.now) ask.names.now))) (asking_by ask.name.now wanted (map (λ n. n.now) ask.names.now)) old new finish)
-    → IfOk result (λ finish. WithDevices text (λ devices. Rehearses (task_asked env devices (text_given ask) (asking_of ask)) (asking_of ask) old new finish))
-rehearses_with (Ok finish) env text devices ask wanted old new l is h =
-    let P : Asking → Type 0 = λ a. Rehearses (task_asked env devices (text_given ask) a) a old new finish in
-    record { devices = devices; listed_as = l; so = subst P (asked_as ask wanted is) h }
-rehearses_with (Err e) env text devices ask wanted old new l is h = tt
+    → IfOk result (λ finish. Rehearses (task_asked env devices (text_given ask) (asking_of ask)) (asking_of ask) old new finish)
+rehearses_with result env devices ask wanted old new is h =
+    subst (λ (a : Asking). IfOk result (λ finish. Rehearses (task_asked env devices (text_given ask) a) a old new finish)) (asked_as ask wanted is) h
 
-refuses_with : (env : List (Text × Text)) (text : Text) (devices : Devices) (given : Option Text) (asking : Asking) (old new : Sink) (e : RehearseError) → listed text ≡ Ok devices → Refuses (task_asked env devices given asking) asking old new e → RefusesAsk env text given asking old new e
-refuses_with env text devices given asking old new (DeviceList fault) l h = absurd h
-refuses_with env text devices given asking old new States l h = absurd h
-refuses_with env text devices given asking old new Failed l h = absurd h
-refuses_with env text devices given asking old new NoSuchVariable l h = record { devices = devices; listed_as = l; so = h }
-refuses_with env text devices given asking old new NotARun l h = record { devices = devices; listed_as = l; so = h }
-refuses_with env text devices given asking old new Write l h = record { devices = devices; listed_as = l; so = h }
-refuses_with env text devices given asking old new Memory l (inl same) = inl same
-refuses_with env text devices given asking old new Memory l (inr h) = inr (record { devices = devices; listed_as = l; so = h })
-
-pub refused_with : {T : Type 0} (result : Result T RehearseError) (env : List (Text × Text)) (text : Text) (devices : Devices) (ask : Ask) (wanted : Wanted (Bor (List ℕ))) (old new : Sink) → listed text ≡ Ok devices → ask.wanted ≡ wanted
+pub refused_with : (result : Result Finish RehearseError) (env : List (Text × Text)) (devices : Devices) (ask : Ask) (wanted : Wanted (Bor (List ℕ))) (old new : Sink) → ask.wanted ≡ wanted
     → IfErr result (λ e. Refuses (task_asked env devices (text_given ask) (asking_by ask.name.now wanted (map (λ n. n.now) ask.names.now))) (asking_by ask.name.now wanted (map (λ n. n.now) ask.names.now)) old new e)
-    → IfErr result (λ e. RefusesAsk env text (text_given ask) (asking_of ask) old new e)
-refused_with (Ok x) env text devices ask wanted old new l is h = tt
-refused_with (Err e) env text devices ask wanted old new l is h =
-    let P : Asking → Type 0 = λ a. Refuses (task_asked env devices (text_given ask) a) a old new e in
-    refuses_with env text devices (text_given ask) (asking_of ask) old new e l (subst P (asked_as ask wanted is) h)
+    → IfErr result (λ e. Refuses (task_asked env devices (text_given ask) (asking_of ask)) (asking_of ask) old new e)
+refused_with result env devices ask wanted old new is h =
+    subst (λ (a : Asking). IfErr result (λ e. Refuses (task_asked env devices (text_given ask) a) a old new e)) (asked_as ask wanted is) h

@@ -1,11 +1,11 @@
 -- What a rehearsal of an environment writes. Ours. The words in quotation marks are those of the headline
 -- (ubtool/specs/Headline.antt), and each is explained at its line.
-use Rattle.std.specs.Prelude.{◌≡◌, ◌⊎◌, false, List, Option, Some, None, Ok, Err}
+use Rattle.std.specs.Prelude.{◌≡◌, ◌⊎◌, false, List, Option, Some, None}
 use Rattle.output.specs.Sink.{Sink, Wrote}
 use Rattle.rehearse_terms.specs.Asking.{Asking, Listed, Wanted, page_of, whole_page}
 use Rattle.rehearse_rules.specs.RunsToCome.{AreToCome, GivesNoRun}
 use Rattle.rehearse_terms.specs.Bounds.{BoundsShown}
-use Rattle.device_list.specs.DeviceList.{Devices, listed}
+use Rattle.device_list.specs.DeviceList.{Devices}
 use Rattle.rehearse_rules.specs.Listing.{record_of, page_text}
 use Rattle.rehearse_terms.specs.Outcomes.{OutcomeWord}
 use Rattle.rehearse_rules.specs.Runs.{Task}
@@ -16,7 +16,7 @@ use Rattle.rehearse_runs.specs.RunsShown.{RunsShown}
 use Rattle.rehearse_runs.specs.UnfinishedListings.{BreaksOff, LacksMemory}
 use Rattle.rehearse_runs.specs.declared.listing.Finish.{Finish}
 use Rattle.rehearse_rules.specs.declared.rehearse_error.RehearseError.{RehearseError}
-use Rattle.rehearse_rules.specs.declared.rehearse_error.RehearseError.TheVariants.{DeviceList, NoSuchVariable, NotARun, Write, Memory}
+use Rattle.rehearse_rules.specs.declared.rehearse_error.RehearseError.TheVariants.{NoSuchVariable, NotARun, Write, Memory}
 
 -- the text that is given, which is called as the variable would be, or else the variable
 abbrev pub source_asked : (given : Option Text) → Asking → SourceShown
@@ -68,21 +68,6 @@ Refuses found asking old new NotARun = LacksRun found asking.wanted × (new ≡ 
 Refuses found asking old new Write = LeavesPrefix found asking old new
 Refuses found asking old new Memory = (new ≡ old) ⊎ LeavesRecords found asking old new
 Refuses found asking old new _ = ⊥
-
--- the device list is right, and this holds of it
-pub record WithDevices (devices_text : Text) (IsSo : Devices → Type 0) : Type 0 where
-  pub devices : Devices
-  pub listed_as : listed devices_text ≡ Ok devices
-  pub so : IsSo devices
-
-abbrev pub RefusesAsk : List (Text × Text) → Text → (given : Option Text) → Asking → (old new : Sink) → RehearseError →
-    Type 0
-RefusesAsk environment devices_text given asking old new (DeviceList fault) =
-    (listed devices_text ≡ Err fault) × (new ≡ old)
-RefusesAsk environment devices_text given asking old new Memory = (new ≡ old)
-    ⊎ WithDevices devices_text (λ devices. LeavesRecords (task_asked environment devices given asking) asking old new)
-RefusesAsk environment devices_text given asking old new error =
-    WithDevices devices_text (λ devices. Refuses (task_asked environment devices given asking) asking old new error)
 
 -- where the runs of a listing start
 pub record Begins (environment : List (Text × Text)) (devices : Devices) (source : SourceShown) (bounds : BoundsShown)

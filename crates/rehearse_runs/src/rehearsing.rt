@@ -1,14 +1,12 @@
-//! The rehearsal of an environment, from the text of its device list to the listing.
-ghost use Rattle.std.specs.Prelude.{◌≡◌, IfOk, IfErr, Ok, map};
-ghost use Rattle.rehearse_terms.specs.State.{Text};
-ghost use Rattle.device_list.specs.DeviceList.{listed};
+//! The rehearsal of an environment, from its device list to the listing.
+ghost use Rattle.std.specs.Prelude.{IfOk, IfErr, map};
 ghost use Rattle.text.specs.TextsShown.{option_bytes};
 ghost use Rattle.rehearse_terms.specs.Asking.{Alone, Listed, page_of};
 ghost use Rattle.rehearse_terms.specs.Asking.{HasRoom};
 ghost use Rattle.rehearse_terms.specs.WantedShown.{wanted_slices};
 ghost use Rattle.rehearse_machine.specs.Tasks.{source_shown, task_found};
 ghost use Rattle.rehearse_runs.specs.AskShown.{asking_for, asking_of, text_given};
-ghost use Rattle.rehearse_runs.specs.RehearsedEnvironment.{Begins, Refuses, RefusesAsk, RefusesRuns, Rehearses, WithDevices, task_asked};
+ghost use Rattle.rehearse_runs.specs.RehearsedEnvironment.{Begins, Refuses, RefusesRuns, Rehearses, task_asked};
 
 use crate::ask::{Ask, digits_of};
 use crate::listing::{Finish, write_listing};
@@ -19,7 +17,7 @@ use device_list::Devices;
 use envtools::Env;
 use output::Out;
 use rehearse_machine::{Rehearsal, Source};
-use rehearse_rules::{RehearseError, read_devices};
+use rehearse_rules::RehearseError;
 use rehearse_terms::{Bounds, Page, RunBounds, Wanted};
 use std::alloc::Global;
 
@@ -102,8 +100,10 @@ fn list_one<S: Store, O: Out>(
     }
 }
 
-/// Writes what is asked for, with a device list that was read. Errors: `NoSuchVariable`, `NotARun`, `Memory`, `Write`.
-fn rehearse_with<'x, S: Store, O: Out>(
+/// Writes the listing of the runs that are asked for, or the record of the one run, and `done`.
+/// Refusals in order: the variable if no text is given, the word, with nothing written; then `Write`
+/// during the listing, and `Memory` wherever a growth is made.
+pub fn rehearse_env<'x, S: Store, O: Out>(
     alloc: Global,
     env: &'x Env,
     devices: &Devices,
@@ -111,14 +111,12 @@ fn rehearse_with<'x, S: Store, O: Out>(
     out: &mut O,
 ) -> Result<Finish, RehearseError>
     requires { HasRoom (page_of (wanted_slices ask.now.wanted)) }
-    ensures ok { (devices_text : Text) → listed devices_text ≡ Ok devices.now
-        → let asking = asking_of ask.now in
-        IfOk result (λ finish. WithDevices devices_text (λ devices.
-        Rehearses (task_asked env.now devices (text_given ask.now) asking) asking
-        (O.sink out.old) (O.sink out.new) finish)) }
-    ensures err { (devices_text : Text) → listed devices_text ≡ Ok devices.now
-        → IfErr result (λ e. RefusesAsk env.now devices_text (text_given ask.now)
-        (asking_of ask.now) (O.sink out.old) (O.sink out.new) e) }
+    ensures ok { let asking = asking_of ask.now in
+        IfOk result (λ finish. Rehearses (task_asked env.now devices.now (text_given ask.now) asking)
+        asking (O.sink out.old) (O.sink out.new) finish) }
+    ensures err { let asking = asking_of ask.now in
+        IfErr result (λ e. Refuses (task_asked env.now devices.now (text_given ask.now) asking)
+        asking (O.sink out.old) (O.sink out.new) e) }
 {
     let source = Source {
         name: ask.name,
@@ -136,26 +134,4 @@ fn rehearse_with<'x, S: Store, O: Out>(
             list_one::<S, O>(alloc, env, devices, source, bounds, word, ask.names, out)
         }
     }
-}
-
-/// Writes the listing of the runs that are asked for, or the record of the one run, and `done`.
-/// Refusals in order: the device list, the variable if no text is given, the word, with nothing
-/// written; then `Write` during the listing, and `Memory` wherever a growth is made.
-pub fn rehearse_env<'x, S: Store, O: Out>(
-    alloc: Global,
-    env: &'x Env,
-    devices_text: &[u8],
-    ask: &Ask<'x>,
-    out: &mut O,
-) -> Result<Finish, RehearseError>
-    requires { HasRoom (page_of (wanted_slices ask.now.wanted)) }
-    ensures ok { let asking = asking_of ask.now in
-        IfOk result (λ finish. WithDevices devices_text.now (λ devices.
-        Rehearses (task_asked env.now devices (text_given ask.now) asking) asking
-        (O.sink out.old) (O.sink out.new) finish)) }
-    ensures err { IfErr result (λ e. RefusesAsk env.now devices_text.now (text_given ask.now)
-        (asking_of ask.now) (O.sink out.old) (O.sink out.new) e) }
-{
-    let devices = read_devices(alloc, devices_text)?;
-    rehearse_with::<S, O>(alloc, env, &devices, ask, out)
 }

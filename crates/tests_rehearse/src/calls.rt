@@ -161,6 +161,7 @@ pub(crate) fn endings<S: Store>(
     };
     let mut out = Over::new(Vec::new(case.alloc));
     let env = env_of(case)?;
-    let answer = endings_env::<S, _>(case.alloc, &env, &case.devices, &ask, &mut out);
+    let devices = devices_of(case.alloc, &case.devices)?;
+    let answer = endings_env::<S, _>(case.alloc, &env, &devices, &ask, &mut out);
     Ok((answer, out.into_writer()))
 }

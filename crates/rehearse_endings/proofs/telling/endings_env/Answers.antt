@@ -1,8 +1,8 @@
 use Rattle.std.proofs.lemmas.Result.{err_from_is_err_and}
 use Rattle.rehearse_endings.proofs.TellingLemmas.{untold}
-use Rattle.rehearse_endings.proofs.telling.endings_with.Goals as goal
+use Rattle.rehearse_endings.proofs.telling.endings_env.Goals as goal
 
 pub returns-in_err-text-clause-err : goal.returns-in_err-text-clause-err
-returns-in_err-text-clause-err g c = λ text l.
+returns-in_err-text-clause-err g c =
     let p = err_from_is_err_and c.from_residual.result c.from_residual.ensures.1 in
-    rw (p.1, p.2) (untold c.args.env.now text _ c.args.ask.now (g.O.Out.sink c.args.out.now) _ l c.in_err-text.ensures.err)
+    rw (p.1, p.2) (untold _ c.args.ask.now (g.O.Out.sink c.args.out.now) _ c.in_err-text.ensures.err)
