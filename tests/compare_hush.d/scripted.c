@@ -373,7 +373,7 @@ static void forget_callbacks(void)
 /* U-Boot's table of commands, by the device list. */
 static void make_table(void)
 {
-	static const char kept[] = " echo exit false printenv run setenv showvar test true ";
+	static const char kept[] = " echo exit false run setenv showvar test true ";
 	static const char asked_for[] = " env itest setexpr ";
 	struct cmd_tbl *place = _u_boot_list_2_cmd_2_scripted_places, *command;
 	struct cmd_tbl *start = ll_entry_start(struct cmd_tbl, cmd), *end = start + ll_entry_count(struct cmd_tbl, cmd);
