@@ -51,15 +51,18 @@ void (*signal(int number, void (*handler)(int)))(int);
 
 enum {
 	LONGEST_WORD = 1001, LARGEST_TEXT = 0x40000, SECONDS = 20, BAD_ADDRESS = 11,
-	MOST_LINES = 400, MOST_WORDS = 16,
+	MOST_LINES = 800, MOST_WORDS = 24,
 	/* The greatest CONFIG_SYS_MAXARGS of a board. */
 	MOST_ARGUMENTS = 64
 };
 
-/* A line of the device list. A setting is a name and, behind its end, a value. */
+/*
+ * A line of the device list. A setting is a name and, behind its end, a value. A `call` line has the words of its
+ * pattern behind the name, and what its calls always come to, `0` or `1`, if it says so.
+ */
 struct device_line {
-	bool final, steady;
-	char *name, *sub, *settings[MOST_WORDS];
+	bool final, steady, call;
+	char always, *name, *sub, *pattern[MOST_WORDS + 1], *settings[MOST_WORDS + 1];
 };
 
 static char outcomes[LONGEST_WORD + 1];
@@ -211,10 +214,10 @@ static char earlier_answer(int start)
 	return 0;
 }
 
-static int ask(int argc, char *const argv[], bool steady)
+/* Answers a command: by `answer`, unless that is 0, or else by the next digit of the word. */
+static int ask(int argc, char *const argv[], bool steady, char answer)
 {
 	int start = record_size, i;
-	char answer;
 
 	if (asked == bound)
 		end_run("cut devices", "");
@@ -224,7 +227,8 @@ static int ask(int argc, char *const argv[], bool steady)
 		add_form(argv[i], strlen(argv[i]), true);
 	}
 	add("\n");
-	answer = steady ? earlier_answer(start) : 0;
+	if (steady && !answer)
+		answer = earlier_answer(start);
 	if (!answer) {
 		if (!outcomes[asked]) {
 			outcomes[asked] = '0';
@@ -238,7 +242,7 @@ static int ask(int argc, char *const argv[], bool steady)
 
 static int do_device(struct cmd_tbl *cmdtp, int flag, int argc, char *const argv[])
 {
-	return ask(argc, argv, false);
+	return ask(argc, argv, false, 0);
 }
 
 /* In the place of file_exists, for `test -e`. */
@@ -246,7 +250,7 @@ int scripted_exists(const char *interface, const char *part, const char *path, i
 {
 	char *const words[] = { "test", "-e", (char *)interface, (char *)part, (char *)path };
 
-	return !ask(5, words, false);
+	return !ask(5, words, false, 0);
 }
 
 /* In the place of puts and putc, in `echo`. */
@@ -271,35 +275,79 @@ void scripted_putc(const char byte)
 /* Whether a line speaks of a call: of its first word if `sub`, otherwise of the name alone. */
 static bool speaks(const struct device_line *line, bool sub, int argc, char *const argv[])
 {
-	if (strcmp(line->name, argv[0]) || !line->sub == sub)
+	if (line->call || strcmp(line->name, argv[0]) || !line->sub == sub)
 		return false;
 	return !sub || (argc > 1 && !strcmp(line->sub, argv[1]));
+}
+
+/* The word of a call that `@N` or `@last` names; NULL if the call does not have it. */
+static const char *word_of_call(const char *which, int argc, char *const argv[])
+{
+	int word = strcmp(which, "@last") ? dectoul(which + 1, NULL) : argc - 1;
+
+	return word < argc ? argv[word] : NULL;
 }
 
 /* Sets the variables of a line whose command succeeds. */
 static void set_by_line(const struct device_line *line, int argc, char *const argv[])
 {
 	char *const *setting;
-	int word;
 
 	for (setting = line->settings; *setting; setting++) {
 		const char *name = *setting, *value = name + strlen(name) + 1;
 
-		if (line->sub && *name == '@') {
-			word = strcmp(name, "@last") ? dectoul(name + 1, NULL) : argc - 1;
-			name = word < argc ? argv[word] : "";
-		}
-		if (*name && *name != '-' && !strchr(name, '='))
+		if ((line->sub || line->call) && *name == '@')
+			name = word_of_call(name, argc, argv);
+		if (line->call && *value == '@')
+			value = word_of_call(value, argc, argv);
+		if (name && value && *name && *name != '-' && !strchr(name, '='))
 			env_set(name, value);
 	}
+}
+
+/* Whether a call has the words of a pattern: `*` stands for any end of a word, and `**` at the end for all that follow. */
+static bool fits(char *const *pattern, int argc, char *const argv[])
+{
+	int i;
+
+	for (i = 1; *pattern; i++, pattern++) {
+		int size = strlen(*pattern);
+
+		if (!strcmp(*pattern, "**") && !pattern[1])
+			return true;
+		if (i >= argc)
+			return false;
+		if (size && (*pattern)[size - 1] == '*' ? strncmp(*pattern, argv[i], size - 1) : strcmp(*pattern, argv[i]))
+			return false;
+	}
+	return i == argc;
+}
+
+/* The first `call` line that fits a call; NULL if there is none. */
+static const struct device_line *call_line(int argc, char *const argv[])
+{
+	const struct device_line *line;
+
+	for (line = lines; line < end_of_lines; line++)
+		if (line->call && !strcmp(line->name, argv[0]) && fits(line->pattern, argc, argv))
+			return line;
+	return NULL;
 }
 
 /* A command of the device list. */
 static int do_listed(struct cmd_tbl *cmdtp, int flag, int argc, char *const argv[])
 {
 	bool sub = false, known = false, final = false, steady = false;
-	const struct device_line *line;
+	const struct device_line *line = call_line(argc, argv);
 
+	if (line) {
+		if (ask(argc, argv, line->steady, line->always))
+			return 1;
+		set_by_line(line, argc, argv);
+		if (line->final)
+			end_run("booted ", argv[0]);
+		return 0;
+	}
 	for (line = lines; line < end_of_lines; line++)
 		sub |= speaks(line, true, argc, argv);
 	for (line = lines; line < end_of_lines; line++) {
@@ -311,7 +359,7 @@ static int do_listed(struct cmd_tbl *cmdtp, int flag, int argc, char *const argv
 	}
 	if (!known)
 		end_run("stop unknown ", argv[0]);
-	if (ask(argc, argv, steady))
+	if (ask(argc, argv, steady, 0))
 		return 1;
 	for (line = lines; line < end_of_lines; line++)
 		if (speaks(line, sub, argc, argv))
@@ -347,7 +395,7 @@ static int do_computed(struct cmd_tbl *cmdtp, int flag, int argc, char *const ar
 {
 	int i = 0;
 
-	if (!is_computed(argc, argv))
+	if (call_line(argc, argv) || !is_computed(argc, argv))
 		return do_listed(cmdtp, flag, argc, argv);
 	while (computed[i].command != cmdtp)
 		i++;
@@ -420,9 +468,42 @@ static char *text_of(const char *name)
 	return copy;
 }
 
+/* Keeps a setting, with an end behind its name. */
+static void keep_setting(struct device_line *line, char *word)
+{
+	char **setting = line->settings;
+
+	while (*setting)
+		setting++;
+	*setting = word;
+	*strchr(word, '=') = '\0';
+}
+
+/* Reads the words of a `call` line: its name and pattern, `:`, and what it says of these calls. */
+static void read_call(struct device_line *line, char **at)
+{
+	char **pattern = line->pattern;
+
+	line->call = true;
+	line->name = *at;
+	while (strcmp(*++at, ":"))
+		*pattern++ = *at;
+	while (*++at) {
+		if (!strcmp(*at, "final"))
+			line->final = true;
+		else if (!strcmp(*at, "steady"))
+			line->steady = true;
+		else if (!strcmp(*at, "always"))
+			line->always = **++at;
+		else
+			keep_setting(line, *at);
+	}
+}
+
 /* Reads a line of the device list, but for a comment. */
 static void read_line(char *row)
 {
+	static char *always_fails[] = { "", "**", ":", "always", "1", NULL };
 	struct device_line *line = end_of_lines;
 	char *words[MOST_WORDS + 2] = { NULL }, **at = words, **word = words;
 
@@ -435,6 +516,16 @@ static void read_line(char *row)
 	*word = NULL;
 	if (!*at || (!strcmp(*at, "known") && at[1] && !at[2]))
 		return;
+	end_of_lines++;
+	if (!strcmp(*at, "call") && at[1]) {
+		read_call(line, at + 1);
+		return;
+	}
+	if (!strcmp(*at, "absent") && at[1]) {
+		always_fails[0] = at[1];
+		read_call(line, always_fails);
+		return;
+	}
 	line->final = !strcmp(*at, "final") && at[1] && !strchr(at[1], '=');
 	at += line->final;
 	line->steady = !strcmp(*at, "steady") && at[1] && !strchr(at[1], '=');
@@ -446,11 +537,8 @@ static void read_line(char *row)
 	} else {
 		line->name = *at;
 	}
-	for (word = line->settings; *++at; word++) {
-		*word = *at;
-		*strchr(*at, '=') = '\0';
-	}
-	end_of_lines++;
+	while (*++at)
+		keep_setting(line, *at);
 }
 
 static void read_list(const char *name)
