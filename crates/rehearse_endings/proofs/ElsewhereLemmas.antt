@@ -54,7 +54,7 @@ answers_same k l here there h =
 -- and a command is told the same
 told_same : (request : Request) (k l here there : List LoggedCommand) → HaveFurther k l here there → told request there ≡ told request here
 told_same request k l here there h =
-    ap (λ (a : List (List Text × Bool)). let o : Option Bool = cond request.effect.stays (lookup (same_words (request.name ∷ request.words)) a) None in o) (answers_same k l here there h)
+    ap (λ (a : List (List Text × Bool)). let o : Option Bool = cond request.effect.stays (lookup (same_words (request.name ∷ request.words)) a) request.effect.always in o) (answers_same k l here there h)
 
 -- one more entry
 pub further_on : (k l here there : List LoggedCommand) (entry : LoggedCommand) → HaveFurther k l here there → HaveFurther k l (here ++ entry ∷ []) (there ++ entry ∷ [])

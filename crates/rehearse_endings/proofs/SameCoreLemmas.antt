@@ -73,7 +73,7 @@ module _ (limits : Limits) (text : Text) (log : List LoggedCommand) (n : ℕ) wh
 
   ask_same : (r : Request) (ps : List RunningFrame) (s : State) → answers_in log ≡ answers_in s.log → AskSame (place_ask limits r ps s) (place_ask limits r ps (there s))
   ask_same r ps s h =
-      let told_there : told r log ≡ told r s.log = ap (λ (a : List (List Text × Bool)). let o : Option Bool = cond r.effect.stays (lookup (same_words (r.name ∷ r.words)) a) None in o) h in
+      let told_there : told r log ≡ told r s.log = ap (λ (a : List (List Text × Bool)). let o : Option Bool = cond r.effect.stays (lookup (same_words (r.name ∷ r.words)) a) r.effect.always in o) h in
       subst (λ (o : Option Bool). AskSame (place_ask limits r ps s) (elim (nat_lt (length log) limits.device_bound) [ true ↦ place_tell_or_ask o r ps (there s) | false ↦ StopOn CutDevices (there s) ])) (sym told_there)
       (ask_by (told r s.log) (nat_lt (length s.log) limits.device_bound) (nat_lt (length log) limits.device_bound) r ps s (there s))
 
