@@ -15,7 +15,7 @@ use tool_files::MemoryFiles;
 use tool_images::{Edit, PrintAsk, ToolError, print_bytes, run_input, set_bytes};
 use tool_steps::Build;
 use tool_words::CalledAs;
-use ubtool::{RehearsalError, rehearse_bytes, run_tool};
+use ubtool::{DeviceText, RehearsalError, rehearse_bytes, run_tool};
 
 pub(crate) fn crc(bytes: &[u8]) -> u32 {
     crc32(bytes)
@@ -111,15 +111,11 @@ pub(crate) fn rehearse(
         names: &[b"z"],
     };
     let second = case.second.as_ref().map(|bytes| bytes.as_slice());
-    Ok(rehearse_bytes(
-        case.alloc,
-        &case.first,
-        second,
-        case.order,
-        b"load",
-        &ask,
-        out,
-    ))
+    let list = DeviceText {
+        text: b"load",
+        steady: false,
+    };
+    Ok(rehearse_bytes(case.alloc, &case.first, second, case.order, list, &ask, out))
 }
 
 /// The status of the program without words.

@@ -24,14 +24,14 @@ use Rattle.tool_steps.specs.declared.sources.Sources.{Sources}
 -- ---- the causes of what was read
 
 module _ (order : ByteOrder) (inputs : InputsShown) (what : CausesAsk) (out out' : Sink) (sources : Sources) (x z : Told) (read : ReadsSources inputs x z (Ok sources)) where
-  from-files : (IsSo : Given → Type 0) → IsSo (given_by order (copies sources.images) sources.device_list.items (script_of sources) (runs_asked what)) → FromFiles order inputs (runs_asked what) x z IsSo
-  from-files IsSo so = so-of-sources inputs sources x z (λ copies bytes script. IsSo (given_by order copies bytes script (runs_asked what))) read so
+  from-files : (IsSo : Given → Type 0) → IsSo (given_by order (copies sources.images) sources.device_list.items inputs.steady (script_of sources) (runs_asked what)) → FromFiles order inputs (runs_asked what) x z IsSo
+  from-files IsSo so = so-of-sources inputs sources x z (λ copies bytes script. IsSo (given_by order copies bytes inputs.steady script (runs_asked what))) read so
 
-  pub causes-found : (fine : Bool) → TellsCausesOfCopies (given_by order (copies sources.images) sources.device_list.items (script_of sources) (runs_asked what)) what.check out out' (Ok fine)
+  pub causes-found : (fine : Bool) → TellsCausesOfCopies (given_by order (copies sources.images) sources.device_list.items inputs.steady (script_of sources) (runs_asked what)) what.check out out' (Ok fine)
       → TellsCausesFrom order inputs what out out' x z (Ok fine)
   causes-found fine h = from-files (λ g. TellsCauses g what.check out out' fine) h
 
-  pub causes-refused : (error : RehearsalError) → TellsCausesOfCopies (given_by order (copies sources.images) sources.device_list.items (script_of sources) (runs_asked what)) what.check out out' (Err error)
+  pub causes-refused : (error : RehearsalError) → TellsCausesOfCopies (given_by order (copies sources.images) sources.device_list.items inputs.steady (script_of sources) (runs_asked what)) what.check out out' (Err error)
       → TellsCausesFrom order inputs what out out' x z (Err (causes_refusal what error))
   causes-refused (refused.Image error) h = from-files (λ g. RefusesCauses g what.check out out' (refused.Image error)) h
   causes-refused (refused.Rehearsal (rehearsal.DeviceList error)) h = from-files (λ g. RefusesCauses g what.check out out' (refused.Rehearsal (rehearsal.DeviceList error))) h

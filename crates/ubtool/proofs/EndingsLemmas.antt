@@ -25,10 +25,10 @@ use Rattle.tool_steps.specs.declared.sources.Sources.{Sources}
 -- ---- the endings of what was read
 
 module _ (order : ByteOrder) (inputs : InputsShown) (what : EndingsAsk) (out out' : Sink) (sources : Sources) (x z : Told) (read : ReadsSources inputs x z (Ok sources)) where
-  from-files : (IsSo : Given → Type 0) → IsSo (given_by order (copies sources.images) sources.device_list.items (script_of sources) (all_asked what)) → FromFiles order inputs (all_asked what) x z IsSo
-  from-files IsSo so = so-of-sources inputs sources x z (λ copies bytes script. IsSo (given_by order copies bytes script (all_asked what))) read so
+  from-files : (IsSo : Given → Type 0) → IsSo (given_by order (copies sources.images) sources.device_list.items inputs.steady (script_of sources) (all_asked what)) → FromFiles order inputs (all_asked what) x z IsSo
+  from-files IsSo so = so-of-sources inputs sources x z (λ copies bytes script. IsSo (given_by order copies bytes inputs.steady script (all_asked what))) read so
 
-  pub tells-refused : (error : RehearsalError) → TellsCopies (given_by order (copies sources.images) sources.device_list.items (script_of sources) (all_asked what)) what.flow what.states out out' (Err error)
+  pub tells-refused : (error : RehearsalError) → TellsCopies (given_by order (copies sources.images) sources.device_list.items inputs.steady (script_of sources) (all_asked what)) what.flow what.states out out' (Err error)
       → TellsFrom order inputs what out out' x z (Err (endings_refusal what error))
   tells-refused (refused.Image error) h = from-files (λ g. RefusesEndings g what.flow what.states out out' (refused.Image error)) h
   tells-refused (refused.Rehearsal (rehearsal.DeviceList error)) h = from-files (λ g. RefusesEndings g what.flow what.states out out' (refused.Rehearsal (rehearsal.DeviceList error))) h

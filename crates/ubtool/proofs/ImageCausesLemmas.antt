@@ -1,40 +1,35 @@
 -- From the causes of an environment's runs to the causes of an image's runs.
-use Rattle.std.proofs.Common.{◌≡◌, ℕ, Bool, List, Option, Ok, subst}
+use Rattle.std.proofs.Common.{◌≡◌, Bool, List, Option, None, Ok}
 use Rattle.envimage.specs.Data.{Pair}
-use Rattle.output.specs.Sink.{Sink}
-use Rattle.envimage.specs.declared.image.ByteOrder.{ByteOrder}
+use Rattle.output.specs.Sink.{Sink, BrokeOff}
+use Rattle.device_list.specs.DeviceList.{Devices, listed, steady_if}
 use Rattle.rehearse_rules.specs.Runs.{Task}
-use Rattle.rehearse_terms.specs.State.{Text}
+use Rattle.rehearse_runs.specs.RehearsedEnvironment.{task_asked}
+use Rattle.rehearse_causes.specs.CauseLines.{causes_text}
 use Rattle.rehearse_causes.specs.TellingCauses as below
-use Rattle.rehearse_runs.specs.RehearsedEnvironment.{WithDevices}
-use Rattle.rehearse_causes.specs.declared.telling.CausesAsk.{CausesAsk}
+use Rattle.rehearse_causes.specs.TellingCauses.{WithCauses}
 use Rattle.rehearse_rules.specs.declared.rehearse_error.RehearseError.{RehearseError}
 use Rattle.rehearse_rules.specs.declared.rehearse_error.RehearseError.TheVariants as rehearsal
 use Rattle.ubtool.specs.BoardEnvironment.{on_board}
-use Rattle.ubtool.specs.CausesOfImages.{RefusesCauses, TellsCauses, causes_given}
+use Rattle.ubtool.specs.CausesOfImages.{RefusesCauses, TellsCauses}
 use Rattle.ubtool.specs.Faults.{rehearse_error}
+use Rattle.ubtool.specs.Given.{Given}
 use Rattle.tool_images.specs.PrintingImages.{environment_in}
 use Rattle.ubtool.specs.Headline.{HasDevices}
+use Rattle.ubtool.proofs.DeviceLemmas.{with-devices}
 
-module _ (order : ByteOrder) (first : List ℕ) (second : Option (List ℕ)) (list : Text) (ask : CausesAsk) (board environment : List Pair) (old new : Sink) (image : environment_in order first second ≡ Ok environment) (is : board ≡ on_board ask.bounds.shell environment) where
-  -- what holds of the rehearsal of an environment holds of the rehearsal of its image
-  with_image : (IsSo : Option Task → Type 0) → WithDevices list (λ devices. IsSo (below.task_asked board devices ask)) → HasDevices (causes_given order first second list ask) IsSo
-  with_image IsSo h = record {
-    environment = environment;
-    devices = h.devices;
-    image = image;
-    device_list = h.listed_as;
-    so = subst (λ (env : List Pair). IsSo (below.task_asked env h.devices ask)) is h.so;
-  }
+module _ (g : Given) (board environment : List Pair) (devices found : Devices) (check : Bool) (old new : Sink) (image : environment_in g.order g.first g.second ≡ Ok environment) (is : board ≡ on_board g.asking.bounds.shell environment) (lists : listed g.device_list ≡ Ok found) (taken : devices ≡ steady_if g.steady found) where
+  on_image : (IsSo : Option Task → Type 0) → IsSo (task_asked board devices g.text g.asking) → HasDevices g IsSo
+  on_image IsSo h = with-devices g board environment devices found IsSo image is lists taken h
 
-  pub causes-image : (fine : Bool) → below.TellsCauses board list ask old new fine → TellsCauses (causes_given order first second list ask) ask.check old new fine
-  causes-image fine h = with_image _ h
+  pub causes-image : (fine : Bool) → below.TellsCauses (task_asked board devices g.text g.asking) check old new fine → TellsCauses g check old new fine
+  causes-image fine h = on_image (λ task. below.TellsCauses task check old new fine) h
 
-  pub refused-causes : (error : RehearseError) → below.RefusesCauses board list ask old new error → RefusesCauses (causes_given order first second list ask) ask.check old new (rehearse_error error)
-  refused-causes (rehearsal.DeviceList fault) h = (record { environment = environment; image = image }, h.0, h.1)
-  refused-causes rehearsal.NoSuchVariable h = (with_image _ h.0, h.1)
+  pub refused-causes : (error : RehearseError) → below.RefusesCauses (task_asked board devices g.text g.asking) check old new error → RefusesCauses g check old new (rehearse_error error)
+  refused-causes (rehearsal.DeviceList fault) h = absurd h
+  refused-causes rehearsal.NoSuchVariable h = (on_image (λ task. task ≡ None) h.0, h.1)
   refused-causes rehearsal.States h = h
-  refused-causes rehearsal.Write h = with_image _ h
+  refused-causes rehearsal.Write h = on_image (λ task. WithCauses task check (λ told. BrokeOff old new (causes_text told))) h
   refused-causes rehearsal.NotARun h = h
   refused-causes rehearsal.Failed h = h
   refused-causes rehearsal.Memory h = (record { environment = environment; image = image }, h)

@@ -1,6 +1,7 @@
 pub mod ImageRehearsalLemmas
 pub mod InspectLemmas
 pub mod GivenLemmas
+pub mod DeviceLemmas
 pub mod ImageEndingsLemmas
 pub mod ImageCausesLemmas
 pub mod AskLemmas

@@ -18,9 +18,9 @@ use Rattle.ubtool.specs.declared.rehearsal_error.RehearsalError.{RehearsalError}
 use Rattle.ubtool.specs.declared.rehearsal_error.RehearsalError.TheVariants.{Image, Rehearsal, Write, Memory}
 
 -- what is given: the text, if there is one, and the runs of it or of the variable that is asked for, within the bounds
-abbrev pub causes_given : ByteOrder → List ℕ → Option (List ℕ) → Text → CausesAsk → Given
-causes_given order first second device_list ask =
-    given order first second device_list (source_of ask).given (all_runs ask.name.now ask.bounds [])
+abbrev pub causes_given : ByteOrder → List ℕ → Option (List ℕ) → Text → (steady : Bool) → CausesAsk → Given
+causes_given order first second device_list steady ask =
+    given order first second device_list steady (source_of ask).given (all_runs ask.name.now ask.bounds [])
 
 -- the image and the device list are right, there is a text, and this holds of its causes, or of those that do not
 -- boot

@@ -17,9 +17,9 @@ use Rattle.ubtool.specs.declared.rehearsal_error.RehearsalError.TheVariants.{Ima
 
 -- what is given: the text, if there is one, all runs of it or of the variable that is asked for, within the bounds, and
 -- the variables whose values are told apart
-abbrev pub endings_given : ByteOrder → List ℕ → Option (List ℕ) → Text → EndingsAsk → Given
-endings_given order first second device_list ask =
-    given order first second device_list (source_of ask).given (all_runs ask.name.now ask.bounds (names_of ask))
+abbrev pub endings_given : ByteOrder → List ℕ → Option (List ℕ) → Text → (steady : Bool) → EndingsAsk → Given
+endings_given order first second device_list steady ask =
+    given order first second device_list steady (source_of ask).given (all_runs ask.name.now ask.bounds (names_of ask))
 
 -- the lines, or the lines of the flow, are written, with at most this many states
 abbrev pub TellsEndings : Given → (flow : Bool) → (states : ℕ) → (old new : Sink) → Type 0

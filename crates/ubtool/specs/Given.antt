@@ -1,5 +1,5 @@
 -- What a rehearsal is given. Ours.
-use Rattle.std.specs.Prelude.{ℕ, List, Option, None, option_map}
+use Rattle.std.specs.Prelude.{ℕ, Bool, List, Option, None, option_map}
 use Rattle.envimage.specs.declared.image.ByteOrder.{ByteOrder}
 use Rattle.rehearse_terms.specs.Asking.{Asking, Listed, whole_page}
 use Rattle.rehearse_terms.specs.Bounds.{BoundsShown}
@@ -16,16 +16,25 @@ pub record Given : Type 0 where
   pub order : ByteOrder
   pub first : List ℕ
   pub second : Option (List ℕ)
-  -- the text of the device list
+  -- the text of the device list, and whether each device command and `test -e` is steady, as if each line said so
   pub device_list : Text
+  pub steady : Bool
   -- a text that is rehearsed in place of a variable's
   pub text : Option Text
   -- the variable, or what the text is called, the bounds, and the runs that are wanted
   pub asking : Asking
 
-abbrev pub given : ByteOrder → List ℕ → Option (List ℕ) → (device_list : Text) → (text : Option Text) → Asking → Given
-given order first second device_list text asking =
-    record { order = order; first = first; second = second; device_list = device_list; text = text; asking = asking }
+abbrev pub given : ByteOrder → List ℕ → Option (List ℕ) → (device_list : Text) → (steady : Bool) →
+    (text : Option Text) → Asking → Given
+given order first second device_list steady text asking = record {
+  order = order;
+  first = first;
+  second = second;
+  device_list = device_list;
+  steady = steady;
+  text = text;
+  asking = asking;
+}
 
 -- all runs of a variable: no start word, and the whole page
 abbrev pub all_runs : (variable : Text) → BoundsShown → (names : List Text) → Asking
@@ -34,10 +43,12 @@ all_runs variable bounds names =
 
 -- ---- what files that were read give
 
--- the bytes of these copies, the text of the device list, the text that is rehearsed, and what the words ask for
-abbrev pub given_by : ByteOrder → List Copy → (device_list : Text) → (text : Option Text) → Asking → Given
-given_by order found device_list text asking =
-    given order (first_bytes found) (second_bytes found) device_list text asking
+-- the bytes of these copies, the text of the device list and how it is taken, the text that is rehearsed, and what the
+-- words ask for
+abbrev pub given_by : ByteOrder → List Copy → (device_list : Text) → (steady : Bool) → (text : Option Text) → Asking →
+    Given
+given_by order found device_list steady text asking =
+    given order (first_bytes found) (second_bytes found) device_list steady text asking
 
 -- the script that was read, if one was
 abbrev pub script_of : Sources → Option Text
@@ -46,4 +57,4 @@ script_of sources = option_map (λ v. v.items) sources.script
 -- the images, the device list, and the script that may be named were read, and this holds of what they give
 abbrev pub FromFiles : ByteOrder → InputsShown → Asking → (old new : Told) → (Given → Type 0) → Type 0
 FromFiles order inputs asking old new IsSo =
-    AreRead inputs old new (λ found listed script. IsSo (given_by order found listed script asking))
+    AreRead inputs old new (λ found listed script. IsSo (given_by order found listed inputs.steady script asking))

@@ -9,7 +9,7 @@
 use Rattle.std.specs.Prelude.{◌≡◌, List, Option, Ok}
 use Rattle.envimage.specs.Data.{Pair}
 use Rattle.output.specs.Sink.{Sink}
-use Rattle.device_list.specs.DeviceList.{Devices, listed}
+use Rattle.device_list.specs.DeviceList.{Devices, listed, steady_if}
 use Rattle.rehearse_rules.specs.Runs.{Task}
 use Rattle.rehearse_runs.specs.RehearsedEnvironment as below
 use Rattle.rehearse_runs.specs.declared.listing.Finish.{Finish}
@@ -25,10 +25,10 @@ pub record HasDevices (g : Given) (IsSo : Option Task → Type 0) : Type 0 where
   -- "every valid environment image": these are the variables of the copy that counts, and the rehearsal has them as a board of
   -- the shell that is asked for
   pub image : environment_in g.order g.first g.second ≡ Ok environment
-  -- "device list"
+  -- "device list": all of it is steady if that is asked
   pub device_list : listed g.device_list ≡ Ok devices
   -- "and bounds"; "bootcmd": the text that is given, or else that of the variable that is named
-  pub so : IsSo (below.task_asked (on_board g.asking.bounds.shell environment) devices g.text g.asking)
+  pub so : IsSo (below.task_asked (on_board g.asking.bounds.shell environment) (steady_if g.steady devices) g.text g.asking)
 
 -- "the rehearsal writes the records"
 abbrev pub Rehearses : Given → (old new : Sink) → Finish → Type 0

@@ -1,6 +1,7 @@
 pub mod Faults
 pub mod Given
 pub mod BoardEnvironment
+pub mod BoardDevices
 pub mod Headline
 pub mod Refusing
 pub mod EndingsOfImages

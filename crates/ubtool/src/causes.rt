@@ -8,6 +8,7 @@ ghost use Rattle.tool_steps.specs.Images.{copies};
 ghost use Rattle.ubtool.specs.RehearsingFiles.{LeavesOutput};
 ghost use Rattle.tool_words.specs.CommandAnswers.{inputs_shown};
 
+use crate::board_devices::DeviceText;
 use crate::fault::ProgramFault;
 use crate::image_causes::causes_bytes;
 use crate::rehearsal_error::RehearsalError;
@@ -37,30 +38,27 @@ fn refusal_of(error: RehearsalError, what: CausesAsk) -> ProgramFault
 fn causes_of_sources<O: Out>(
     alloc: Global,
     sources: &Sources,
+    steady: bool,
     order: ByteOrder,
     what: &CausesAsk,
     out: &mut O,
 ) -> Result<bool, RehearsalError>
     ensures { TellsCausesOfCopies (given_by order (copies sources.now.images)
-        sources.now.device_list.items (script_of sources.now) (runs_asked what.now)) what.now.check
+        sources.now.device_list.items steady (script_of sources.now) (runs_asked what.now)) what.now.check
         (O.sink out.old) (O.sink out.new) result }
 {
     let bytes = bytes_of(sources);
+    let list = DeviceText {
+        text: bytes.device_list,
+        steady,
+    };
     let ask = rehearse_causes::CausesAsk {
         name: what.name.as_bytes(),
         text: bytes.script,
         bounds: what.bounds,
         check: what.check,
     };
-    causes_bytes(
-        alloc,
-        bytes.first,
-        bytes.second,
-        order,
-        bytes.device_list,
-        &ask,
-        out,
-    )
+    causes_bytes(alloc, bytes.first, bytes.second, order, list, &ask, out)
 }
 
 /// Reports what has to fail for each ending of a variable of images, or of a script. Reads the images, then the
@@ -80,8 +78,9 @@ pub fn causes<F: Files, O: Out>(
         (O.sink out.old) (O.sink out.new) old new result) }
     ensures output { LeavesOutput result (O.sink out.old) (O.sink out.new) }
 {
+    let steady = inputs.steady;
     let sources = read_sources(alloc, files, inputs)?;
-    match causes_of_sources(alloc, &sources, order, &what, out) {
+    match causes_of_sources(alloc, &sources, steady, order, &what, out) {
         Ok(fine) => Ok(fine),
         Err(error) => Err(refusal_of(error, what)),
     }

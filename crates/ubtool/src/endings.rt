@@ -8,6 +8,7 @@ ghost use Rattle.tool_steps.specs.Images.{copies};
 ghost use Rattle.ubtool.specs.RehearsingFiles.{LeavesOutput};
 ghost use Rattle.tool_words.specs.CommandAnswers.{inputs_shown};
 
+use crate::board_devices::DeviceText;
 use crate::fault::ProgramFault;
 use crate::image_endings::endings_bytes;
 use crate::rehearsal_error::RehearsalError;
@@ -37,18 +38,23 @@ fn refusal_of(error: RehearsalError, what: EndingsAsk) -> ProgramFault
 fn endings_of_sources<O: Out>(
     alloc: Global,
     sources: &Sources,
+    steady: bool,
     order: ByteOrder,
     what: &EndingsAsk,
     out: &mut O,
 ) -> Result<(), RehearsalError>
     ensures { TellsCopies (given_by order (copies sources.now.images)
-        sources.now.device_list.items (script_of sources.now) (all_asked what.now)) what.now.flow what.now.states
+        sources.now.device_list.items steady (script_of sources.now) (all_asked what.now)) what.now.flow what.now.states
         (O.sink out.old) (O.sink out.new) result }
 {
     let Ok(names) = slices_of(alloc, &what.names) else {
         return Err(RehearsalError::Memory);
     };
     let bytes = bytes_of(sources);
+    let list = DeviceText {
+        text: bytes.device_list,
+        steady,
+    };
     let ask = rehearse_endings::EndingsAsk {
         name: what.name.as_bytes(),
         text: bytes.script,
@@ -57,15 +63,7 @@ fn endings_of_sources<O: Out>(
         names: &names,
         flow: what.flow,
     };
-    endings_bytes(
-        alloc,
-        bytes.first,
-        bytes.second,
-        order,
-        bytes.device_list,
-        &ask,
-        out,
-    )
+    endings_bytes(alloc, bytes.first, bytes.second, order, list, &ask, out)
 }
 
 /// Reports how all runs of a variable of images end, or of a script. Reads the images, then the device list, then
@@ -85,8 +83,9 @@ pub fn endings<F: Files, O: Out>(
         (O.sink out.new) old new result) }
     ensures output { LeavesOutput result (O.sink out.old) (O.sink out.new) }
 {
+    let steady = inputs.steady;
     let sources = read_sources(alloc, files, inputs)?;
-    match endings_of_sources(alloc, &sources, order, &what, out) {
+    match endings_of_sources(alloc, &sources, steady, order, &what, out) {
         Ok(()) => Ok(true),
         Err(error) => Err(refusal_of(error, what)),
     }

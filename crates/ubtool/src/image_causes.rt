@@ -3,6 +3,7 @@ ghost use Rattle.std.specs.Prelude.{IfOk, IfErr};
 ghost use Rattle.std.specs.Option.{option_copied};
 ghost use Rattle.ubtool.specs.CausesOfImages.{RefusesCauses, TellsCauses, causes_given};
 
+use crate::board_devices::{DeviceText, devices_of};
 use crate::board_environment::env_of_board;
 use crate::rehearsal_error::RehearsalError;
 use bootstore_trail::Trail;
@@ -24,17 +25,18 @@ pub fn causes_bytes<O: Out>(
     first: &[u8],
     second: Option<&[u8]>,
     order: ByteOrder,
-    devices_text: &[u8],
+    list: DeviceText<'_>,
     ask: &CausesAsk<'_>,
     out: &mut O,
 ) -> Result<bool, RehearsalError>
     ensures ok { IfOk result (λ fine. TellsCauses
-        (causes_given order first.now (option_copied second.entry) devices_text.now ask.now)
+        (causes_given order first.now (option_copied second.entry) list.entry.text.now list.entry.steady ask.now)
         ask.now.check (O.sink out.old) (O.sink out.new) fine) }
     ensures err { IfErr result
         (λ e. RefusesCauses (causes_given order first.now (option_copied second.entry)
-        devices_text.now ask.now) ask.now.check (O.sink out.old) (O.sink out.new) e) }
+        list.entry.text.now list.entry.steady ask.now) ask.now.check (O.sink out.old) (O.sink out.new) e) }
 {
     let env = env_of_board(alloc, first, second, order, ask.bounds.shell())?;
-    Ok(causes_env::<Trail, O>(alloc, &env, devices_text, ask, out)?)
+    let devices = devices_of(alloc, list)?;
+    Ok(causes_env::<Trail, O>(alloc, &env, &devices, ask, out)?)
 }

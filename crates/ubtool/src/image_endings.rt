@@ -3,6 +3,7 @@ ghost use Rattle.std.specs.Prelude.{IfOk, IfErr};
 ghost use Rattle.std.specs.Option.{option_copied};
 ghost use Rattle.ubtool.specs.EndingsOfImages.{RefusesEndings, TellsEndings, endings_given};
 
+use crate::board_devices::{DeviceText, devices_of};
 use crate::board_environment::env_of_board;
 use crate::rehearsal_error::RehearsalError;
 use bootstore_trail::Trail;
@@ -26,18 +27,19 @@ pub fn endings_bytes<O: Out>(
     first: &[u8],
     second: Option<&[u8]>,
     order: ByteOrder,
-    devices_text: &[u8],
+    list: DeviceText<'_>,
     ask: &EndingsAsk<'_>,
     out: &mut O,
 ) -> Result<(), RehearsalError>
     ensures ok { IfOk result (λ _. TellsEndings
-        (endings_given order first.now (option_copied second.entry) devices_text.now ask.now)
+        (endings_given order first.now (option_copied second.entry) list.entry.text.now list.entry.steady ask.now)
         ask.now.flow ask.now.states (O.sink out.old) (O.sink out.new)) }
     ensures err { IfErr result
         (λ e. RefusesEndings (endings_given order first.now (option_copied second.entry)
-        devices_text.now ask.now) ask.now.flow ask.now.states (O.sink out.old) (O.sink out.new) e) }
+        list.entry.text.now list.entry.steady ask.now) ask.now.flow ask.now.states (O.sink out.old) (O.sink out.new) e) }
 {
     let env = env_of_board(alloc, first, second, order, ask.bounds.shell())?;
-    endings_env::<Trail, O>(alloc, &env, devices_text, ask, out)?;
+    let devices = devices_of(alloc, list)?;
+    endings_env::<Trail, O>(alloc, &env, &devices, ask, out)?;
     Ok(())
 }

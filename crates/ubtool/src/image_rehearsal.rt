@@ -9,6 +9,7 @@ ghost use Rattle.ubtool.specs.Given.{given};
 ghost use Rattle.ubtool.specs.Headline.{Rehearses};
 ghost use Rattle.ubtool.specs.Refusing.{Refuses};
 
+use crate::board_devices::{DeviceText, devices_of};
 use crate::board_environment::env_of_board;
 use crate::rehearsal_error::RehearsalError;
 use bootstore_trail::Trail;
@@ -32,23 +33,23 @@ pub fn rehearse_bytes<O: Out>(
     first: &[u8],
     second: Option<&[u8]>,
     order: ByteOrder,
-    devices_text: &[u8],
+    list: DeviceText<'_>,
     ask: &Ask<'_>,
     out: &mut O,
 ) -> Result<Finish, RehearsalError>
     requires { HasRoom (page_of (wanted_slices ask.now.wanted)) }
     ensures ok { IfOk result (λ finish. Rehearses
-        (given order first.now (option_copied second.entry) devices_text.now (text_given ask.now)
+        (given order first.now (option_copied second.entry) list.entry.text.now list.entry.steady (text_given ask.now)
         (asking_of ask.now)) (O.sink out.old) (O.sink out.new) finish) }
     ensures err { IfErr result
-        (λ e. Refuses (given order first.now (option_copied second.entry) devices_text.now
+        (λ e. Refuses (given order first.now (option_copied second.entry) list.entry.text.now list.entry.steady
         (text_given ask.now) (asking_of ask.now)) (O.sink out.old) (O.sink out.new) e) }
 {
     let shell = match ask.wanted {
         Wanted::Listing { bounds, .. } => bounds.shell(),
         Wanted::Word { bounds, .. } => bounds.shell(),
     };
-    rehearse_in(alloc, first, second, order, shell, devices_text, ask, out)
+    rehearse_in(alloc, first, second, order, shell, list, ask, out)
 }
 
 /// The same in this shell, which is that of the bounds.
@@ -58,19 +59,20 @@ fn rehearse_in<O: Out>(
     second: Option<&[u8]>,
     order: ByteOrder,
     shell: Shell,
-    devices_text: &[u8],
+    list: DeviceText<'_>,
     ask: &Ask<'_>,
     out: &mut O,
 ) -> Result<Finish, RehearsalError>
     requires room { HasRoom (page_of (wanted_slices ask.now.wanted)) }
     requires shell { shell ≡ (asking_of ask.now).bounds.shell }
     ensures ok { IfOk result (λ finish. Rehearses
-        (given order first.now (option_copied second.entry) devices_text.now (text_given ask.now)
+        (given order first.now (option_copied second.entry) list.entry.text.now list.entry.steady (text_given ask.now)
         (asking_of ask.now)) (O.sink out.old) (O.sink out.new) finish) }
     ensures err { IfErr result
-        (λ e. Refuses (given order first.now (option_copied second.entry) devices_text.now
+        (λ e. Refuses (given order first.now (option_copied second.entry) list.entry.text.now list.entry.steady
         (text_given ask.now) (asking_of ask.now)) (O.sink out.old) (O.sink out.new) e) }
 {
     let env = env_of_board(alloc, first, second, order, shell)?;
-    Ok(rehearse_env::<Trail, O>(alloc, &env, devices_text, ask, out)?)
+    let devices = devices_of(alloc, list)?;
+    Ok(rehearse_env::<Trail, O>(alloc, &env, &devices, ask, out)?)
 }

@@ -1,6 +1,7 @@
 //! The program from its words to its status, over any files and outputs, and what it does with the bytes of images.
 #![tactic(auto)]
 
+mod board_devices;
 mod board_environment;
 mod causes;
 mod endings;
@@ -15,6 +16,7 @@ mod rehearsing;
 mod source_bytes;
 mod tool;
 
+pub use board_devices::DeviceText;
 pub use envimage::{ByteOrder, Which};
 pub use envtools::PrintForm;
 pub use fault::ProgramFault;

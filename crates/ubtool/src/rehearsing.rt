@@ -7,6 +7,7 @@ ghost use Rattle.ubtool.specs.RehearsingFiles.{LeavesOutput, RehearsesCopies, Re
 ghost use Rattle.ubtool.specs.Given.{given_by, script_of};
 ghost use Rattle.tool_words.specs.CommandAnswers.{asking_of, inputs_shown};
 
+use crate::board_devices::DeviceText;
 use crate::fault::ProgramFault;
 use crate::image_rehearsal::rehearse_bytes;
 use crate::rehearsal_error::RehearsalError;
@@ -40,33 +41,30 @@ fn refusal_of(error: RehearsalError, what: RehearseAsk) -> ProgramFault
 fn rehearse_sources<O: Out>(
     alloc: Global,
     sources: &Sources,
+    steady: bool,
     order: ByteOrder,
     what: &RehearseAsk,
     out: &mut O,
 ) -> Result<Finish, RehearsalError>
     ensures { RehearsesCopies (given_by order (copies sources.now.images)
-        sources.now.device_list.items (script_of sources.now) (asking_of what.now)) (O.sink out.old) (O.sink out.new)
+        sources.now.device_list.items steady (script_of sources.now) (asking_of what.now)) (O.sink out.old) (O.sink out.new)
         result }
 {
     let Ok(names) = slices_of(alloc, &what.names) else {
         return Err(RehearsalError::Memory);
     };
     let bytes = bytes_of(sources);
+    let list = DeviceText {
+        text: bytes.device_list,
+        steady,
+    };
     let ask = rehearse_runs::Ask {
         name: what.name.as_bytes(),
         text: bytes.script,
         wanted: what.wanted.as_bytes(),
         names: &names,
     };
-    rehearse_bytes(
-        alloc,
-        bytes.first,
-        bytes.second,
-        order,
-        bytes.device_list,
-        &ask,
-        out,
-    )
+    rehearse_bytes(alloc, bytes.first, bytes.second, order, list, &ask, out)
 }
 
 /// Rehearses a variable of images, or a script. Reads the images, then the device list, then the script if one is
@@ -86,8 +84,9 @@ pub fn rehearse<F: Files, O: Out>(
         (O.sink out.new) old new result) }
     ensures output { LeavesOutput result (O.sink out.old) (O.sink out.new) }
 {
+    let steady = inputs.steady;
     let sources = read_sources(alloc, files, inputs)?;
-    match rehearse_sources(alloc, &sources, order, &what, out) {
+    match rehearse_sources(alloc, &sources, steady, order, &what, out) {
         Ok(_) => Ok(true),
         Err(error) => Err(refusal_of(error, what)),
     }

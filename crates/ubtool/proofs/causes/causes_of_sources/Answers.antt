@@ -13,5 +13,5 @@ returns g c =
     let what = c.args.what.now in
     let read = c.bytes_of-bytes.result in
     let asking = ap (λ (name : List ℕ). all_runs name what.bounds []) c.as_bytes.ensures.value in
-    let same = given-same c.args.order read.first.now _ (option_copied read.second) _ read.device_list.now _ _ _ _ _ c.bytes_of-bytes.ensures.first c.bytes_of-bytes.ensures.second c.bytes_of-bytes.ensures.device_list c.bytes_of-bytes.ensures.script asking in
+    let same = given-same c.args.order read.first.now _ (option_copied read.second) _ read.device_list.now _ c.args.steady _ _ _ _ c.bytes_of-bytes.ensures.first c.bytes_of-bytes.ensures.second c.bytes_of-bytes.ensures.device_list c.bytes_of-bytes.ensures.script asking in
     subst (λ (x : Given). TellsCausesOfCopies x what.check out out' c.causes_bytes.result) same (causes-told _ what.check out out' c.causes_bytes.result c.causes_bytes.ensures.ok c.causes_bytes.ensures.err)
