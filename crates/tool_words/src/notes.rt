@@ -115,12 +115,17 @@ A line of the device list is one of these:
   final NAME ..       one that boots, and so ends the run
   steady NAME ..      one that answers as before to the same words
   sub NAME WORD ..    its calls with this first word alone
+  call NAME WORD .. : CLAUSE ..   its calls that fit these words
+  absent NAME         one that the board does not have, so it always fails
   known NAME          env, itest or setexpr, computed from the words of a call
 
 They go together as in 'final steady sub NAME WORD VAR=VALUE'. In a sub line,
-@1=VALUE or @last=VALUE sets the variable that a word of the call names. The
-line 'steady test' is about 'test -e'. With --steady each command and 'test -e'
-is steady, whatever the list says. Lines that begin with # are skipped.
+@1=VALUE or @last=VALUE sets the variable that a word of the call names. In a
+call line, a word that ends with * is any that starts so, and a last ** any
+number of words; the clauses are final, steady, always 0 (it succeeds), always 1
+(it fails), VAR=VALUE, and VAR=@N for the Nth word. The line 'steady test' is
+about 'test -e'. With --steady each command and 'test -e' is steady, whatever
+the list says. Lines that begin with # are skipped.
 
 Examples:
   ubtool rehearse -d devices.txt
