@@ -1,5 +1,5 @@
 -- Worked examples, computed: how the runs of a given text end. A variable of its name is set to another text.
-use Rattle.std.proofs.Common.{◌≡◌, List, [], ◌∷◌, Option, Some, None, codes, length, refl}
+use Rattle.std.proofs.Common.{◌≡◌, [], ◌∷◌, Option, Some, None, codes, length, refl}
 use Rattle.std.specs.Prelude.{option_map}
 use Rattle.std.specs.Fmt.{digits}
 use Rattle.hushlang.specs.Expansion.{fields, joined, atoms}

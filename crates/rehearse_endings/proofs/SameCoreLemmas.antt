@@ -13,7 +13,7 @@ use Rattle.rehearse_rules.specs.Parameters.{parameters_in}
 use Rattle.bootstore_state.specs.StoredState.{state_at}
 use Rattle.device_list.specs.Called.{Called, BuiltIn, NoCommand, Device, called_by, sets_in}
 use Rattle.commands.specs.BuiltInCommands.{ChangesVariables, WritesText, RunsTexts, Tests, Exits}
-use Rattle.rehearse_rules.specs.Execution.{Limits, CutDevices, Size, Request, test_effect, told, told_again, logged, set_environment, set_status, status_when, take_outcome, Unsupported, request_of, test_request}
+use Rattle.rehearse_rules.specs.Execution.{Limits, CutDevices, Size, Request, told, told_again, logged, set_environment, set_status, status_when, take_outcome, Unsupported, request_of, test_request}
 use Rattle.rehearse_machine.specs.Came.{Came}
 use Rattle.rehearse_machine.specs.Meaning.{continue, comes_to}
 use Rattle.rehearse_machine.specs.Places.{PlaceNext, GoOn, AskOn, StopOn, next_of, frames_of, left, to_run, place_exit, place_boot, place_tell_or_ask, place_ask, place_called, place_fields}
