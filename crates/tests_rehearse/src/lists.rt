@@ -2,13 +2,25 @@
 
 use crate::calls::devices_of;
 use crate::case::Case;
-use device_list::{Devices, Effect, LeftSide, Setting};
+use device_list::{Devices, Effect, LeftSide, RightSide, Setting};
 use std::alloc::{AllocError, Global};
 use tests_rows::{shown, unescaped, words_of};
 
+/// A value as a device list writes it.
+fn value_of(alloc: Global, value: &RightSide) -> Result<String, AllocError> {
+    match value {
+        RightSide::Literal(text) => shown(alloc, text),
+        RightSide::ValueAt(at) => {
+            let at = at.saturating_add(1);
+            format!(in alloc; "@{at}")
+        }
+        RightSide::LastValue => String::from_str(alloc, "@last"),
+    }
+}
+
 /// A setting as a device list writes it, after a space.
 fn setting_of(alloc: Global, setting: &Setting) -> Result<String, AllocError> {
-    let value = shown(alloc, &setting.value)?;
+    let value = value_of(alloc, &setting.value)?;
     match &setting.left {
         LeftSide::Variable(name) => {
             let name = shown(alloc, name)?;
@@ -22,10 +34,20 @@ fn setting_of(alloc: Global, setting: &Setting) -> Result<String, AllocError> {
     }
 }
 
-/// An effect: `final` if it ends the run, else `sets`, and its settings.
+/// What the only answer of a call adds to its effect.
+fn only_answer(always: Option<bool>) -> &'static str {
+    match always {
+        None => "",
+        Some(true) => " always 0",
+        Some(false) => " always 1",
+    }
+}
+
+/// An effect: `final` if it ends the run, else `sets`, the only answer if it has one, and its settings.
 fn effect_of(alloc: Global, effect: Effect<'_>) -> Result<String, AllocError> {
     let start = if effect.ends { "final" } else { "sets" };
     let mut line = String::from_str(alloc, start)?;
+    line.push_str(only_answer(effect.always))?;
     for setting in effect.sets {
         line.push_str(setting_of(alloc, setting)?.as_str())?;
     }
