@@ -13,8 +13,8 @@
  *   The variables of N.image are set as they stand there; N.imported in its place is read by U-Boot's import.
  *   SHELL is `old` or, in a U-Boot that has it, `modern`.
  * - `scripted COUNT DEVICES SHELL LIST` takes N.image or N.imported, and writes to N.theirs the record of the run of
- *   each word of N.words, a line each. LIST is a device list in the form of docs/RUNNING.md, with the lines `known` of
- *   all commands that it may have. U-Boot has its commands then, beside those of the shell, and no other. The text of
+ *   each word of N.words, a line each. LIST is a device list in the form of docs/RUNNING.md. U-Boot has its commands
+ *   then, beside those of the shell, and no other. The text of
  *   a record is what `echo` writes, and no message. A call of which the list does not speak ends the run.
  *
  * Three endings are U-Boot's own: `broken`, if a run reads or writes where nothing is; `panic`, if the modern shell
@@ -69,6 +69,8 @@ static char outcomes[LONGEST_WORD + 1];
 static int asked, bound, listing, plain, report;
 static bool own_import, modern, by_list;
 static struct device_line lines[MOST_LINES], *end_of_lines = lines;
+/* The names of its lines `known`, each between spaces. */
+static char known_names[64] = " ";
 static char record[8 * LARGEST_TEXT], variables[sizeof(record)];
 static int record_size, variables_size;
 static char text[LARGEST_TEXT], echoed[LARGEST_TEXT];
@@ -385,20 +387,21 @@ static bool is_computed(int argc, char *const argv[])
 	return argc < 5 || (*argv[4] != '*' && (hextoul(argv[4], NULL) || !strchr("/%", *argv[3])));
 }
 
-/* The three of these, and what they do in U-Boot. */
+/* The three of these, what they do in U-Boot, and whether the list has them computed. */
 static struct {
 	struct cmd_tbl *command;
 	int (*own)(struct cmd_tbl *cmdtp, int flag, int argc, char *const argv[]);
+	bool known;
 } computed[3];
 
 static int do_computed(struct cmd_tbl *cmdtp, int flag, int argc, char *const argv[])
 {
 	int i = 0;
 
-	if (call_line(argc, argv) || !is_computed(argc, argv))
-		return do_listed(cmdtp, flag, argc, argv);
 	while (computed[i].command != cmdtp)
 		i++;
+	if (!computed[i].known || !is_computed(argc, argv))
+		return do_listed(cmdtp, flag, argc, argv);
 	return computed[i].own(cmdtp, flag, argc, argv);
 }
 
@@ -435,6 +438,7 @@ static void make_table(void)
 			command->maxargs = MOST_ARGUMENTS;
 		if (strstr(asked_for, name)) {
 			computed[i].command = command;
+			computed[i].known = strstr(known_names, name);
 			computed[i++].own = command->cmd;
 			command->cmd = do_computed;
 		} else if (!strstr(kept, name)) {
@@ -514,8 +518,13 @@ static void read_line(char *row)
 	if (row || end_of_lines == lines + MOST_LINES)
 		fail("the device list is too large");
 	*word = NULL;
-	if (!*at || (!strcmp(*at, "known") && at[1] && !at[2]))
+	if (!*at)
 		return;
+	if (!strcmp(*at, "known") && at[1] && !at[2]) {
+		strlcat(known_names, at[1], sizeof(known_names));
+		strlcat(known_names, " ", sizeof(known_names));
+		return;
+	}
 	end_of_lines++;
 	if (!strcmp(*at, "call") && at[1]) {
 		read_call(line, at + 1);
