@@ -1,0 +1,72 @@
+  $ . "$TESTDIR/../setup"
+
+More runs than can be listed: so many commands in a row, which end with the status of the last.
+
+  $ row() { { printf 'bootcmd=' && yes 'load;' | head -n "$1" | tr -d '\n' && echo; } | lines_image row; }
+  $ echo load >devices
+  $ digits() { sed 's/0\{99\}/ZEROS/g'; }
+
+2^100 runs
+  $ row 100; ubtool endings -c row.config -d devices | digits
+  ends 633825300114114700748351602688 first ZEROS0 fewest 0 ZEROS0 end 0
+  ends 633825300114114700748351602688 first ZEROS1 fewest 1 ZEROS1 end 1
+  fails load
+  all 1267650600228229401496703205376 states 199
+
+the flow of 2^100 runs
+  $ ubtool endings -c row.config -d devices --flow >flow
+  $ sed -n '1,3p; 200,$p' flow
+  1 ask load success 3 failure 2
+  2 ask load success 5 failure 4
+  3 ask load success 5 failure 4
+  200 ends end 1
+  201 ends end 0
+
+2^128 runs
+  $ row 128; ubtool endings -c row.config -d devices | sed 's/ first .*/ first/; s/ states .*//'
+  ends 170141183460469231731687303715884105728 first
+  ends 170141183460469231731687303715884105728 first
+  fails load
+  all >=340282366920938463463374607431768211455
+
+2^1000 runs
+  $ row 1000; ubtool endings -c row.config -d devices | sed 's/[01]\{999\}\([01]\)/\1/g'
+  ends >=340282366920938463463374607431768211455 first 0 fewest 0 0 end 0
+  ends >=340282366920938463463374607431768211455 first 1 fewest 1 1 end 1
+  fails load
+  all >=340282366920938463463374607431768211455 states 1999
+
+more device commands than a run may have
+  $ row 1001; ubtool endings -c row.config -d devices >told
+  $ cut -d ' ' -f 1-2 told | head -n 1; grep -c '^ends' told; sed -n 's/.* \(cut devices\)$/\1/p' told
+  ends >=340282366920938463463374607431768211455
+  1
+  cut devices
+
+States that do not merge: each of so many commands sets a variable to what it answered.
+
+  $ spreading() { { printf 'bootcmd=' && for it in $(seq "$1"); do printf 'if load; then setenv v%d 0; else setenv v%d 1; fi;' $it $it; done && echo; } | lines_image spreading; }
+
+as many states as runs
+  $ spreading 14; ubtool endings -c spreading.config -d devices | tail -n 1
+  all 16384 states 16383
+
+as many states as allowed
+  $ ubtool endings -c spreading.config -d devices --states 16383 | tail -n 1
+  all 16384 states 16383
+
+one state more than allowed
+  $ ubtool endings -c spreading.config -d devices --states 16382
+  ! ubtool: more states than allowed
+  [1]
+
+a million states, of which 10,000 are allowed, in 64 MiB
+  $ spreading 20
+  $ (ulimit -v 65536; ubtool endings -c spreading.config -d devices --states 10000)
+  ! ubtool: more states than allowed
+  [1]
+
+a million states in 32 MiB
+  $ (ulimit -v 32768; ubtool endings -c spreading.config -d devices)
+  ! ubtool: out of memory
+  [1]
