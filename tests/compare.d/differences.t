@@ -3,6 +3,8 @@
 
 What differs on purpose: a case for each row of docs/COMPATIBILITY.md, by libubootenv's fw_printenv and fw_setenv, and by ubtool.
 
+  $ [ "$(fw_printenv -V 2>/dev/null)" = 0.3.2 ] || left_out 'the differences, which are those from libubootenv 0.3.2'
+
 order of all variables
   $ start 'b=2\na=1\n'
   $ theirs printenv -c image.config

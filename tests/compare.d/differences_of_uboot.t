@@ -3,6 +3,7 @@
 
 What differs on purpose, by U-Boot's own fw_printenv and fw_setenv.
 
+  $ [ "$(fw_printenv -V 2>/dev/null)" = 0.3.2 ] || left_out 'the differences, which are those from libubootenv 0.3.2'
   $ [ -n "$OWN" ] || exit 80
 
 order of all variables

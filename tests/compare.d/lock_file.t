@@ -3,6 +3,7 @@
 
 The lock file, while another holds it.
 
+  $ [ "$(fw_printenv -V 2>/dev/null)" = 0.3.2 ] || left_out 'the differences, which are those from libubootenv 0.3.2'
   $ needs flock
   $ lock=/var/lock/fw_printenv.lock
   $ [ -w "$(dirname "$lock")" ] || left_out "the lock file, since $lock cannot be written"

@@ -3,6 +3,7 @@
 
 The lock file, while another holds it.
 
+  $ [ "$(fw_printenv -V 2>/dev/null)" = 0.3.2 ] || left_out 'the differences, which are those from libubootenv 0.3.2'
   $ [ -n "$OWN" ] || exit 80
   $ needs flock
   $ lock=/var/lock/fw_printenv.lock

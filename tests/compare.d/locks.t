@@ -3,6 +3,7 @@
 
 What is no lock file at the path of the lock, in a folder that is seen here alone.
 
+  $ [ "$(fw_printenv -V 2>/dev/null)" = 0.3.2 ] || left_out 'the differences, which are those from libubootenv 0.3.2'
   $ start 'a=1\nb=2\n'; touch target
   $ other_lock true true || left_out 'what is no lock file at the path of the lock, since no mount can be made'
 
