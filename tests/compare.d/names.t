@@ -3,7 +3,7 @@
 
 The same answers by the names of U-Boot's tools, with long options.
 
-  $ variables >variables; mkenvimage -s 0x2000 -o made variables >/dev/null
+  $ board >variables; mkenvimage -s 0x2000 -o made variables >/dev/null
   $ printf 'image 0x0 0x2000\n' >config
 
 after fw_setenv

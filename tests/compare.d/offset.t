@@ -3,7 +3,7 @@
 
 The same answers by libubootenv's tools and by ubtool: an image at an offset.
 
-  $ variables >variables; mkenvimage -s 0x2000 -o made variables >/dev/null
+  $ board >variables; mkenvimage -s 0x2000 -o made variables >/dev/null
   $ fresh() { { head -c 1000 /dev/urandom && cat made && head -c 77 /dev/urandom; } >image; }
   $ printf '# at an offset\nimage 1000 0x2000 0x1000\n' >config
 

@@ -3,7 +3,7 @@
 
 The same answers by libubootenv's tools and by ubtool: a redundant pair in one file.
 
-  $ variables >variables; mkenvimage -r -s 0x2000 -o made variables >/dev/null
+  $ board >variables; mkenvimage -r -s 0x2000 -o made variables >/dev/null
   $ fresh() { { head -c 512 /dev/urandom && cat made made && echo behind; } >image; }
   $ printf 'image 0x200 0x2000\nimage 0x2200 0x2000\n' >config
 

@@ -3,7 +3,7 @@
 
 The same answers by libubootenv's tools and by ubtool: a redundant pair.
 
-  $ variables >variables; mkenvimage -r -s 0x2000 -o made variables >/dev/null
+  $ board >variables; mkenvimage -r -s 0x2000 -o made variables >/dev/null
   $ fresh() { cp made first; cp made second; }
   $ printf 'first 0 2000\nsecond 0 2000 1000 2\n' >config
 

@@ -3,7 +3,7 @@
 
 The same answers by libubootenv's tools and by ubtool: a single image.
 
-  $ variables >variables; mkenvimage -s 0x2000 -o made variables >/dev/null
+  $ board >variables; mkenvimage -s 0x2000 -o made variables >/dev/null
   $ fresh() { cp made image; }
   $ printf 'image 0x0 0x2000\n' >config
 
