@@ -1,0 +1,80 @@
+  $ . "$TESTDIR/../setup"
+
+What the first screen of the README and docs/REHEARSAL.md show, call by call.
+
+  $ mkdir path; ln -s "$UBTOOL" path/ubtool; ln -s "$HUSHCHECK" path/hushcheck
+  $ for board in rpi_4 sheevaplug warp7; do lines_image $board <"$repository/share/boards/$board.env"; done
+  $ ln -s "$repository/share" share; cat share/devices/* >devices.txt
+  $ page=$repository/docs/REHEARSAL.md
+
+How many calls a text shows, which write what it shows; and a block of the page between two lines.
+
+  $ calls() {
+  >     sed -n '/^```$/,/^```$/p' | sed '/^```$/d' >shown
+  >     grep -c '^\$ ubtool ' shown; sed -n 's/^\$ //p' shown >calls
+  >     while read -r call; do echo "\$ $call"; PATH=$PWD/path:$PATH sh -c "$call" 2>&1; done <calls >found
+  > }
+  $ between() { sed -n "/^$1/,/^$2/p" "$page" | awk -v wanted="$3" '/^```$/ { blocks++; next } blocks == 2 * wanted - 1'; }
+
+on the first screen of the README
+  $ sed -n '1,/^## /p' "$repository/README.md" | calls
+  4
+  $ cmp found shown
+
+of an environment
+  $ between '## What it needs' '## Does' 1 >list.txt; between 'With this environment' 'What has to fail for' 1 >env.txt
+  $ sed -n '/^What has to fail for/,/^The last line counts/p' "$page" | calls
+  2
+  $ cmp found shown
+
+its records
+  $ ubtool rehearse --text env.txt -d list.txt bootdelay filesize | awk '
+  >     /^run / { n++ } n == 1 || n == 4 || n == 7 { print } /^booted|^end/ && (n == 1 || n == 4) { print "" }' | grep -v '^done$' >found
+  $ between '## What does a run do' '(A listing' 1 | cmp - found
+
+of both readings
+  $ between 'They differ if' 'Read by calls' 1 >retry.txt
+  $ sed -n '/^Read by calls/,/^## In a pipeline/p' "$page" | calls
+  5
+  $ cmp found shown
+
+of values
+  $ sed -n '/^Which kernels can be started/,/^If the partition/p' "$page" | calls
+  1
+  $ cmp found shown
+
+of single failures
+  $ sed -n '/^## What happens if any one/,/^## What a device/p' "$page" | calls
+  2
+  $ cmp found shown
+
+of open questions
+  $ sed -n '/^## What a device list leaves open/,/^## A script/p' "$page" | calls
+  4
+  $ cmp found shown
+
+of a script
+  $ sed -n '/^## A script in a file/,/^## A real/p' "$page" | calls
+  1
+  $ cmp found shown
+
+the states with steady test
+  $ { cat devices.txt && echo 'steady test'; } >steady_test.txt
+  $ ubtool endings -c rpi_4.config -d steady_test.txt --states 20000
+  ! ubtool: more states than allowed
+  [1]
+
+the call by a shell
+  $ cp rpi_4.config fw_env.config
+  $ ubtool $(sed -n '/^## Which shell/,/^## What/s/^\$ ubtool //p' "$page") | tail -n 1 | cut -d ' ' -f 1
+  all
+
+of a real board
+  $ sed -n '/^## A real board/,/^## What/p' "$page" | calls
+  2
+  $ cmp found shown
+
+the lines of a flow
+  $ ubtool endings -c rpi_4.config -d devices.txt --flow >flow
+  $ grep -c "Its flow has $(wc -l <flow) lines" "$page"
+  1
