@@ -1,0 +1,40 @@
+# Of the listing on standard input, each run's word, device commands, variables and last line; the first file is the device list.
+# A command that this calls steady is here once a run: its answer is told again after that, which is no choice. Nor is a call that
+# always comes to the same, which is not here.
+# fits: whether the words of a line `dev` are those of a pattern.
+function fits(pattern,   parts, count, i) {
+    count = split(pattern, parts, " ")
+    for (i = 1; i <= count; i++) {
+        if (i == count && parts[i] == "**") return 1
+        if (i + 2 > NF) return 0
+        if (parts[i] ~ /[*]$/ ? index($(i + 2), substr(parts[i], 1, length(parts[i]) - 1)) != 1 : $(i + 2) != parts[i]) return 0
+    }
+    return i + 2 > NF
+}
+# always: whether the first line `call` that fits has the answer.
+function always(   i) {
+    for (i = 1; i <= calls; i++) if (fits(pattern[i])) return constant[i]
+    return 0
+}
+NR == FNR && $1 == "absent" { $0 = "call " $2 " ** : always 1" }
+NR == FNR && $1 == "call" {
+    constant[++calls] = /: .*always [01]/
+    sub(/^call /, "")
+    sub(/ *: .*| *:$/, "")
+    pattern[calls] = $0
+    next
+}
+NR == FNR {
+    first = $1 == "steady" ? 2 : 1
+    call = $first == "sub" ? $(first + 1) " " $(first + 2) : $first
+    steady[call] = first == 2
+}
+NR == FNR { next }
+/^run / { split("", answered) }
+/^dev / && always() { next }
+/^dev / && steady[$3 " " $4 in steady ? $3 " " $4 : $3] {
+    call = substr($0, 7)
+    if (call in answered) next
+    answered[call] = 1
+}
+/^(run|dev|var|unset|end|cut|stop|booted) /
