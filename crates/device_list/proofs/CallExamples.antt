@@ -67,6 +67,20 @@ always_fails = refl
 other_status : map (λ line. listed line) (codes "call usb ** : always 2" ∷ codes "call usb ** : always" ∷ codes "call usb ** : always final" ∷ []) ≡ Err (BadLine 1) ∷ Err (BadLine 1) ∷ Err (BadLine 1) ∷ []
 other_status = refl
 
+-- what follows the status is the next clause, before other clauses and after them
+after_the_status : map (λ line. listed line) (codes "call usb ** : always 0 a=1 final" ∷ codes "call usb ** : final a=1 always 0" ∷ [])
+    ≡ Ok (one (codes "usb") any (record { ends = true; stays = false; always = Some true; sets = (Variable (codes "a"), Literal (codes "1")) ∷ [] }))
+    ∷ Ok (one (codes "usb") any (record { ends = true; stays = false; always = Some true; sets = (Variable (codes "a"), Literal (codes "1")) ∷ [] })) ∷ []
+after_the_status = refl
+
+-- the first `:` ends the pattern, and a second one is no clause
+second_colon : listed (codes "call usb : final : steady") ≡ Err (BadLine 1)
+second_colon = refl
+
+-- a bad line is refused as one before its name is looked at
+bad_before_built_in : map (λ line. listed line) (codes "call echo ** a : final" ∷ codes "call echo : a" ∷ codes "call echo : a='1'" ∷ []) ≡ Err (BadLine 1) ∷ Err (BadLine 1) ∷ Err (BadLine 1) ∷ []
+bad_before_built_in = refl
+
 twice : map (λ line. listed line) (codes "call usb ** : final final" ∷ codes "call usb ** : steady steady" ∷ codes "call usb ** : always 0 always 0" ∷ []) ≡ Err (BadLine 1) ∷ Err (BadLine 1) ∷ Err (BadLine 1) ∷ []
 twice = refl
 
@@ -98,6 +112,9 @@ absent = refl
 
 absent_says : listed (codes "absent part") ≡ Ok (one (codes "part") any (record quiet { always = Some false }))
 absent_says = refl
+
+absent_colon : listed (codes "absent :") ≡ Err (BadLine 1)
+absent_colon = refl
 
 absent_built_in : listed (codes "absent echo") ≡ Err (BuiltIn 1)
 absent_built_in = refl
