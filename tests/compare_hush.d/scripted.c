@@ -307,7 +307,7 @@ static void set_by_line(const struct device_line *line, int argc, char *const ar
 	}
 }
 
-/* Whether a call has the words of a pattern: `*` stands for any end of a word, and `**` at the end for all that follow. */
+/* Whether a call has the words of a pattern: `*` is any end of a word, and `**` at the end is all that follow. */
 static bool fits(char *const *pattern, int argc, char *const argv[])
 {
 	int i;

@@ -40,7 +40,7 @@ the picture of a flow
 the picture of a listing has as many lines
   $ [ "$(grep -c label listed.dot)" = "$(grep -c label drawn.dot)" ]
 
-what is told again is drawn as no choice
+an answer that is given again is drawn as no choice
   $ printf 'load\nsteady mmc\nsteady test\n' >steady.list
   $ script twice 'bootcmd=if mmc dev 0; then load a; fi; if mmc dev 0; then load a; fi; test -e mmc 0 f || test -e mmc 0 f'
   $ ubtool rehearse -c twice.config -d steady.list | choices --fold | grep label | sort | sed 's/^ *n[0-9]* //' >listed.dot
