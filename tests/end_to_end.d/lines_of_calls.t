@@ -1,0 +1,161 @@
+  $ . "$TESTDIR/../setup"
+
+What the page says of lines of calls: each row of its table.
+
+  $ runs() { printf 'bootcmd=%s\n' "$1" >env.txt; printf '%s\n' "${@:2}" >list; ubtool rehearse --text env.txt -d list fdtaddr p; }
+
+a pattern of three words, and steady
+  $ runs 'mmc dev 1; mmc dev 1' 'call mmc dev * : steady'
+  run 0
+  dev 0 mmc dev 1
+  dev 0 mmc dev 1
+  unset fdtaddr
+  unset p
+  end 0
+  run 1
+  dev 1 mmc dev 1
+  dev 1 mmc dev 1
+  unset fdtaddr
+  unset p
+  end 1
+  done
+
+a call with fewer words
+  $ runs 'mmc dev' 'call mmc dev * : steady'
+  run .
+  unset fdtaddr
+  unset p
+  stop unknown mmc
+  done
+
+another first word
+  $ runs 'mmc rescan' 'call mmc dev * : steady'
+  run .
+  unset fdtaddr
+  unset p
+  stop unknown mmc
+  done
+
+a call that always succeeds, and one that the name decides
+  $ runs 'usb start; usb reset' 'call usb start : always 0' usb
+  run 0
+  dev 0 usb start
+  dev 0 usb reset
+  unset fdtaddr
+  unset p
+  end 0
+  run 1
+  dev 0 usb start
+  dev 1 usb reset
+  unset fdtaddr
+  unset p
+  end 1
+  done
+
+a command that the board does not have
+  $ runs 'part list; echo $?' 'absent part'
+  run .
+  dev 1 part list
+  text 1\n
+  unset fdtaddr
+  unset p
+  end 0
+  done
+
+a word of the call as the value
+  $ runs 'fdt addr 1000' 'call fdt addr * : fdtaddr=@2'
+  run 0
+  dev 0 fdt addr 1000
+  var fdtaddr=1000
+  unset p
+  end 0
+  run 1
+  dev 1 fdt addr 1000
+  unset fdtaddr
+  unset p
+  end 1
+  done
+
+the first line that fits
+  $ runs 'gpt setenv mmc 0 rootfs-1' 'call gpt setenv * * rootfs-1 : p=1' 'call gpt setenv ** : p=2'
+  run 0
+  dev 0 gpt setenv mmc 0 rootfs-1
+  unset fdtaddr
+  var p=1
+  end 0
+  run 1
+  dev 1 gpt setenv mmc 0 rootfs-1
+  unset fdtaddr
+  unset p
+  end 1
+  done
+
+a later one
+  $ runs 'gpt setenv mmc 0 rootfs-2' 'call gpt setenv * * rootfs-1 : p=1' 'call gpt setenv ** : p=2'
+  run 0
+  dev 0 gpt setenv mmc 0 rootfs-2
+  unset fdtaddr
+  var p=2
+  end 0
+  run 1
+  dev 1 gpt setenv mmc 0 rootfs-2
+  unset fdtaddr
+  unset p
+  end 1
+  done
+
+any number of words, and no clause
+  $ runs 'load' 'call load ** :'
+  run 0
+  dev 0 load
+  unset fdtaddr
+  unset p
+  end 0
+  run 1
+  dev 1 load
+  unset fdtaddr
+  unset p
+  end 1
+  done
+
+commands of these names
+  $ for line in call call\ a=1 absent\ a=1; do runs true "$line"; done
+  run .
+  unset fdtaddr
+  unset p
+  end 0
+  done
+  run .
+  unset fdtaddr
+  unset p
+  end 0
+  done
+  run .
+  unset fdtaddr
+  unset p
+  end 0
+  done
+
+bad lines
+  $ for line in 'mmc dev' ': final' 'm* : final' 'mmc ** dev : final' 'mmc : always 2' 'mmc : final final' "mmc : a='b'"; do
+  >     runs true "call $line"
+  > done
+  ! ubtool: device list line 1: bad line
+  ! ubtool: device list line 1: bad line
+  ! ubtool: device list line 1: bad line
+  ! ubtool: device list line 1: bad line
+  ! ubtool: device list line 1: bad line
+  ! ubtool: device list line 1: bad line
+  ! ubtool: device list line 1: bad line
+  [1]
+  $ runs true 'absent p*'
+  ! ubtool: device list line 1: bad line
+  [1]
+
+built-in commands
+  $ runs true 'call echo ** : final'
+  ! ubtool: device list line 1: built-in command
+  [1]
+  $ runs true 'absent echo'
+  ! ubtool: device list line 1: built-in command
+  [1]
