@@ -42,10 +42,24 @@ left out beside the suites
   [1]
 
 a suite fails
-  $ stand_in tests/arm64 'exit 0'; stand_in tests/endings 'exit 1'
+  $ stand_in tests/arm64 'exit 0'; stand_in tests/hushcheck 'exit 1'
   $ gate --strict
   nothing was left out
   [1]
+
+a suite of those beside the others fails, and what comes after it is not run
+  $ stand_in tests/hushcheck 'exit 0'; stand_in tests/endings 'exit 1'; stand_in tests/compare_hush 'echo compared >after'
+  $ gate --strict
+  nothing was left out
+  [1]
+  $ [ ! -e after ]
+
+something is left out beside the suites
+  $ stand_in tests/endings 'echo "left out: a board"'
+  $ gate
+  left out:
+  tests/endings: a board
+  $ [ -e after ]
 
 an edit fails
   $ stand_in tests/endings 'exit 0'; stand_in tests/edits 'echo "1 passed, 1 failed"; exit 1'
