@@ -1,4 +1,4 @@
-# The causes among the runs of what listed.awk writes: each run is compared with all others. With check, only those that do not boot.
+# The causes among the runs of what listed.awk writes: each run is compared with all others.
 function within(v, w,   lines, count, i, left, at) {
     left = "\n" why[w]
     count = split(why[v], lines, "\n")
@@ -19,5 +19,5 @@ function needless(w,   v) {
 /^(end|cut|stop|booted) / { last[++runs] = $0; why[runs] = failed; count[runs] = failures }
 END {
     for (w = 1; w <= runs; w++)
-        if (!(check && last[w] ~ /^booted /) && !needless(w)) printf "cause %d %s\n%s", count[w], last[w], why[w]
+        if (!needless(w)) printf "cause %d %s\n%s", count[w], last[w], why[w]
 }
