@@ -6,8 +6,9 @@
 # line `refused NAME:STATE` after a change that was refused for want of memory, and is then made again. So, of each run:
 #   - without the lines of refusals it prints what it prints with ample memory;
 #   - a refused change leaves the state of the line before it, but for the name of the change.
-# In `script`, whichever growth is refused, the variables are those after the first lines of the script, never fewer
-# lines than at the growth before; and refused growths reach the last line.
+# In `script`, whichever growth is refused, the variables are those after the first lines of the script: never fewer
+# lines than at the growth before, or none, if a growth before or after the lines is refused. Refused growths reach the last
+# line.
 # In `long`, a script of 1,000 commands and then seven device commands, growth number 100,000 alone is refused. If every
 # run were run from its start, there would be so many; this one ends before, with each command begun once.
 . "$(dirname "$0")/../tests/lib"
@@ -59,7 +60,7 @@ changes() {
 # script: the script that stops at its line.
 script() {
     local lines=0 found place
-    printf 'refused: %s\n' 'a=1 b=2' 'a=1 b=2 c=3' 'b=2 c=3' 'b=2 c=3 d=4' 'b=5 c=3 d=4' 'b=5 c=3 d=4 e=6' >states
+    printf 'refused: %s g=8 h=9\n' 'a=1 b=2' 'a=1 b=2 c=3' 'b=2 c=3' 'b=2 c=3 d=4' 'b=5 c=3 d=4' 'b=5 c=3 d=4 e=6' >states
     for ((number = 1; ; number++)); do
         meets || break
         found=$(cat output)
@@ -67,16 +68,16 @@ script() {
         refused:*)
             place=$(grep -nxF "$found" states | cut -d: -f1)
             [ -n "$place" ] || fail "no state after some lines: $found"
-            [ "$place" -ge "$lines" ] || fail "fewer lines than before: $found"
-            lines=$place
+            [ "$place" -eq 1 ] || [ "$place" -ge "$lines" ] || fail "fewer lines than before: $found"
+            [ "$place" -lt "$lines" ] || lines=$place
             ;;
-        'no memory to begin with' | 'applied: b=5 c=3 d=4 e=6 f=7') ;;
+        'no memory to begin with' | 'applied: b=5 c=3 d=4 e=6 f=7 g=8 h=9') ;;
         *) fail "another output: $found" ;;
         esac
     done
-    [ "$(cat output)" = 'applied: b=5 c=3 d=4 e=6 f=7' ] || fail "without a refusal: $(cat output)"
+    [ "$(cat output)" = 'applied: b=5 c=3 d=4 e=6 f=7 g=8 h=9' ] || fail "without a refusal: $(cat output)"
     [ "$lines" -eq 6 ] || fail "no refusal in the last line, but behind $((lines - 1)) lines"
-    echo "$part: $((number - 1)) growths refused in turn: a script stops at its line, and the lines before it stay"
+    echo "$part: $((number - 1)) growths refused in turn: a script stops at its line, and the lines before it stay, or nothing changes"
 }
 
 # long: the script with a late growth refused.

@@ -1,45 +1,70 @@
 -- The variables that hold in a draft.
-use Rattle.std.proofs.Common.{◌≡◌, ◌≢◌, ◌<◌, ◌≤◌, ◌+◌, ℕ, zero, suc, eqb, get_or, length, take, drop, arith, Bool, true, false, cond, inl, inr, ◌⊎◌, List, [], ◌∷◌, ◌++◌, Option, None, Some, refl, sym, ap, subst, ◌∙◌, add-one}
+use Rattle.std.proofs.Common.{◌≡◌, ◌≢◌, ◌<◌, ◌≤◌, ◌+◌, ℕ, zero, suc, eqb, length, take, arith, Bool, true, false, cond, inl, inr, ◌⊎◌, List, [], ◌∷◌, ◌++◌, Option, None, Some, refl, sym, ap, ap₂, map, subst, ◌∙◌, add-one}
 use Rattle.std.specs.Prelude.{slice_get}
 use Rattle.std.proofs.lemmas.Bool.{false≢true, cases_Bool}
-use Rattle.std.proofs.lemmas.List.{append-nil, take_all}
-use Rattle.std.proofs.lemmas.Option.{slice_get_read}
+use Rattle.std.proofs.lemmas.List.{append-nil}
 use Rattle.std.specs.Option.{option_eq}
 use Rattle.std.proofs.lemmas.Bool.Decides.{nat_tests}
 use Rattle.std.specs.Cmp.Lexicographic.{bytes_decides, nat_list_eq_equiv}
 use Rattle.std.specs.List.{AllByRecursion}
-use Rattle.indexmap.specs.IndexMap.{insert_entry}
+use Rattle.std.specs.BTreeMap.{insert_entry}
+use Rattle.std.specs.Borrow.{Bor}
+use Rattle.std.specs.Map.{lookup}
+use Rattle.std.specs.Ordering.{is_eq, match_ordering, nat_cmp}
+use Rattle.std.specs.declared.cmp.Ordering.{Ordering}
+use Rattle.std.specs.declared.cmp.Ordering.TheVariants.{Less, Equal, Greater}
+use Rattle.std.specs.Cmp.Lexicographic.{slice_cmp}
+use Rattle.std.proofs.lemmas.Map.Text.{is_eq-slice_cmp}
+use Rattle.std.proofs.lemmas.List.{length-map, map-append}
+use Rattle.envimage.specs.Entries.{pair_at}
 use Rattle.envimage.specs.Data.{Pair, IsVariable}
-use Rattle.envtools.specs.Environment.{value_of, dropped, put, assigned, same, HasDistinctNames, IsEnvironment}
-use Rattle.envtools.specs.Drafting.{place_of, is_place, held, IsMoved, IsNamed, IsDraft}
-use Rattle.envtools.proofs.EnvLemmas.{Bytes, seen, seen-push, IsEnvironment-dropped, IsEnvironment-put}
+use Rattle.envtools.specs.Environment.{value_of, dropped, put, same, HasDistinctNames, IsEnvironment}
+use Rattle.envtools.specs.Drafting.{place_in, place_of, is_place, held, IsMoved, IsNamed, IsDraft}
+use Rattle.envtools.proofs.EnvLemmas.{IsEnvironment-dropped, IsEnvironment-put}
 use Rattle.envtools.proofs.EnvOf.{all-at, take-next}
 
+abbrev Slice : Type 0
+Slice = Bor (List ℕ)
+
+-- the map's test of a name
+pub found-same : (entries : List (Slice × Option ℕ)) (name : List ℕ)
+    → lookup (λ (key : Slice). is_eq (slice_cmp nat_cmp name key.now)) entries ≡ lookup (λ (key : Slice). same name key.now) entries
+found-same [] name = refl
+found-same (e ∷ es) name = ap₂ (λ b rest. cond b (Some e.1) rest) (is_eq-slice_cmp name e.0.now) (found-same es name)
+
 -- a name is given a place in the map
-pub place_of-insert : (entries : List (Bytes × Option ℕ)) (key : Bytes) (place : Option ℕ) (n : List ℕ)
-    → place_of (insert_entry (λ a b. same a.items b.items) entries key place) n ≡ cond (same n key.items) place (place_of entries n)
-place_of-insert [] key place n =
-    elim (cases_Bool (same n key.items)) [
-      | inl this ↦ rw this refl
-      | inr other ↦ rw other refl
-    ]
-place_of-insert (e ∷ es) key place n =
-    elim (cases_Bool (same key.items e.0.items)) [
-      | inl found ↦
-          let one : key.items ≡ e.0.items = (bytes_decides key.items e.0.items).0 found in
-          elim (cases_Bool (same n e.0.items)) [
-            | inl this ↦ rw (found, one, this) refl
-            | inr other ↦ rw (found, one, other) refl
-          ]
-      | inr apart ↦
-          elim (cases_Bool (same n e.0.items)) [
-            | inl this ↦
-                let two : same n key.items ≡ false =
-                ap (λ m. same m key.items) ((bytes_decides n e.0.items).0 this) ∙ (nat_list_eq_equiv.symm e.0.items key.items ∙ apart) in
-                rw (apart, this, two) refl
-            | inr other ↦ rw (apart, other) (place_of-insert es key place n)
-          ]
-    ]
+pub place_of-insert : (entries : List (Slice × Option ℕ)) (key : Slice) (place : Option ℕ) (n : List ℕ)
+    → place_of (insert_entry (λ a b. slice_cmp nat_cmp a.now b.now) entries key place) n ≡ cond (same n key.now) place (place_of entries n)
+place_of-insert [] key place n = by (same n key.now)
+  where
+    by : (b : Bool) → place_in (cond b (Some place) None) ≡ cond b place None
+    by true = refl
+    by false = refl
+place_of-insert (e ∷ es) key place n = at (place_of-insert es key place n) (slice_cmp nat_cmp key.now e.0.now) refl
+  where
+    before : (b : Bool) (rest : Option (Option ℕ)) → place_in (cond b (Some place) rest) ≡ cond b place (place_in rest)
+    before true rest = refl
+    before false rest = refl
+
+    at : place_of (insert_entry (λ a b. slice_cmp nat_cmp a.now b.now) es key place) n ≡ cond (same n key.now) place (place_of es n)
+        → (r : Ordering) → slice_cmp nat_cmp key.now e.0.now ≡ r
+        → place_of (match_ordering r ((key, place) ∷ e ∷ es) ((e.0, place) ∷ es) (e ∷ insert_entry (λ a b. slice_cmp nat_cmp a.now b.now) es key place)) n ≡ cond (same n key.now) place (place_of (e ∷ es) n)
+    at rest Less is = before (same n key.now) (lookup (λ (k : Slice). same n k.now) (e ∷ es))
+    at rest Equal is =
+        let one : key.now ≡ e.0.now = (bytes_decides key.now e.0.now).0 (sym (is_eq-slice_cmp key.now e.0.now) ∙ ap is_eq is) in
+        elim (cases_Bool (same n e.0.now)) [
+          | inl this ↦ rw (one, this) refl
+          | inr other ↦ rw (one, other) refl
+        ]
+    at rest Greater is =
+        let apart : same key.now e.0.now ≡ false = sym (is_eq-slice_cmp key.now e.0.now) ∙ ap is_eq is in
+        elim (cases_Bool (same n e.0.now)) [
+          | inl this ↦
+              let two : same n key.now ≡ false =
+              ap (λ m. same m key.now) ((bytes_decides n e.0.now).0 this) ∙ (nat_list_eq_equiv.symm e.0.now key.now ∙ apart) in
+              rw (this, two) refl
+          | inr other ↦ rw other rest
+        ]
 
 not-there : (m k : ℕ) → k < m → eqb m k ≡ false
 not-there m k below = grind (arith, nat_tests)
@@ -161,30 +186,26 @@ IsDraft-put f g log name value moved v d = record {
         subst (λ i. IsNamed n (slice_get (log ++ (name, value) ∷ []) i)) last (named-last n log (name, value) (nat_list_eq_equiv.symm n name ∙ this))
     by n at e (inr other) = named-push n log (name, value) at (d.placed n at (sym (kept-place f g name (Some (length log)) moved n other) ∙ e))
 
-length-seen : (items : List (Bytes × Bytes)) → length items ≡ length (seen items)
-length-seen [] = refl
-length-seen (e ∷ es) = ap suc (length-seen es)
-
-pub place-there : (f : List ℕ → Option ℕ) (items : List (Bytes × Bytes)) (name : List ℕ) (i : ℕ) → IsDraft f (seen items) → f name ≡ Some i → i < length items
+pub place-there : (f : List ℕ → Option ℕ) (items : List (Slice × Slice)) (name : List ℕ) (i : ℕ) → IsDraft f (map pair_at items) → f name ≡ Some i → i < length items
 place-there f items name i d placed =
-    let within = named-below name (seen items) i (d.placed name i placed) in
-    let len = length-seen items in
+    let within = named-below name (map pair_at items) i (d.placed name i placed) in
+    let len = length-map items pair_at in
     omega (arith, within, len)
 
 -- the same for what the fields hold
-module _ (f g : List ℕ → Option ℕ) (items new : List (Bytes × Bytes)) (key kept : Bytes) (name value : List ℕ) (last : ℕ)
-    (at : last ≡ length items) (pushed : new ≡ items ++ (key, kept) ∷ []) (named : key.items ≡ name) (valued : kept.items ≡ value) (moved : IsMoved f name (Some last) g) where
-  written : seen new ≡ seen items ++ (name, value) ∷ []
-  written = ap seen pushed ∙ (seen-push items key kept ∙ cc)
+module _ (f g : List ℕ → Option ℕ) (items new : List (Slice × Slice)) (name value : Slice) (last : ℕ)
+    (at : last ≡ length items) (pushed : new ≡ items ++ (name, value) ∷ []) (moved : IsMoved f name.now (Some last) g) where
+  written : map pair_at new ≡ map pair_at items ++ (name.now, value.now) ∷ []
+  written = ap (map pair_at) pushed ∙ map-append pair_at items ((name, value) ∷ [])
 
-  placed-last : IsMoved f name (Some (length (seen items))) g
-  placed-last = subst (λ n. IsMoved f name (Some n) g) (at ∙ length-seen items) moved
+  placed-last : IsMoved f name.now (Some (length (map pair_at items))) g
+  placed-last = subst (λ n. IsMoved f name.now (Some n) g) (at ∙ sym (length-map items pair_at)) moved
 
-  pub put-written : held g 0 (seen new) ≡ put (held f 0 (seen items)) name value
-  put-written = ap (held g 0) written ∙ held-put f g (seen items) name value placed-last
+  pub put-written : held g 0 (map pair_at new) ≡ put (held f 0 (map pair_at items)) name.now value.now
+  put-written = ap (held g 0) written ∙ held-put f g (map pair_at items) name.now value.now placed-last
 
-  pub IsDraft-written : IsVariable (name, value) → IsDraft f (seen items) → IsDraft g (seen new)
-  IsDraft-written v d = subst (λ log. IsDraft g log) (sym written) (IsDraft-put f g (seen items) name value placed-last v d)
+  pub IsDraft-written : IsVariable (name.now, value.now) → IsDraft f (map pair_at items) → IsDraft g (map pair_at new)
+  IsDraft-written v d = subst (λ log. IsDraft g log) (sym written) (IsDraft-put f g (map pair_at items) name.now value.now placed-last v d)
 
 -- ---- the value of a name
 
@@ -237,18 +258,6 @@ put-suc (q ∷ qs) (suc at) p d e =
 pub put-next : (ps : List Pair) (at : ℕ) (p : Pair) → HasDistinctNames ps → slice_get ps at ≡ Some p → put (take at ps) p.0 p.1 ≡ take (at + 1) ps
 put-next ps at p d e = rw add-one (put-suc ps at p d e)
 
--- a written variable, as the entries of the map show it
-pub seen-at : (items : List (Bytes × Bytes)) (at : ℕ) (e : Bytes × Bytes) → slice_get items at ≡ Some e → slice_get (seen items) at ≡ Some (e.0.items, e.1.items)
-seen-at [] at e found = cc
-seen-at (x ∷ xs) zero e found = let one : x ≡ e = cc in ap (λ y. Some (y.0.items, y.1.items)) one
-seen-at (x ∷ xs) (suc at) e found = seen-at xs at e found
-
-pub seen-read : (items : List (Bytes × Bytes)) (at : ℕ) (e : Bytes × Bytes) → at < length items → e ≡ get_or items at e → slice_get (seen items) at ≡ Some (e.0.items, e.1.items)
-seen-read items at e within is = seen-at items at e (slice_get_read items (length items) at e refl within is)
-
-pub take-seen : (items : List (Bytes × Bytes)) (at : ℕ) → length items ≤ at → take at (seen items) ≡ seen items
-take-seen items at past = let len = length-seen items in take_all at (seen items) (omega (arith, len))
-
 -- the test of a place
 pub place-found : (o : Option ℕ) (at : ℕ) → option_eq eqb o (Some at) ≡ true → o ≡ Some at
 place-found None at e = absurd (false≢true e)
@@ -260,40 +269,7 @@ place-other o at e one = false≢true (sym e ∙ (ap (λ p. option_eq eqb p (Som
 pub IsVariable-at : (ps : List Pair) (at : ℕ) (p : Pair) → AllByRecursion IsVariable ps → slice_get ps at ≡ Some p → IsVariable p
 IsVariable-at ps at p all e = all-at IsVariable ps at p all e
 
--- ---- the environment of a draft
-
-held-each : (P : Pair → Type 0) (f : List ℕ → Option ℕ) (at k : ℕ) (ps : List Pair) (p : Pair) → AllByRecursion P (held f at ps) → slice_get ps k ≡ Some p → is_place (f p.0) (at + k) ≡ true → P p
-held-each P f at k [] p all e here = cc
-held-each P f at zero (q ∷ qs) p all e here =
-    let one : p ≡ q = cc in
-    let is : is_place (f q.0) at ≡ true = ap (λ r. is_place (f r.0) at) (sym one) ∙ (ap (is_place (f p.0)) (omega arith) ∙ here) in
-    let First : Bool → Type 0 = λ b. AllByRecursion P (cond b (q ∷ held f (suc at) qs) (held f (suc at) qs)) in
-    subst P (sym one) (subst First is all).0
-held-each P f at (suc k) (q ∷ qs) p all e here =
-    let next : is_place (f p.0) (suc at + k) ≡ true = ap (is_place (f p.0)) (omega arith) ∙ here in
-    by (is_place (f q.0) at) all (λ rest. held-each P f (suc at) k qs p rest e next)
-  where
-    by : (b : Bool) → AllByRecursion P (cond b (q ∷ held f (suc at) qs) (held f (suc at) qs)) → (AllByRecursion P (held f (suc at) qs) → P p) → P p
-    by true h more = more h.1
-    by false h more = more h
-
-pub IsVariable-held : (f : List ℕ → Option ℕ) (log : List Pair) (at : ℕ) (p : Pair) → IsDraft f log → slice_get log at ≡ Some p → f p.0 ≡ Some at → IsVariable p
-IsVariable-held f log at p d found holds =
-    let here : 0 + at ≡ at = omega arith in
-    held-each IsVariable f 0 at log p d.sound.each found (ap (λ o. is_place o (0 + at)) holds ∙ (ap (λ k. eqb at k) here ∙ there at))
-
-held-absent : (f : List ℕ → Option ℕ) (name : List ℕ) (i : ℕ) → f name ≡ Some i → (at : ℕ) (ps : List Pair) → at + length ps ≤ i → AllByRecursion (λ q. same name q.0 ≡ false) (held f at ps)
-held-absent f name i placed at [] within = tt
-held-absent f name i placed at (p ∷ ps) within =
-    let rest = held-absent f name i placed (suc at) ps (omega arith) in
-    elim (cases_Bool (is_place (f p.0) at)) [
-      | inl held ↦ rw held (apart-from f name p.0 i at placed (not-there i at (omega arith)) held, rest)
-      | inr stale ↦ rw stale rest
-    ]
-
-assigned-absent : (ps : List Pair) (name value : List ℕ) → AllByRecursion (λ q. same name q.0 ≡ false) ps → assigned ps name value ≡ ps ++ (name, value) ∷ []
-assigned-absent [] name value all = refl
-assigned-absent (p ∷ ps) name value all = rw all.0 (ap (λ t. p ∷ t) (assigned-absent ps name value all.1))
+-- ---- the variables that hold
 
 length-front : (at : ℕ) (log : List Pair) (p : Pair) → slice_get log at ≡ Some p → length (take at log) ≡ at
 length-front at [] p e = cc
@@ -318,33 +294,8 @@ held-stale f log at p e stale =
           | inr other ↦ other
         ]
 
--- a variable that holds is new to those before it
-pub held-next : (f : List ℕ → Option ℕ) (log : List Pair) (at : ℕ) (p : Pair) → slice_get log at ≡ Some p → f p.0 ≡ Some at → assigned (held f 0 (take at log)) p.0 p.1 ≡ held f 0 (take (at + 1) log)
+-- a variable that holds goes last
+pub held-next : (f : List ℕ → Option ℕ) (log : List Pair) (at : ℕ) (p : Pair) → slice_get log at ≡ Some p → f p.0 ≡ Some at → held f 0 (take at log) ++ p ∷ [] ≡ held f 0 (take (at + 1) log)
 held-next f log at p e holds =
     let here : is_place (f p.0) at ≡ true = ap (λ o. is_place o at) holds ∙ there at in
-    let front = held-front f log at p e in
-    let n = length-front at log p e in
-    assigned-absent (held f 0 (take at log)) p.0 p.1 (held-absent f p.0 at holds 0 (take at log) (omega arith))
-    ∙ sym (front ∙ ap (λ b. held f 0 (take at log) ++ cond b (p ∷ []) []) here)
-
--- ---- the variables that are left
-
-pub drop-first : {X : Type 0} (xs : List X) (n : ℕ) (x : X) (left : List X) → drop n xs ≡ x ∷ left → slice_get xs n ≡ Some x
-drop-first [] zero x left e = cc
-drop-first [] (suc n) x left e = cc
-drop-first (y ∷ ys) zero x left e = let one : y ≡ x = cc in ap Some one
-drop-first (y ∷ ys) (suc n) x left e = drop-first ys n x left e
-
-drop-suc : {X : Type 0} (xs : List X) (n : ℕ) (x : X) (left : List X) → drop n xs ≡ x ∷ left → drop (suc n) xs ≡ left
-drop-suc [] zero x left e = cc
-drop-suc [] (suc n) x left e = cc
-drop-suc (y ∷ ys) zero x left e = cc
-drop-suc (y ∷ ys) (suc n) x left e = drop-suc ys n x left e
-
-pub drop-rest : {X : Type 0} (xs : List X) (n : ℕ) (x : X) (left : List X) → drop n xs ≡ x ∷ left → drop (n + 1) xs ≡ left
-drop-rest xs n x left e = ap (λ k. drop k xs) (add-one n) ∙ drop-suc xs n x left e
-
-pub drop-end : {X : Type 0} (xs : List X) (n : ℕ) → length (drop n xs) ≡ 0 → length xs ≤ n
-drop-end [] n e = omega arith
-drop-end (y ∷ ys) zero e = absurd (omega (arith, e))
-drop-end (y ∷ ys) (suc n) e = let less = drop-end ys n e in omega (arith, less)
+    sym (held-front f log at p e ∙ ap (λ b. held f 0 (take at log) ++ cond b (p ∷ []) []) here)

@@ -1,5 +1,5 @@
 -- Worked examples of names that ascend, computed.
-use Rattle.std.proofs.Common.{◌≡◌, [], ◌∷◌, refl}
+use Rattle.std.proofs.Common.{[], ◌∷◌, refl}
 use Rattle.std.specs.Prelude.{codes}
 use Rattle.envtools.specs.Listed.{Ascend}
 

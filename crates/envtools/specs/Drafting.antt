@@ -1,8 +1,8 @@
--- A draft of an environment. Variables are written one after another, and the index says for each name at which place
+-- A draft of a list of variables. Variables are written one after another, and the index says for each name at which place
 -- the variable is that holds, if there is one. Ours.
-use Rattle.std.specs.Prelude.{◌≡◌, ℕ, suc, Bool, false, true, ◌==◌, List, [], ◌∷◌, Option, None, Some, if◌then◌else◌, slice_get, Vec}
+use Rattle.std.specs.Prelude.{◌≡◌, ℕ, suc, Bool, false, true, ◌==◌, List, [], ◌∷◌, Option, None, Some, if◌then◌else◌, slice_get}
 use Rattle.std.specs.Map.{lookup}
-use Rattle.std.specs.declared.alloc.Global.{Global}
+use Rattle.std.specs.Borrow.{Bor}
 use Rattle.envimage.specs.Data.{Pair}
 use Rattle.envtools.specs.Environment.{same, IsEnvironment}
 
@@ -12,8 +12,8 @@ place_in None = None
 place_in (Some place) = place
 
 -- the place of a name
-abbrev pub place_of : List (Vec ℕ Global × Option ℕ) → List ℕ → Option ℕ
-place_of places name = place_in (lookup (λ key. same name key.items) places)
+abbrev pub place_of : List (Bor (List ℕ) × Option ℕ) → List ℕ → Option ℕ
+place_of places name = place_in (lookup (λ key. same name key.now) places)
 
 abbrev pub is_place : Option ℕ → ℕ → Bool
 is_place None at = false

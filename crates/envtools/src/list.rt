@@ -1,5 +1,6 @@
 //! The variables of an image's data as a list of slices: for one change, and for printing all.
-ghost use Rattle.std.specs.Prelude.{◌≡◌, ◌↔◌, None, IfOk, OnOk, OnErr, IsTrue, true, List, ℕ, map};
+ghost use Rattle.std.specs.Prelude.{◌≡◌, ◌↔◌, None, IfOk, OnOk, OnErr, IsTrue, true, List, ℕ, length, map, slice_get};
+ghost use Rattle.std.specs.Option.{option_map};
 ghost use Rattle.envimage.specs.Data.{data_fault, pairs_of};
 ghost use Rattle.envimage.specs.Entries.{pair_at};
 ghost use Rattle.envtools.specs.Environment.{HasDistinctNames, IsEnvironment, env_of, dropped, put, has_value, changed_to, is_name, is_value};
@@ -80,6 +81,38 @@ impl<'a> VariableList<'a> {
             listed(alloc, &EnvView::over(alloc, body)?)?
         };
         Ok(VariableList { pairs })
+    }
+
+    /// The list of these variables.
+    pub(crate) fn with_pairs(pairs: Vec<(&'a [u8], &'a [u8])>) -> Self
+        requires { IsEnvironment (map pair_at pairs.items) }
+        ensures { result ≡ map pair_at pairs.entry.items }
+    {
+        VariableList { pairs }
+    }
+
+    /// Takes these variables in place of its own.
+    pub(crate) fn replace(&mut self, pairs: Vec<(&'a [u8], &'a [u8])>)
+        requires { IsEnvironment (map pair_at pairs.items) }
+        ensures { self.new ≡ map pair_at pairs.entry.items }
+    {
+        self.pairs = pairs;
+    }
+
+    /// How many variables there are.
+    pub(crate) fn len(&self) -> usize
+        ensures len { result ≡ length self.now }
+        ensures valid { IsEnvironment self.now }
+    {
+        self.pairs.len()
+    }
+
+    /// The variable at a place.
+    pub(crate) fn pair(&self, at: usize) -> Option<(&'a [u8], &'a [u8])>
+        ensures { option_map (λ p. (p.0.now, p.1.now)) result ≡ slice_get self.now at }
+    {
+        let pair = self.pairs.get(at)?;
+        Some(*pair)
     }
 
     /// All variables in order, each a name and a value.

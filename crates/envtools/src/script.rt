@@ -1,5 +1,5 @@
 //! A script of changes, applied line by line.
-ghost use Rattle.std.specs.Prelude.{◌≡◌};
+ghost use Rattle.std.specs.Prelude.{◌≡◌, IfOk};
 ghost use Rattle.std.specs.List.{position};
 ghost use Rattle.std.specs.Option.{option_map};
 ghost use Rattle.text.specs.Words.{is_space, cut_front, cut_behind};
@@ -7,7 +7,8 @@ ghost use Rattle.envtools.specs.Scripting.{is_return, ends_name, name_and_value,
 
 use crate::draft::Draft;
 use crate::env::{Env, is_name, is_value};
-use std::alloc::AllocError;
+use crate::list::VariableList;
+use std::alloc::{AllocError, Global};
 use text::{Lines, cut_behind, cut_front, is_space};
 use thiserror::Error;
 
@@ -92,7 +93,7 @@ fn line_change(line: &[u8]) -> Option<(&[u8], &[u8])>
 }
 
 /// Makes the change of one line. An error changes nothing.
-fn apply_line(draft: &mut Draft, number: usize, line: &[u8]) -> Result<(), ScriptError>
+fn apply_line<'a>(draft: &mut Draft<'a>, number: usize, line: &'a [u8]) -> Result<(), ScriptError>
     ensures { AppliesLine draft.old number (line_change line.now) draft.new result }
 {
     let Some((name, value)) = line_change(line) else {
@@ -109,13 +110,39 @@ fn apply_line(draft: &mut Draft, number: usize, line: &[u8]) -> Result<(), Scrip
 }
 
 /// Makes the changes of a script's lines, up to the first refused one.
-fn apply_lines(draft: &mut Draft, text: &[u8]) -> Result<(), ScriptError>
+fn apply_lines<'a>(draft: &mut Draft<'a>, text: &'a [u8]) -> Result<(), ScriptError>
     ensures { AppliesScript draft.old text.now draft.new result }
 {
     for (number, line) in Lines::new(text) {
         apply_line(draft, number, line)?;
     }
     Ok(())
+}
+
+/// Makes the changes of a script in a list of variables, as `apply_script` makes them in an
+/// environment. No name and no value is copied.
+#[tactic(auto, using(crate::proofs::ScriptLemmas::untouched))]
+pub fn apply_script_to_list<'a>(
+    alloc: Global,
+    list: &mut VariableList<'a>,
+    text: &'a [u8],
+) -> Result<(), ScriptError>
+    ensures { AppliesScript list.old text.now list.new result }
+{
+    let mut draft = Draft::of(alloc, list)?;
+    let applied = apply_lines(&mut draft, text);
+    list.replace(draft.pairs(alloc)?);
+    applied
+}
+
+/// The environment that a script reaches from this one, with the fault of the line that is refused. Errors: memory ran out.
+fn reached(env: &Env, text: &[u8]) -> Result<(Env, Result<(), ScriptError>), AllocError>
+    ensures { IfOk result (λ r. AppliesScript env.now text.now r.0 r.1) }
+{
+    let alloc = env.allocator();
+    let mut list = VariableList::with_pairs(env.pairs()?);
+    let applied = apply_script_to_list(alloc, &mut list, text);
+    Ok((Env::of_list(alloc, &list)?, applied))
 }
 
 /// Makes the changes of a script, one on each line. Carriage returns at the end of a line are
@@ -125,14 +152,13 @@ fn apply_lines(draft: &mut Draft, text: &[u8]) -> Result<(), ScriptError>
 /// line acts on what earlier lines left.
 ///
 /// If a line is refused, the environment is the one after the lines before it, also if the line was
-/// refused because memory ran out. The time grows with the script and the environment, not with
-/// their product.
+/// refused because memory ran out. If memory runs out before the lines or after them, nothing
+/// changes. The time grows with the script and the environment, not with their product.
 #[tactic(auto, using(crate::proofs::ScriptLemmas::untouched))]
 pub fn apply_script(env: &mut Env, text: &[u8]) -> Result<(), ScriptError>
     ensures { AppliesScript env.old text.now env.new result }
 {
-    let mut draft = Draft::of(env)?;
-    let applied = apply_lines(&mut draft, text);
-    *env = draft.into_env();
+    let (changed, applied) = reached(env, text)?;
+    *env = changed;
     applied
 }

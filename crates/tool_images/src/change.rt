@@ -11,7 +11,7 @@ ghost use Rattle.tool_images.specs.ChangingImages.{set_of, one_edited, all_edite
 
 use crate::error::ToolError;
 use envimage::{ByteOrder, Loaded, Which, load};
-use envtools::{Env, VariableList, apply_script, new_value, save, save_list};
+use envtools::{VariableList, apply_script_to_list, new_value, save_list};
 use std::alloc::Global;
 
 /// A change of an environment.
@@ -49,7 +49,7 @@ fn set_one(
     Ok(save_list(alloc, &list, loaded)?)
 }
 
-/// Makes the changes of a script in a loaded image.
+/// Makes the changes of a script in a loaded image. No variable is copied before it is written.
 fn set_all(alloc: Global, loaded: &Loaded<'_>, script: &[u8]) -> Result<(Which, Vec<u8>), ToolError>
     requires size { is_image_size loaded.now.flag (size_of (loaded_shown loaded.now)) ≡ true }
     requires faultless { data_fault loaded.now.body.now ≡ None }
@@ -57,9 +57,9 @@ fn set_all(alloc: Global, loaded: &Loaded<'_>, script: &[u8]) -> Result<(Which, 
         (then_written (loaded_shown loaded.now)
         (all_edited (scripted (env_of (pairs_of loaded.now.body.now)) script.now))) result }
 {
-    let mut env = Env::from_checked(alloc, loaded.body)?;
-    apply_script(&mut env, script)?;
-    Ok(save(alloc, &env, loaded)?)
+    let mut list = VariableList::from_checked(alloc, loaded.body)?;
+    apply_script_to_list(alloc, &mut list, script)?;
+    Ok(save_list(alloc, &list, loaded)?)
 }
 
 /// Changes the environment of an image, or of a redundant pair. Returns which copy is to be

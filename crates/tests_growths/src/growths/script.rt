@@ -1,4 +1,4 @@
-//! Applies a script of six lines to an environment of two variables, and prints whether memory was refused and the
+//! Applies a script of six lines to an environment of four variables, and prints whether memory was refused and the
 //! variables that are left.
 
 use crate::growths::bytes::print_pair;
@@ -7,13 +7,15 @@ use envtools::{Env, EnvError, ScriptError, apply_script};
 use std::alloc::Global;
 use std::io;
 
-const NAMES: [&[u8]; 6] = [b"a", b"b", b"c", b"d", b"e", b"f"];
+const NAMES: [&[u8]; 8] = [b"a", b"b", b"c", b"d", b"e", b"f", b"g", b"h"];
 
-/// Two variables.
+/// Four variables.
 fn begin(alloc: Global) -> Result<Env, EnvError> {
     let mut env = Env::new(alloc);
     env.set(b"a", b"1")?;
     env.set(b"b", b"2")?;
+    env.set(b"g", b"8")?;
+    env.set(b"h", b"9")?;
     Ok(env)
 }
 

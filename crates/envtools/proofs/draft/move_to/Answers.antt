@@ -1,5 +1,4 @@
-use Rattle.std.proofs.Common.{ap, ◌∙◌, cond}
-use Rattle.envtools.specs.Environment.{same}
+use Rattle.std.proofs.Common.{ap, ◌∙◌}
 use Rattle.envtools.specs.Drafting.{place_of}
 use Rattle.envtools.proofs.DraftLemmas.{place_of-insert}
 use Rattle.envtools.proofs.draft.move_to.Goals as goal
@@ -7,5 +6,4 @@ use Rattle.envtools.proofs.draft.move_to.Goals as goal
 pub returns-clause-ok : goal.returns-clause-ok
 returns-clause-ok c = λ other.
     ap (λ es. place_of es other) c.in_ok-insert.ensures.entries
-    ∙ (place_of-insert c.args.places.now.entries c.in_ok-key.key c.args.place other
-    ∙ ap (λ n. cond (same other n) c.args.place (place_of c.args.places.now.entries other)) c.in_ok-key.ensures.items)
+    ∙ place_of-insert c.args.places.now.entries c.args.name c.args.place other

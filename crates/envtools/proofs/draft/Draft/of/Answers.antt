@@ -9,15 +9,15 @@ use Rattle.envtools.proofs.draft.Draft.of.Goals as goal
 pub put-requires : goal.put-requires
 put-requires c =
     let p : Pair = (c.unwrap.result.0.now, c.unwrap.result.1.now) in
-    let there : slice_get c.args.env.now c.loop-at.at ≡ Some p =
+    let there : slice_get c.args.list.now c.loop-at.at ≡ Some p =
     sym c.pair.ensures ∙ ap (option_map (λ p. (p.0.now, p.1.now))) c.unwrap.ensures in
-    IsVariable-at c.args.env.now c.loop-at.at p c.allocator.ensures.each there
+    IsVariable-at c.args.list.now c.loop-at.at p c.len-at-end.ensures.valid.each there
 
 pub loop-at-preserved : goal.loop-at-preserved
 loop-at-preserved c =
     let p : Pair = (c.unwrap.result.0.now, c.unwrap.result.1.now) in
-    let there : slice_get c.args.env.now c.loop-at.at ≡ Some p =
+    let there : slice_get c.args.list.now c.loop-at.at ≡ Some p =
     sym c.pair.ensures ∙ ap (option_map (λ p. (p.0.now, p.1.now))) c.unwrap.ensures in
     c.in_ok-put.ensures.ok
     ∙ (ap (λ ps. put ps p.0 p.1) c.loop-at.invariant
-    ∙ put-next c.args.env.now c.loop-at.at p c.allocator.ensures.distinct there)
+    ∙ put-next c.args.list.now c.loop-at.at p c.len-at-end.ensures.valid.distinct there)
