@@ -2,14 +2,13 @@
 use Rattle.std.proofs.Common.{◌≡◌, ◌≢◌, ◌∙◌, ◌⊎◌, inl, inr, refl, sym, ap, ap₂, subst, true, List, [], Option, Some, None, option_map, unwrap_or, Global}
 use Rattle.std.specs.Prelude.{Box, Result, Ok, Err, option_and_then}
 use Rattle.std.specs.Box.{box_value}
-use Rattle.clap.specs.Words.{App, HasKind, HasMatchesOf, IsAmong, Row, Text, fault_of, is_simple, is_simple_and_free, kind_of, subcommand_name_of, subcommand_of, subcommand_rows, subcommand_rows_of}
+use Rattle.clap.specs.Words.{App, HasKind, HasMatchesOf, IsAmong, Row, Text, fault_of, is_simple_and_free, kind_of, subcommand_name_of, subcommand_rows, subcommand_rows_of}
 use Rattle.clap.specs.declared.error.Error.{Error}
 use Rattle.clap.specs.declared.parser.matches.ArgMatches.{ArgMatches}
 use Rattle.clap.specs.declared.parser.matches.SubCommand.{SubCommand}
 use Rattle.clap.specs.declared.parser.matches.ArgMatches.TheViews.{out-ArgMatches, out-SubCommand}
 use Rattle.clap.specs.declared.error.kind.ErrorKind.{ErrorKind}
 use Rattle.clap.specs.declared.error.kind.ErrorKind.TheVariants.{DisplayHelp, DisplayVersion, OutOfMemory}
-use Rattle.clap.proofs.OnLiterals.{clap_on_literals}
 use Rattle.tool_words.specs.declared.ask.Ask.{Ask}
 use Rattle.tool_words.specs.declared.ask.Ask.TheVariants as ask
 use Rattle.tool_words.specs.declared.answer.Answer.{Answer}
@@ -21,14 +20,7 @@ use Rattle.tool_words.specs.Asked.{Asked, asked_of, lock_of}
 use Rattle.tool_words.specs.CommandAnswers.{Answers, NamesLock, Says, asked}
 use Rattle.tool_words.specs.Answered.{AnswersBy, IsAccepted, Refuses, Reports}
 use Rattle.tool_words.specs.CommandLine.{ubtool}
-
-pub ubtool_simple : is_simple ubtool ≡ true
-unfolding clap_on_literals ubtool
-ubtool_simple = refl
-
-pub ubtool_free : is_simple_and_free ubtool ≡ true
-unfolding clap_on_literals ubtool
-ubtool_free = refl
+use Rattle.tool_words.proofs.OneSubcommand.{AnswersAs}
 
 -- if the words are accepted
 pub accepted_answer : (called : CalledAs) (words : List Text) (a : Option Asked) (r : Result Ask UseError) → IsAccepted ubtool words → a ≡ asked called words → Says a r → Answers called words r
@@ -54,18 +46,18 @@ accepted_answer called words a (Err (Line text)) fine is says = inr (fine, says 
 accepted_answer called words a (Err Memory) fine is says = tt
 
 -- if they are not
-pub refused_answer : (called : CalledAs) (words : List Text) (e : UseError) → Refuses ubtool words e → Answers called words (Err e)
-refused_answer called words (Line text) is = inl is
-refused_answer called words Memory is = tt
-refused_answer called words LockNeedsFolder is = absurd is
-refused_answer called words NeedName is = absurd is
-refused_answer called words ScriptAndName is = absurd is
-refused_answer called words HeaderNeedsOne is = absurd is
-refused_answer called words (Misnamed error) is = absurd is
-refused_answer called words BadSize is = absurd is
-refused_answer called words BadFill is = absurd is
-refused_answer called words WordAlone is = absurd is
-refused_answer called words TooManyDevices is = absurd is
+pub refused_answer : (called : CalledAs) (app : App) (words : List Text) (e : UseError) → AnswersAs app words → Refuses app words e → Answers called words (Err e)
+refused_answer called app words (Line text) alike is = inl (is.0, subst (IsAmong is.0) alike.faults is.1, is.2, is.3)
+refused_answer called app words Memory alike is = tt
+refused_answer called app words LockNeedsFolder alike is = absurd is
+refused_answer called app words NeedName alike is = absurd is
+refused_answer called app words ScriptAndName alike is = absurd is
+refused_answer called app words HeaderNeedsOne alike is = absurd is
+refused_answer called app words (Misnamed error) alike is = absurd is
+refused_answer called app words BadSize alike is = absurd is
+refused_answer called app words BadFill alike is = absurd is
+refused_answer called app words WordAlone alike is = absurd is
+refused_answer called app words TooManyDevices alike is = absurd is
 
 -- an error of `clap`, for any program
 pub reported : {T : Type 0} (app : App) (words : List Text) (Means : T → Type 0) (k : ErrorKind) (r : Result (Answer T) UseError) → (k ≡ OutOfMemory) ⊎ IsAmong k (fault_of app words) → Reports k r → AnswersBy app words Means r
@@ -108,23 +100,22 @@ subcommand_met m name rows = go (out-ArgMatches m).subcommand
     go (Some b) n r = ap₂ (λ x y. Some (x, y)) (sym (ap (λ o. unwrap_or o name) n)) (sym (ap (λ o. unwrap_or o rows) r))
 
 -- a parse that succeeds
-pub parsed_answer : (called : CalledAs) (app : App) (words : List Text) (m : ArgMatches) (r : Result Ask UseError) → app ≡ ubtool → IsAccepted app words → HasMatchesOf app words m
+pub parsed_answer : (called : CalledAs) (app : App) (words : List Text) (m : ArgMatches) (r : Result Ask UseError) → AnswersAs app words → IsAccepted app words → HasMatchesOf app words m
     → Says (option_and_then (λ s. asked_of called s.0 s.1) (subcommand_rows_of m)) r → Answers called words r
-parsed_answer called app words m r is fine matches says =
-    let found = (matches (ap is_simple is ∙ ubtool_simple)).1 ∙ ap (λ (a : App). subcommand_of a words) is in
-    accepted_answer called words _ r (subst (λ (a : App). IsAccepted a words) is fine) (ap (option_and_then (λ s. asked_of called s.0 s.1)) found) says
+parsed_answer called app words m r alike fine matches says =
+    let found = (matches alike.simple).1 ∙ alike.enters in
+    accepted_answer called words _ r (sym alike.faults ∙ fine) (ap (option_and_then (λ s. asked_of called s.0 s.1)) found) says
 
 -- the lock, if a parse succeeds
-pub parsed_lock : (app : App) (words : List Text) (m : ArgMatches) (folder : Option Text) → app ≡ ubtool → HasMatchesOf app words m
+pub parsed_lock : (app : App) (words : List Text) (m : ArgMatches) (folder : Option Text) → AnswersAs app words → HasMatchesOf app words m
     → (is_simple_and_free app ≡ true → fault_of app words ≡ []) → folder ≡ option_and_then (λ s. lock_of s.1) (subcommand_rows_of m) → NamesLock words folder
-parsed_lock app words m folder is matches kinds names =
-    let fine : IsAccepted ubtool words = ap (λ (a : App). fault_of a words) (sym is) ∙ kinds (ap is_simple_and_free is ∙ ubtool_free) in
-    let found = (matches (ap is_simple is ∙ ubtool_simple)).1 ∙ ap (λ (a : App). subcommand_of a words) is in
-    inl (fine, names ∙ ap (option_and_then (λ s. lock_of s.1)) found)
+parsed_lock app words m folder alike matches kinds names =
+    let found = (matches alike.simple).1 ∙ alike.enters in
+    inl (sym alike.faults ∙ kinds alike.free, names ∙ ap (option_and_then (λ s. lock_of s.1)) found)
 
 -- the lock, if a parse fails
-pub failed_lock : (app : App) (words : List Text) (e : Error) → app ≡ ubtool → (is_simple_and_free app ≡ true → HasKind (fault_of app words) e)
+pub failed_lock : (app : App) (words : List Text) (e : Error) → AnswersAs app words → (is_simple_and_free app ≡ true → HasKind (fault_of app words) e)
     → (kind_of e ≢ OutOfMemory) → NamesLock words None
-failed_lock app words e is kinds other =
-    let has : HasKind (fault_of ubtool words) e = subst (λ (a : App). HasKind (fault_of a words) e) is (kinds (ap is_simple_and_free is ∙ ubtool_free)) in
+failed_lock app words e alike kinds other =
+    let has : HasKind (fault_of ubtool words) e = subst (λ ks. HasKind ks e) alike.faults (kinds alike.free) in
     elim has [ inl memory ↦ absurd (other memory) | inr one ↦ inr ((kind_of e, one), refl) ]

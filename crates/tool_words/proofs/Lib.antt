@@ -1,6 +1,7 @@
 pub mod ArgumentLemmas
 pub mod MadeLemmas
 pub mod EntryLemmas
+pub mod OneSubcommand
 pub mod AnswerLemmas
 pub mod CommandLineExamples
 mod TextExamples

@@ -1,7 +1,9 @@
 -- The command line that `clap` is given: seven subcommands with their options and names. It is ours, but `-c`, `-l`,
 -- `-n` and `-s` and their long forms are those of fw_printenv and fw_setenv (U-Boot, tools/env README), and
 -- `--no-header` is libubootenv's.
-use Rattle.std.specs.Prelude.{ℕ, [], ◌∷◌, true, codes}
+use Rattle.std.specs.Prelude.{ℕ, List, [], ◌∷◌, Option, None, true, codes, find}
+use Rattle.std.specs.Option.{option_map_or}
+use Rattle.std.specs.Str.{bytes_eq}
 use Rattle.clap.specs.Words.{App, Rule, Shape, Text, new_app}
 use Rattle.clap.specs.Simple.{on_top}
 use Rattle.tool_words.specs.Arguments.{command, lettered_flag, lettered_option, long_option, many, number_option, one, with_subcommands}
@@ -186,5 +188,26 @@ base = on_top (λ (s : Shape). record s {
   propagate_version = true;
 }) (new_app (codes "ubtool"))
 
+-- the subcommands, in the order of the help
+abbrev pub subcommands : List App
+subcommands = printenv ∷ setenv ∷ rehearse ∷ endings ∷ causes ∷ making ∷ inspect ∷ []
+
 unfoldable pub ubtool : App
-ubtool = with_subcommands base (printenv ∷ setenv ∷ rehearse ∷ endings ∷ causes ∷ making ∷ inspect ∷ [])
+ubtool = with_subcommands base subcommands
+
+-- the subcommand of this name
+abbrev pub named : Text → Option App
+named word = find (λ (sub : App). bytes_eq sub.top.name word) subcommands
+
+-- the subcommand that the first of the words names
+abbrev pub first_named : List Text → Option App
+first_named [] = None
+first_named (word ∷ words) = named word
+
+-- the program with one subcommand alone
+abbrev pub with_one : App → App
+with_one sub = with_subcommands base (sub ∷ [])
+
+-- what is described to `clap` for these words: the subcommand that the first of them names, if it names one, or all
+unfoldable pub ubtool_for : List Text → App
+ubtool_for words = option_map_or with_one (first_named words) ubtool

@@ -26,7 +26,6 @@ pub use ask::{
     EndingsAsk, ImageAsk, Inputs, Origin, OriginError, PrintAsk, RehearseAsk, UseError,
 };
 pub use called::{CalledAs, called_as, words_called};
-pub use command::ubtool;
 pub use origin::{images_of, origin_beside, origin_of};
 pub use read::{config_of, is_set, order_of, read_command, read_lock, text_of, texts_of};
 pub use shared::{BIG_ENDIAN, CONFIG, DEVICE_LIST, IMAGE, NAMES, SCRIPT_FILE, SECOND, TEXT};

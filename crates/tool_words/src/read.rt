@@ -16,10 +16,11 @@ use crate::ask::{
     EndingsAsk, ImageAsk, PrintAsk, RehearseAsk, UseError,
 };
 use crate::called::CalledAs;
+use crate::command::ubtool_for;
 use crate::number::{any_number, byte_of};
 use crate::origin::{images_of, inputs_of, origin_of};
 use crate::shell::{shell_of, unnamed, wanted_in_shell};
-use crate::{CAUSE_FAILURES_MAX, FAILURES_MAX, ubtool};
+use crate::{CAUSE_FAILURES_MAX, FAILURES_MAX};
 use clap::ArgMatches;
 use clap::error::ErrorKind;
 use envimage::ByteOrder;
@@ -511,7 +512,7 @@ pub fn read_lock<S: AsStr>(alloc: Global, words: &[S]) -> Result<Option<String>,
     ensures { IfOk result (λ folder. NamesLock (map S.text words.now)
         (option_map string_bytes folder)) }
 {
-    match ubtool(alloc, false)?.try_get_matches_from(words) {
+    match ubtool_for(alloc, words, false)?.try_get_matches_from(words) {
         Ok(matches) => lock_of(alloc, &matches),
         Err(error) => match error.kind() {
             ErrorKind::OutOfMemory => Err(AllocError),
@@ -534,7 +535,7 @@ pub fn read_lock<S: AsStr>(alloc: Global, words: &[S]) -> Result<Option<String>,
 pub fn read_command<S: AsStr>(alloc: Global, called: CalledAs, words: &[S]) -> Result<Ask, UseError>
     ensures { Answers called (map S.text words.now) result }
 {
-    match parse(alloc, ubtool(alloc, called.is_tool())?, words) {
+    match parse(alloc, ubtool_for(alloc, words, called.is_tool())?, words) {
         Ok(Answer::Asks(matches)) => ask_of(alloc, called, &matches),
         Ok(Answer::Help(text)) => Ok(Ask::Help(text)),
         Ok(Answer::Version) => Ok(Ask::Version),
