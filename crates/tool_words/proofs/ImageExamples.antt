@@ -1,5 +1,5 @@
 -- Worked calls for a new image, computed.
-use Rattle.std.proofs.Common.{false, true, refl, [], ◌∷◌, None, Some, codes}
+use Rattle.std.proofs.Common.{false, true, refl, [], ◌∷◌, codes}
 use Rattle.clap.proofs.OnLiterals.{clap_on_literals}
 use Rattle.envimage.specs.declared.image.ByteOrder.TheVariants.{Big, Little}
 use Rattle.tool_words.proofs.CommandLineExamples.{AsksFor, IsRefused}

@@ -4,6 +4,11 @@ pub mod EntryLemmas
 pub mod OneSubcommand
 pub mod AnswerLemmas
 pub mod CommandLineExamples
+mod PrintExamples
+mod SetExamples
+mod RehearseExamples
+mod EndingsExamples
+mod CausesExamples
 mod TextExamples
 mod ScriptExamples
 mod SteadyExamples

@@ -9,7 +9,7 @@ use Rattle.rehearse_terms.specs.declared.shell.Shell.TheVariants.{Profile}
 use Rattle.rehearse_terms.specs.Asking.{Listed, whole_page}
 use Rattle.tool_words.specs.CommandLine.{ubtool}
 use Rattle.envtools.specs.Printing.{plain}
-use Rattle.tool_words.proofs.CommandLineExamples.{AsksFor, bare, read_from}
+use Rattle.tool_words.proofs.CommandLineExamples.{AsksFor, bare, usual_list}
 
 -- the words ask for the version alone
 abbrev AsksForVersion : List Text → Type 0
@@ -47,7 +47,7 @@ long_script = (refl, refl)
 
 -- rehearse --device-list d --variable q
 long_rehearsal : AsksFor (codes "rehearse" ∷ codes "--device-list" ∷ codes "d" ∷ codes "--variable" ∷ codes "q" ∷ [])
-    (rehearsing (read_from (configured (codes "/etc/fw_env.config")) (codes "d")) (record {
+    (rehearsing usual_list (record {
       variable = codes "q";
       bounds = record { devices = 16; steps = 10000; failures = None; shell = Profile };
       wanted = Listed None whole_page;

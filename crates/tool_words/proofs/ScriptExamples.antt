@@ -1,5 +1,5 @@
 -- Worked calls with a script in place of a variable, computed.
-use Rattle.std.proofs.Common.{false, true, refl, [], ◌∷◌, None, Some, codes}
+use Rattle.std.proofs.Common.{false, refl, [], ◌∷◌, None, Some, codes}
 use Rattle.clap.proofs.OnLiterals.{clap_on_literals}
 use Rattle.envimage.specs.declared.image.ByteOrder.TheVariants.{Big, Little}
 use Rattle.rehearse_terms.specs.Asking.{Listed, whole_page}

@@ -4,18 +4,13 @@ use Rattle.clap.proofs.OnLiterals.{clap_on_literals}
 use Rattle.envimage.specs.declared.image.ByteOrder.TheVariants.{Little}
 use Rattle.rehearse_terms.specs.Asking.{Alone, Listed, whole_page}
 use Rattle.rehearse_terms.specs.declared.shell.Shell.TheVariants.{Profile}
-use Rattle.tool_words.proofs.CommandLineExamples.{AsksFor, IsRefused}
-use Rattle.tool_words.specs.Asked.{InputsShown, OriginShown, causing, configured, ending, no_images, rehearsing}
+use Rattle.tool_words.proofs.CommandLineExamples.{AsksFor, IsRefused, usual_list}
+use Rattle.tool_words.specs.Asked.{InputsShown, causing, ending, no_images, rehearsing}
 use Rattle.tool_words.specs.CommandLine.{ubtool}
 
 -- the usual configuration and the device list d, all of it steady
 abbrev steady_list : InputsShown
-steady_list = record {
-  origin = configured (codes "/etc/fw_env.config");
-  device_list = codes "d";
-  steady = true;
-  script = None;
-}
+steady_list = record usual_list { steady = true }
 
 -- rehearse -d d --steady z
 steady_rehearsal : AsksFor (codes "rehearse" ∷ codes "-d" ∷ codes "d" ∷ codes "--steady" ∷ codes "z" ∷ [])

@@ -1,13 +1,11 @@
 -- Worked calls with a text in place of images, computed.
-use Rattle.std.proofs.Common.{◌≡◌, false, true, refl, [], ◌∷◌, length, None, codes}
-use Rattle.std.specs.Prelude.{nat_lt}
-use Rattle.clap.specs.Words.{fault_of}
+use Rattle.std.proofs.Common.{false, true, refl, [], ◌∷◌, None, codes}
 use Rattle.clap.proofs.OnLiterals.{clap_on_literals}
 use Rattle.envimage.specs.declared.image.ByteOrder.TheVariants.{Big, Little}
 use Rattle.envtools.specs.Printing.{plain}
 use Rattle.rehearse_terms.specs.Asking.{Listed, whole_page}
 use Rattle.rehearse_terms.specs.declared.shell.Shell.TheVariants.{Profile}
-use Rattle.tool_words.proofs.CommandLineExamples.{AsksFor, bare, read_from}
+use Rattle.tool_words.proofs.CommandLineExamples.{AsksFor, IsRefused, bare, read_from}
 use Rattle.tool_words.specs.Asked.{ending, header_needs_one, misnamed, printing, rehearsing, texts}
 use Rattle.tool_words.specs.CommandLine.{ubtool}
 use Rattle.tool_words.specs.declared.ask.OriginError.TheVariants.{TextAlone}
@@ -61,12 +59,12 @@ unfolding clap_on_literals ubtool
 names_before_text = (refl, refl)
 
 -- setenv --text f a
-text_set : nat_lt 0 (length (fault_of ubtool (codes "setenv" ∷ codes "--text" ∷ codes "f" ∷ codes "a" ∷ []))) ≡ true
+text_set : IsRefused (codes "setenv" ∷ codes "--text" ∷ codes "f" ∷ codes "a" ∷ [])
 unfolding clap_on_literals ubtool
 text_set = refl
 
 -- printenv --text f --text g
-text_twice : nat_lt 0 (length (fault_of ubtool (codes "printenv" ∷ codes "--text" ∷ codes "f" ∷ codes "--text" ∷ codes "g" ∷ []))) ≡ true
+text_twice : IsRefused (codes "printenv" ∷ codes "--text" ∷ codes "f" ∷ codes "--text" ∷ codes "g" ∷ [])
 unfolding clap_on_literals ubtool
 text_twice = refl
 
