@@ -4,8 +4,9 @@ use Rattle.std.specs.Prelude.{codes}
 use Rattle.text.specs.Lines.{Text}
 use Rattle.device_list.specs.Called.{sets_in}
 use Rattle.device_list.specs.CallLines.{Exactly, Starting, Pattern, fits}
-use Rattle.device_list.specs.DeviceList.{Variable, WordAt, LastWord, Literal, ValueAt, LastValue, Effect, Devices, only, effect_of, is_listed, listed, all_steady}
+use Rattle.device_list.specs.DeviceList.{Setting, Variable, WordAt, LastWord, Literal, ValueAt, LastValue, Effect, Devices, only, effect_of, is_listed, listed, all_steady}
 use Rattle.device_list.specs.DeviceLaws.{quiet}
+use Rattle.device_list.specs.Quotes.{quoted_words, unquoted}
 use Rattle.device_list.specs.declared.devices_error.DevicesError.TheVariants.{BadLine, BuiltIn}
 
 -- a list of one line
@@ -78,7 +79,7 @@ second_colon : listed (codes "call usb : final : steady") ≡ Err (BadLine 1)
 second_colon = refl
 
 -- a bad line is refused as one before its name is looked at
-bad_before_built_in : map (λ line. listed line) (codes "call echo ** a : final" ∷ codes "call echo : a" ∷ codes "call echo : a='1'" ∷ []) ≡ Err (BadLine 1) ∷ Err (BadLine 1) ∷ Err (BadLine 1) ∷ []
+bad_before_built_in : map (λ line. listed line) (codes "call echo ** a : final" ∷ codes "call echo : a" ∷ codes "call echo : a='1" ∷ []) ≡ Err (BadLine 1) ∷ Err (BadLine 1) ∷ Err (BadLine 1) ∷ []
 bad_before_built_in = refl
 
 twice : map (λ line. listed line) (codes "call usb ** : final final" ∷ codes "call usb ** : steady steady" ∷ codes "call usb ** : always 0 always 0" ∷ []) ≡ Err (BadLine 1) ∷ Err (BadLine 1) ∷ Err (BadLine 1) ∷ []
@@ -102,8 +103,45 @@ bad_values = refl
 at_inside : listed (codes "call fdt : a=b@1") ≡ Ok (one (codes "fdt") alone (record quiet { sets = (Variable (codes "a"), Literal (codes "b@1")) ∷ [] }))
 at_inside = refl
 
-quotes : map (λ line. listed line) (codes "call fdt : a='b'" ∷ codes "call 'fdt' :" ∷ []) ≡ Err (BadLine 1) ∷ Err (BadLine 1) ∷ []
-quotes = refl
+-- ---- quotes
+
+abbrev args : (value : Text) → Setting
+args value = (Variable (codes "args"), Literal value)
+
+value_with_blanks : listed (codes "call fdt : args='a  b' final") ≡ Ok (one (codes "fdt") alone (record quiet { ends = true; sets = args (codes "a  b") ∷ [] }))
+value_with_blanks = refl
+
+value_in_parts : listed (codes "call fdt : args=a'b c'd''e") ≡ Ok (one (codes "fdt") alone (record quiet { sets = args (codes "ab cde") ∷ [] }))
+value_in_parts = refl
+
+-- in quotes, an `@` is a byte, and a `:` is no end of a pattern
+quoted_at : listed (codes "call fdt : args='@1'") ≡ Ok (one (codes "fdt") alone (record quiet { sets = args (codes "@1") ∷ [] }))
+quoted_at = refl
+
+quoted_colon : listed (codes "call fdt ':' : args='x : y'") ≡ Err (BadLine 1)
+quoted_colon = refl
+
+colon_in_value : listed (codes "call fdt : args='x : y'") ≡ Ok (one (codes "fdt") alone (record quiet { sets = args (codes "x : y") ∷ [] }))
+colon_in_value = refl
+
+-- a quote that is not closed, one in a pattern, in a name, and round a clause
+bad_quotes : map (λ line. listed line) (codes "call fdt : a='b" ∷ codes "call fdt : a=b'c'd'e" ∷ codes "call 'fdt' :" ∷ codes "call fdt 'a' :" ∷ codes "call fdt : 'a'=b" ∷ codes "call fdt : 'final'" ∷ [])
+    ≡ Err (BadLine 1) ∷ Err (BadLine 1) ∷ Err (BadLine 1) ∷ Err (BadLine 1) ∷ Err (BadLine 1) ∷ Err (BadLine 1) ∷ []
+bad_quotes = refl
+
+-- in the other lines a quote is a byte
+other_lines : listed (codes "fdt a='b'") ≡ Ok (only ((codes "fdt", record quiet { sets = (Variable (codes "a"), Literal (codes "'b'")) ∷ [] }) ∷ []))
+other_lines = refl
+
+words_quoted : quoted_words (codes " \ta='b  c'd e\t") ≡ codes "a='b  c'd" ∷ codes "e" ∷ []
+words_quoted = refl
+
+-- a quote that is not closed goes to the end of the line
+words_open : quoted_words (codes "a 'b c") ≡ codes "a" ∷ codes "'b c" ∷ []
+words_open = refl
+
+value_empty : map (λ value. unquoted value) ([] ∷ codes "''" ∷ codes "'" ∷ []) ≡ Some [] ∷ Some [] ∷ None ∷ []
+value_empty = refl
 
 -- ---- `absent`
 

@@ -158,11 +158,11 @@ IsWhole-words devices next before number line (first ∷ words) e h =
     by (known_named first words) refl (is_steady_test first words) refl (begins_comment first) (has_nul line) (is_call first words) refl (line_of number (heading_of first words)) refl e
   where
     by : (o : Option Text) → known_named first words ≡ o → (test : Bool) → is_steady_test first words ≡ test → (comment nul call : Bool) → is_call first words ≡ call → (r : Result DeviceLine DevicesError) → line_of number (heading_of first words) ≡ r
-        → cond comment (Ok devices) (cond nul (Err (BadLine number)) (cond call (after_call devices (call_said number first words)) (after_known devices o test r))) ≡ Ok next
+        → cond comment (Ok devices) (cond nul (Err (BadLine number)) (cond call (after_call devices (call_said number line first words)) (after_known devices o test r))) ≡ Ok next
         → IsWhole next (before ++ with_said (cond comment None (result_ok r)) [])
     by o is test at true nul call called r line_is e = IsWhole-kept devices next before (ok-same e) h
     by o is test at false true call called r line_is e = cc
-    by o is test at false false true called (Err fault) line_is e = IsWhole-call devices next before (call_said number first words) e h
+    by o is test at false false true called (Err fault) line_is e = IsWhole-call devices next before (call_said number line first words) e h
     by o is test at false false true called (Ok one) line_is e = absurd (let bad = sym (calls_are_bad number first words called) ∙ line_is in cc)
     by None is false at false false false called (Err fault) line_is e = cc
     by None is false at false false false called (Ok one) line_is e = IsWhole-next devices next before one (ok-same e) h

@@ -228,12 +228,12 @@ module _ (kinds : List Kind) where
     abbrev read_other : (first : Text) → List Text → Result Devices DevicesError
     read_other first words = after_known devices (cond (has kinds Known) (known_named first words) None) (has kinds Steady && is_steady_test first words) (said first words)
 
-    abbrev calls_of : (first : Text) → List Text → Result Devices DevicesError
-    calls_of first words = after_call devices (call_said number first words)
+    abbrev calls_of : (line first : Text) → List Text → Result Devices DevicesError
+    calls_of line first words = after_call devices (call_said number line first words)
 
     -- a line of calls
-    calls-kinds : (first : Text) (words : List Text) → is_call first words ≡ true → cond (has kinds Calls && true) (calls_of first words) (read_other first words) ≡ cond (has kinds Calls && true) (calls_of first words) refused
-    calls-kinds first words at = by (has kinds Calls)
+    calls-kinds : (line first : Text) (words : List Text) → is_call first words ≡ true → cond (has kinds Calls && true) (calls_of line first words) (read_other first words) ≡ cond (has kinds Calls && true) (calls_of line first words) refused
+    calls-kinds line first words at = by (has kinds Calls)
       where
         unread : said first words ≡ Err (BadLine number)
         unread = heading-kinds number first words ∙ read-bad number (fits (heading_of first words)) (heading_of first words) (calls_are_bad number first words at)
@@ -244,7 +244,7 @@ module _ (kinds : List Kind) where
             ∙ named-after first words (has kinds Known) (has kinds Steady)
             ∙ ap (with_line devices) unread
 
-        by : (k : Bool) → cond (k && true) (calls_of first words) (read_other first words) ≡ cond (k && true) (calls_of first words) refused
+        by : (k : Bool) → cond (k && true) (calls_of line first words) (read_other first words) ≡ cond (k && true) (calls_of line first words) refused
         by true = refl
         by false = other
 
@@ -267,23 +267,23 @@ module _ (kinds : List Kind) where
     abbrev kinds_here : (call : Bool) → (first : Text) → List Text → List Kind
     kinds_here call first words = cond call (Calls ∷ []) (cond (is_some (known_named first words)) (Known ∷ []) (filter (uses (heading_of first words)) every_kind))
 
-    abbrev read_here : (call : Bool) → (first : Text) → List Text → Result Devices DevicesError
-    read_here call first words = cond call (calls_of first words) (after_known devices (known_named first words) (is_steady_test first words) (line_of number (heading_of first words)))
+    abbrev read_here : (call : Bool) → (line first : Text) → List Text → Result Devices DevicesError
+    read_here call line first words = cond call (calls_of line first words) (after_known devices (known_named first words) (is_steady_test first words) (line_of number (heading_of first words)))
 
     words-kinds : (line : Text) (words : List Text) → words_among kinds devices number line words ≡ cond (list_all (has kinds) (kinds_said words)) (after_words devices number line words) refused
     words-kinds line [] = refl
     words-kinds line (first ∷ words) = by (begins_comment first) (has_nul line) (is_call first words) refl
       where
-        no_call : (k : Bool) → cond (k && false) (calls_of first words) (read_other first words) ≡ read_other first words
+        no_call : (k : Bool) → cond (k && false) (calls_of line first words) (read_other first words) ≡ read_other first words
         no_call true = refl
         no_call false = refl
 
         by : (comment nul call : Bool) → is_call first words ≡ call
-            → cond comment (Ok devices) (cond nul refused (cond (has kinds Calls && call) (calls_of first words) (read_other first words)))
-            ≡ cond (list_all (has kinds) (cond comment [] (kinds_here call first words))) (cond comment (Ok devices) (cond nul refused (read_here call first words))) refused
+            → cond comment (Ok devices) (cond nul refused (cond (has kinds Calls && call) (calls_of line first words) (read_other first words)))
+            ≡ cond (list_all (has kinds) (cond comment [] (kinds_here call first words))) (cond comment (Ok devices) (cond nul refused (read_here call line first words))) refused
         by true nul call at = refl
         by false true call at = sym (either (list_all (has kinds) (kinds_here call first words)) refused)
-        by false false true at = calls-kinds first words at
+        by false false true at = calls-kinds line first words at
         by false false false at = no_call (has kinds Calls) ∙ other-kinds first words
 
 pub lines_go_by_kinds : LinesGoByKinds

@@ -14,3 +14,4 @@ pub mod QuietNames
 pub mod PlainLists
 pub mod SteadyLemmas
 pub mod WordLemmas
+pub mod QuoteLemmas

@@ -68,7 +68,7 @@ module _ (kind : Kind) (P : Devices → Type 0)
 
       by : (comment nul call : Bool) (o : Option Text) (is_test : Bool) → is_steady_test first words ≡ is_test → (r : Result DeviceLine DevicesError) → line_of number (heading_of first words) ≡ r
           → may_say (cond comment [] (cond call (Calls ∷ []) (cond (is_some o) (Known ∷ []) (filter (uses (heading_of first words)) every_kind)))) kind ≡ false
-          → cond comment (Ok devices) (cond nul (Err (BadLine number)) (cond call (after_call devices (call_said number first words)) (after_known devices o is_test r))) ≡ Ok next → P next
+          → cond comment (Ok devices) (cond nul (Err (BadLine number)) (cond call (after_call devices (call_said number line first words)) (after_known devices o is_test r))) ≡ Ok next → P next
       by true nul call o is_test at r is without f = subst P (ok-same f) p
       by false true call o is_test at r is without f = absurd (let g = f in cc)
       by false false true o is_test at r is without f = absurd (let g = (or_parts (has (Calls ∷ []) kind) true without).1 in cc)

@@ -1,11 +1,12 @@
 -- The lines of a device list that are about the calls which fit a pattern. Ours.
-use Rattle.std.specs.Prelude.{ℕ, ◌+◌, ◌-◌, ◌==◌, nat_eq, nat_le, ◌||◌, ◌&&◌, not, Bool, true, false, List, [], ◌∷◌, ◌++◌, length, take, drop, Option, Some, None, is_some, option_map, Result, Ok, Err, codes, slice_get, if◌then◌else◌}
+use Rattle.std.specs.Prelude.{ℕ, ◌+◌, ◌-◌, ◌==◌, nat_eq, nat_le, ◌&&◌, not, Bool, true, false, List, [], ◌∷◌, ◌++◌, length, take, drop, Option, Some, None, is_some, option_map, Result, Ok, Err, codes, slice_get, if◌then◌else◌}
 use Rattle.std.specs.Str.{bytes_eq}
 use Rattle.std.specs.List.{list_any, starts_with}
 use Rattle.text.specs.Words.{is_equals}
 use Rattle.text.specs.Lines.{Text}
 use Rattle.builtins.specs.Builtins.{is_built_in}
 use Rattle.device_list.specs.Settings.{Setting, Effect, call_setting}
+use Rattle.device_list.specs.Quotes.{is_quote, quoted_words}
 use Rattle.device_list.specs.declared.devices_error.DevicesError.{DevicesError}
 use Rattle.device_list.specs.declared.devices_error.DevicesError.TheVariants.{BadLine, BuiltIn}
 
@@ -140,21 +141,18 @@ call_with number name (Some pattern) (Some clauses) =
     else (if is_built_in name then Err (BuiltIn number)
     else Ok (record { name = name; pattern = pattern; effect = effect_said clauses }))
 
+-- A value may have quotes, and a pattern none.
+abbrev pub has_quote : (words : List Text) → Bool
+has_quote words = list_any (λ word. list_any is_quote word) words
+
 -- the words on both sides of the `:`, the name of the command first
 abbrev pub call_between : ℕ → (pattern clauses : List Text) → Result Call DevicesError
 call_between number [] clauses = Err (BadLine number)
 call_between number (name ∷ pattern) clauses =
-    call_with number name (pattern_of pattern) (clauses_of no_clause clauses)
+    if has_quote (name ∷ pattern) then Err (BadLine number) else call_with number name (pattern_of pattern) (clauses_of no_clause clauses)
 
 abbrev pub is_colon : (word : Text) → Bool
 is_colon word = bytes_eq word (codes ":")
-
-abbrev pub is_quote : ℕ → Bool
-is_quote b = b == 39
-
--- quotes are not read yet
-abbrev pub has_quote : (words : List Text) → Bool
-has_quote words = list_any (λ word. list_any is_quote word) words
 
 -- how many words come before the first `:`
 abbrev pub colon_place : (words : List Text) → ℕ
@@ -167,7 +165,7 @@ lacks_colon words = nat_le (length words) (colon_place words)
 -- a line `call PATTERN : CLAUSES`, the words after `call`
 abbrev pub call_line : ℕ → (words : List Text) → Result Call DevicesError
 call_line number words =
-    if has_quote words || lacks_colon words then Err (BadLine number)
+    if lacks_colon words then Err (BadLine number)
     else call_between number (take (colon_place words) words) (drop (colon_place words + 1) words)
 
 -- `absent NAME` is `call NAME ** : always 1`
@@ -175,9 +173,9 @@ abbrev pub absent_words : (words : List Text) → List Text
 absent_words words = words ++ codes "**" ∷ codes ":" ∷ codes "always" ∷ codes "1" ∷ []
 
 -- what a line of calls says
-abbrev pub call_said : ℕ → (first : Text) → (words : List Text) → Result Call DevicesError
-call_said number first words =
-    call_line number (if bytes_eq first (codes "call") then words else absent_words words)
+abbrev pub call_said : ℕ → (line first : Text) → (words : List Text) → Result Call DevicesError
+call_said number line first words =
+    call_line number (if bytes_eq first (codes "call") then drop 1 (quoted_words line) else absent_words words)
 
 abbrev pub is_lone : (name : Text) → (words : List Text) → Bool
 is_lone name [] = not (list_any is_equals name)

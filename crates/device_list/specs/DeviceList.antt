@@ -218,7 +218,7 @@ after_words devices number line [] = Ok devices
 after_words devices number line (first ∷ words) =
     if begins_comment first then Ok devices
     else (if has_nul line then Err (BadLine number)
-    else (if is_call first words then after_call devices (call_said number first words)
+    else (if is_call first words then after_call devices (call_said number line first words)
     else after_known devices (known_named first words) (is_steady_test first words)
     (line_of number (heading_of first words))))
 

@@ -103,7 +103,7 @@ module _ (kinds : List Kind) where
   words_among devices number line (first ∷ words) =
       if begins_comment first then Ok devices
       else (if has_nul line then Err (BadLine number)
-      else (if has kinds Calls && is_call first words then after_call devices (call_said number first words)
+      else (if has kinds Calls && is_call first words then after_call devices (call_said number line first words)
       else after_known devices (known_among first words) (has kinds Steady && is_steady_test first words)
       (said_among number (heading_among first words))))
 

@@ -1,3 +1,4 @@
+pub mod Quotes
 pub mod Settings
 pub mod CallLines
 pub mod DeviceList

@@ -1,11 +1,12 @@
 -- What a device command does on success, and the settings of a line. Ours.
 use Rattle.std.specs.Prelude.{ℕ, ◌+◌, ◌-◌, ◌==◌, min, ◌&&◌, not, Bool, true, false, List, [], ◌∷◌, length, take, drop, Option, Some, None, option_map, codes, if◌then◌else◌}
 use Rattle.std.specs.Str.{bytes_eq}
-use Rattle.std.specs.List.{position}
+use Rattle.std.specs.List.{list_any, position}
 use Rattle.text.specs.Bytes as ascii
 use Rattle.text.specs.Numbers.{are_digits, value_in}
 use Rattle.text.specs.Words.{is_equals}
 use Rattle.text.specs.Lines.{Text}
+use Rattle.device_list.specs.Quotes.{is_quote, unquoted}
 
 -- the left side of a setting: a variable, or the word of the call that names it; words are counted from 0, or it is the
 -- last
@@ -85,11 +86,16 @@ value_of_word (Variable name) = Literal name
 value_of_word (WordAt place) = ValueAt place
 value_of_word LastWord = LastValue
 
--- In a `call` line, an `@` starts a word of the call on the right side, too.
+-- In a `call` line, an `@` starts a word of the call on the right side, too, and a value may have quotes.
 abbrev pub right_side : Text → Option RightSide
 right_side [] = Some (Literal [])
 right_side (b ∷ bytes) =
-    if bytes_eq (b ∷ []) (codes "@") then option_map value_of_word (word_of_call bytes) else Some (Literal (b ∷ bytes))
+    if bytes_eq (b ∷ []) (codes "@") then option_map value_of_word (word_of_call bytes)
+    else option_map Literal (unquoted (b ∷ bytes))
+
+-- and a name has none
+abbrev pub plain_side : (name : Text) → Option LeftSide
+plain_side name = if list_any is_quote name then None else left_side true name
 
 abbrev pub both_sides : Option LeftSide → Option RightSide → Option Setting
 both_sides None right = None
@@ -100,5 +106,5 @@ abbrev pub call_setting : (word : Text) → Option Setting
 call_setting word =
     elim (position is_equals word) [
       | None ↦ None
-      | Some at ↦ both_sides (left_side true (take at word)) (right_side (drop (at + 1) word))
+      | Some at ↦ both_sides (plain_side (take at word)) (right_side (drop (at + 1) word))
     ]

@@ -2,7 +2,7 @@
 ghost use Rattle.std.specs.Prelude.{◌≡◌, map, option_map, IfOk};
 ghost use Rattle.std.specs.List.{list_any};
 ghost use Rattle.commands.specs.TextsShown.{texts};
-ghost use Rattle.device_list.specs.CallLines.{colon_place, call_between, call_line, absent_words, call_said, is_call, has_quote, is_colon, is_quote, is_star, first_fitting};
+ghost use Rattle.device_list.specs.CallLines.{colon_place, call_between, call_line, absent_words, call_said, is_call, has_quote, is_colon, is_star, first_fitting};
 ghost use Rattle.device_list.specs.CommandsShown.{call_lines_shown, found_shown};
 ghost use Rattle.device_list.specs.DeviceListAnswers.{SaysCall};
 
@@ -11,6 +11,8 @@ use crate::device_line::has_equals;
 use crate::devices_error::DevicesError;
 use crate::listed::Listed;
 use crate::pattern::{Pattern, pattern_of};
+use crate::quotes;
+use crate::quotes::quoted_words;
 use builtins::is_built_in;
 use std::alloc::{AllocError, Global};
 
@@ -48,18 +50,11 @@ fn has_star(word: &[u8]) -> bool
 }
 
 /// Whether a word holds a single quote.
-fn is_quoted(word: &[u8]) -> bool
-    ensures { result ≡ list_any is_quote word.now }
-{
-    word.iter().any(|byte| *byte == b'\'')
-}
-
-/// Whether a word holds a single quote.
 fn has_quote(words: &[&[u8]]) -> bool
     ensures { result ≡ has_quote (map (λ w. w.now) words.now) }
 {
     for word in words {
-        if is_quoted(word) {
+        if quotes::has_quote(word) {
             return true;
         }
     }
@@ -112,6 +107,9 @@ fn call_between<'a>(
     let [name, words @ ..] = pattern else {
         return Err(DevicesError::BadLine(number));
     };
+    if has_quote(pattern) {
+        return Err(DevicesError::BadLine(number));
+    }
     let Some(pattern) = pattern_of(alloc, words)? else {
         return Err(DevicesError::BadLine(number));
     };
@@ -133,7 +131,7 @@ fn call_line<'a>(alloc: Global, number: usize, words: &[&'a [u8]]) -> Result<Cal
     ensures { SaysCall (call_line number (map (λ w. w.now) words.now)) result }
 {
     let at = colon_place(words);
-    if has_quote(words) || words.len() <= at {
+    if words.len() <= at {
         return Err(DevicesError::BadLine(number));
     }
     call_between(alloc, number, &words[..at], &words[at + 1..])
@@ -156,12 +154,17 @@ fn absent_words<'a>(alloc: Global, words: &[&'a [u8]]) -> Result<Vec<&'a [u8]>, 
 pub(crate) fn call_said<'a>(
     alloc: Global,
     number: usize,
+    line: &'a [u8],
     first: &[u8],
     behind: &[&'a [u8]],
 ) -> Result<Call<'a>, DevicesError>
-    ensures { SaysCall (call_said number first.now (map (λ w. w.now) behind.now)) result }
+    ensures { SaysCall (call_said number line.now first.now (map (λ w. w.now) behind.now)) result }
 {
     if first == b"call".as_slice() {
+        let words = quoted_words(alloc, line)?;
+        let [_, behind @ ..] = words.as_slice() else {
+            return Err(DevicesError::BadLine(number));
+        };
         return call_line(alloc, number, behind);
     }
     let words = absent_words(alloc, behind)?;

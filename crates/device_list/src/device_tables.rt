@@ -362,7 +362,7 @@ impl DeviceTables {
             return Err(DevicesError::BadLine(number));
         }
         if is_call(first, behind) {
-            let call = call_said(self.alloc, number, first, behind)?;
+            let call = call_said(self.alloc, number, line, first, behind)?;
             add_call(self.alloc, &mut self.calls, call)?;
             return Ok(());
         }

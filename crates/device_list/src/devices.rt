@@ -62,8 +62,8 @@ impl Devices {
     /// fit a pattern: its name, and then the words of the call, of which `*` is any one, one that ends with
     /// `*` each that starts so, and a last `**` any number. Clauses are `final`, `steady`, `always 0` and
     /// `always 1` (the only status of the call, which then takes no outcome), and settings, in any order;
-    /// there, `VAR=@N` and `VAR=@last` have a word of the call as the value. `absent NAME` is `call NAME ** :
-    /// always 1`. Spaces, tabs and carriage returns round a line are dropped;
+    /// there, `VAR=@N` and `VAR=@last` have a word of the call as the value, and a value may have parts in
+    /// single quotes, with blanks in them. `absent NAME` is `call NAME ** : always 1`. Spaces, tabs and carriage returns round a line are dropped;
     /// spaces and tabs separate its words. Lines without a word, and lines that begin with `#`, are
     /// skipped. The first word is the name, unless it is `final` or `steady` and a word without `=`
     /// follows, or `sub` and two such words follow. Each further word is a setting: a variable, the first
@@ -74,8 +74,8 @@ impl Devices {
     /// A list that begins with UTF-8's byte order mark is refused for it: `ByteOrderMark`. Otherwise the
     /// first faulty line is refused: `BadLine` where it holds NUL, or a further word has no `=`, an
     /// empty variable, one that begins with `-`, or in a `sub` line one that begins with `@` and is no
-    /// word of the call; in a line of calls, where a clause is none or is there twice, a word holds a single
-    /// quote, the name is missing or holds `*`, or `**` is not last; else `BuiltIn` where its name is that of
+    /// word of the call; in a line of calls, where a clause is none or is there twice, a quote is not closed or
+    /// stands in no value, the name is missing or holds `*`, or `**` is not last; else `BuiltIn` where its name is that of
     /// a built-in command.
     pub fn parse(alloc: Global, text: &[u8]) -> Result<Self, DevicesError>
         ensures { IsListed text.now result }

@@ -10,6 +10,7 @@ mod devices;
 mod devices_error;
 mod listed;
 mod pattern;
+mod quotes;
 mod setting;
 
 pub use devices::Devices;

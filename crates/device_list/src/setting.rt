@@ -2,9 +2,10 @@
 ghost use Rattle.std.specs.Prelude.{◌≡◌, ◌==◌, map, option_map, IfOk, OnOk};
 ghost use Rattle.std.specs.List.{position};
 ghost use Rattle.text.specs.Words.{is_equals};
-ghost use Rattle.device_list.specs.Settings.{is_variable, is_decimal, word_of_call, left_side, setting, settings, value_of_word, right_side, call_setting};
+ghost use Rattle.device_list.specs.Settings.{is_variable, is_decimal, word_of_call, left_side, setting, settings, value_of_word, right_side, plain_side, call_setting};
 ghost use Rattle.device_list.specs.DevicesShown.{left_shown, right_shown, setting_shown, settings_shown};
 
+use crate::quotes::{has_quote, unquoted};
 use std::alloc::{AllocError, Global};
 use text::{are_digits, value_in};
 
@@ -132,8 +133,20 @@ fn right_side(alloc: Global, value: &[u8]) -> Result<Option<RightSide>, AllocErr
         };
         return Ok(Some(value_of_word(word)));
     }
-    let value = Vec::from_slice(alloc, value)?;
+    let Some(value) = unquoted(alloc, value)? else {
+        return Ok(None);
+    };
     Ok(Some(RightSide::Literal(value)))
+}
+
+/// The left side of a setting of a `call` line, if it is one: it has no quotes.
+fn plain_side(alloc: Global, name: &[u8]) -> Result<Option<LeftSide>, AllocError>
+    ensures { IfOk result (λ left. option_map left_shown left ≡ plain_side name.now) }
+{
+    if has_quote(name) {
+        return Ok(None);
+    }
+    left_side(alloc, name, true)
 }
 
 /// The setting that a word of a `call` line is, if it is one.
@@ -144,7 +157,7 @@ pub(crate) fn call_setting(alloc: Global, word: &[u8]) -> Result<Option<Setting>
     let Some(at) = equals_at(word) else {
         return Ok(None);
     };
-    let Some(left) = left_side(alloc, &word[..at], true)? else {
+    let Some(left) = plain_side(alloc, &word[..at])? else {
         return Ok(None);
     };
     let Some(value) = right_side(alloc, &word[at + 1..])? else {

@@ -1,5 +1,5 @@
-use Rattle.std.proofs.Common.{◌≡◌, ◌||◌, false, nat_le, length, Result, List, Bor, take, ◌+◌, sym, subst, ◌∙◌}
-use Rattle.device_list.specs.CallLines.{Call, call_between, has_quote}
+use Rattle.std.proofs.Common.{◌≡◌, false, nat_le, length, Result, List, Bor, take, ◌+◌, subst}
+use Rattle.device_list.specs.CallLines.{Call, call_between}
 use Rattle.text.specs.Lines.{Text}
 use Rattle.device_list.specs.DeviceListAnswers.{SaysCall}
 use Rattle.device_list.specs.declared.devices_error.DevicesError.{DevicesError}
@@ -10,8 +10,7 @@ pub returns : goal.returns
 returns c =
     let words = c.args.words.now in
     let at = c.colon_place-at.result in
-    let plain : has_quote (bytes_of words) ≡ false = sym c.has_quote.ensures ∙ c.if-has_quote.false in
     let there : nat_le (length (bytes_of words)) at ≡ false = not_below words at c.if-words-at.false in
     subst (λ (said : Result Call DevicesError). SaysCall said c.call_between.result)
-    (call_line_at c.args.number words at c.colon_place-at.ensures (λ i. plain i || there i))
+    (call_line_at c.args.number words at c.colon_place-at.ensures there)
     (subst (λ (rest : List (Bor Text)). SaysCall (call_between c.args.number (bytes_of (take at words)) (bytes_of rest)) c.call_between.result) (rest_is words (at + 1)) c.call_between.ensures)

@@ -1,6 +1,7 @@
 use Rattle.std.proofs.Common.{◌≡◌, drop, map}
 use Rattle.std.specs.List.{list_any}
-use Rattle.device_list.specs.CallLines.{has_quote, is_quote}
+use Rattle.device_list.specs.CallLines.{has_quote}
+use Rattle.device_list.specs.Quotes.{is_quote}
 use Rattle.device_list.proofs.call_line.has_quote.Given as goal
 
 -- no word so far holds one
