@@ -136,10 +136,34 @@ commands of these names
   end 0
   done
 
+values with blanks
+  $ runs 'fdt boardsetup' "call fdt boardsetup : p='a b'"
+  run 0
+  dev 0 fdt boardsetup
+  unset fdtaddr
+  var p=a b
+  end 0
+  run 1
+  dev 1 fdt boardsetup
+  unset fdtaddr
+  unset p
+  end 1
+  done
+  $ runs 'fdt boardsetup' "call fdt boardsetup : p=a' : @1 'b always 0"
+  run .
+  dev 0 fdt boardsetup
+  unset fdtaddr
+  var p=a : @1 b
+  end 0
+  done
+
 bad lines
-  $ for line in 'mmc dev' ': final' 'm* : final' 'mmc ** dev : final' 'mmc : always 2' 'mmc : final final' "mmc : a='b'"; do
+  $ for line in 'mmc dev' ': final' 'm* : final' 'mmc ** dev : final' 'mmc : always 2' 'mmc : final final' "mmc : a='b" \
+  >     "'mmc' :" "mmc : 'a'=b"; do
   >     runs true "call $line"
   > done
+  ! ubtool: device list line 1: bad line
+  ! ubtool: device list line 1: bad line
   ! ubtool: device list line 1: bad line
   ! ubtool: device list line 1: bad line
   ! ubtool: device list line 1: bad line
