@@ -41,6 +41,9 @@ pub names_all : (start : List Text) (env : List Pair) (names : List Lent) (items
 names_all start env names items pairs i past is e before =
     before ∙ ap (λ t. start ++ t) (ap firsts (take_all i items past ∙ is) ∙ firsts_are pairs ∙ ap (map (λ (p : Pair). p.0)) e)
 
+pub pairs_all : (env : List Pair) (items pairs : List (Lent × Lent)) (i : ℕ) → length items ≤ i → items ≡ pairs → map pair_at pairs ≡ env → firsts (take i items) ≡ map (λ (p : Pair). p.0) env
+pairs_all env items pairs i past is e = ap firsts (take_all i items past ∙ is) ∙ firsts_are pairs ∙ ap (map (λ (p : Pair). p.0)) e
+
 -- every variable is asked for
 pub all_asked : (all : Bool) (env : List Pair) (given names : List Text) → all ≡ true → names ≡ given ++ map (λ (p : Pair). p.0) env → names ≡ asked_names all env given
 all_asked true env given names h e = e

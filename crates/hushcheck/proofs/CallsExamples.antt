@@ -26,8 +26,8 @@ second_name : told_in None (codes "run a $x") ≡ codes "b:1:7: note: not follow
 unfolding whole script command simple keyword next behind sees expect joined joined_all and_or lists lists_all block arm arms arms_all if_command body_of loop_command for_command name name_next expect_in in_next all_words separators separator_next closes_next op_next refusal missing at_last word_next assignment_next assignments reserved_of reserved assignment name_in name_of is_in_word pieces step bare dollar braced inside front word_front digits
 second_name = refl
 
--- a variable that is no name of `run`
-other_words : told_in None (codes "echo run $a; $run a; x=$a") ≡ []
+-- variables that are no names of `run`, one of them a command
+other_words : told_in None (codes "echo run $a; $run a; x=$a") ≡ codes "b:1:14: note: which variables this sets is not known\necho run $a; $run a; x=$a\n             ^\n"
 unfolding whole script command simple keyword next behind sees expect joined joined_all and_or lists lists_all block arm arms arms_all if_command body_of loop_command for_command name name_next expect_in in_next all_words separators separator_next closes_next op_next refusal missing at_last word_next assignment_next assignments reserved_of reserved assignment name_in name_of is_in_word pieces step bare dollar braced inside front word_front digits
 other_words = refl
 
@@ -101,7 +101,7 @@ no_list : is_lacking None (codes "bootm") ≡ false
 no_list = refl
 
 -- one lacking command, in quotes; the list says nothing of a command that a variable names
-one_lacking : told_in (Some list) (codes "load a; mmc x && itest 1; $y; 'boot'm a") ≡ codes "b:1:31: the device list lacks bootm\nload a; mmc x && itest 1; $y; 'boot'm a\n                              ^\n"
+one_lacking : told_in (Some list) (codes "load a; mmc x && itest 1; $y; 'boot'm a") ≡ codes "b:1:27: note: which variables this sets is not known\nload a; mmc x && itest 1; $y; 'boot'm a\n                          ^\nb:1:31: the device list lacks bootm\nload a; mmc x && itest 1; $y; 'boot'm a\n                              ^\n"
 unfolding whole script command simple keyword next behind sees expect joined joined_all and_or lists lists_all block arm arms arms_all if_command body_of loop_command for_command name name_next expect_in in_next all_words separators separator_next closes_next op_next refusal missing at_last word_next assignment_next assignments reserved_of reserved assignment name_in name_of is_in_word pieces step bare dollar braced inside front word_front digits
 one_lacking = refl
 

@@ -13,7 +13,7 @@ use Rattle.hushlang.specs.declared.call.Call.{Call}
 use Rattle.hushlang.specs.declared.tree.Command.{Command, Simple, Assign, If, Loop, For}
 use Rattle.hushlang.specs.declared.tree.Script.{Script, out-Script}
 use Rattle.hushlang.proofs.ViewLemmas.{script_out, list_of, command_simple, command_assign, command_loop, command_for, command_if}
-use Rattle.hushcheck.specs.Calls.{Reading, skip, after_arm, after_arms, after_command, after_joined, after_list, after_script, after_words}
+use Rattle.hushcheck.specs.Calls.{Reading, after_value, after_word, set_name, skip, after_arm, after_arms, after_command, after_joined, after_list, after_script, after_words}
 
 -- ---- items one after another
 
@@ -58,21 +58,14 @@ by_commands r l rest e = sym (ap (after_list r) (list_of l.first l.rest) ∙ ap 
 pub by_words : (r : Reading) (c : Command) (call : Call) (all : List Word) → c ≡ Simple call → map view.word all ≡ view.call call → after_words r (map view.word all) ≡ after_command r (view.command c)
 by_words r c call all e is = ap (after_words r) is ∙ sym (ap (λ x. after_command r (view.command x)) e ∙ ap (after_command r) (command_simple call))
 
-as_many : {X Y : Type 0} (g : X → Y) (xs : List X) → length (map g xs) ≡ length xs
-as_many g [] = refl
-as_many g (x ∷ xs) = ap suc (as_many g xs)
-
-abbrev value_shown : Vec ℕ Global × Word → List ℕ × tree.Word
-value_shown v = (v.0.items, view.word v.1)
-
-pub by_values : (r : Reading) (c : Command) (values : Vec (Vec ℕ Global × Word) Global) → c ≡ Assign values → skip (length values.items) r ≡ after_command r (view.command c)
-by_values r c values e = sym (ap (λ x. after_command r (view.command x)) e ∙ ap (after_command r) (command_assign values) ∙ ap (λ n. skip n r) (as_many value_shown values.items))
+pub by_values : (r : Reading) (c : Command) (values : Vec (Vec ℕ Global × Word) Global) → c ≡ Assign values → fold after_value r (map view.value values.items) ≡ after_command r (view.command c)
+by_values r c values e = sym (ap (λ x. after_command r (view.command x)) e ∙ ap (after_command r) (command_assign values))
 
 pub by_loop : (r : Reading) (c : Command) (until : Bool) (cond body : Rc Script Global) → c ≡ Loop until cond body → skip 1 (after_arm r (view.script cond.value, view.script body.value)) ≡ after_command r (view.command c)
 by_loop r c until cond body e = sym (ap (λ x. after_command r (view.command x)) e ∙ ap (after_command r) (command_loop until cond body))
 
-pub by_for : (r : Reading) (c : Command) (name : Vec ℕ Global) (words : Vec Word Global) (body : Rc Script Global) → c ≡ For name words body → skip 1 (after_script (skip 1 (skip (length words.items) (skip 3 r))) (view.script body.value)) ≡ after_command r (view.command c)
-by_for r c name words body e = sym (ap (λ x. after_command r (view.command x)) e ∙ ap (after_command r) (command_for name words body) ∙ ap (λ n. skip 1 (after_script (skip 1 (skip n (skip 3 r))) (view.script body.value))) (as_many view.word words.items))
+pub by_for : (r : Reading) (c : Command) (name : Vec ℕ Global) (words : Vec Word Global) (body : Rc Script Global) → c ≡ For name words body → skip 1 (after_script (skip 1 (fold after_word (skip 3 (set_name name.items r)) (map view.word words.items))) (view.script body.value)) ≡ after_command r (view.command c)
+by_for r c name words body e = sym (ap (λ x. after_command r (view.command x)) e ∙ ap (after_command r) (command_for name words body))
 
 abbrev pub after_other : Reading → Option tree.Script → Reading
 after_other r None = r

@@ -1,5 +1,5 @@
 -- Worked texts, computed.
-use Rattle.std.proofs.Common.{◌≡◌, zero, suc, List, [], ◌∷◌, ◌++◌, map, Contains, Err, None, refl, subst, arith}
+use Rattle.std.proofs.Common.{◌≡◌, zero, suc, false, List, [], ◌∷◌, ◌++◌, map, Contains, Err, None, refl, subst, arith}
 use Rattle.std.specs.Prelude.{codes}
 use Rattle.std.specs.Fmt.{digits}
 use Rattle.std.specs.List.{flat_map}
@@ -82,6 +82,6 @@ circle_reached n (suc (suc (suc k)), h, e) = absurd (omega (arith, h))
 circle_is : IsOrder None circle (codes "bootcmd" ∷ []) circle_order
 circle_is = record { in_turn = circle_turns; reached = circle_reached }
 
-circle_lines : flat_map (lines_of (record { devices = None; shell = None }) circle) circle_order ≡ codes "bootcmd: ok\na: ok\nx: not set\n"
+circle_lines : flat_map (lines_of (record { devices = None; shell = None; strict = false }) circle) circle_order ≡ codes "bootcmd: ok\na: ok\nx: not set\n"
 unfolding whole script command simple keyword next behind sees expect joined joined_all and_or lists lists_all block arm arms arms_all if_command body_of loop_command for_command name name_next expect_in in_next all_words separators separator_next closes_next op_next refusal missing at_last word_next assignment_next assignments reserved_of reserved assignment name_in name_of is_in_word pieces step bare dollar braced inside front word_front
 circle_lines = refl

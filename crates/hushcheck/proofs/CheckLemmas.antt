@@ -14,7 +14,8 @@ use Rattle.hushcheck.specs.Names.{Text, run_by_name, run_by_value}
 use Rattle.hushcheck.specs.Rules.{Rules}
 use Rattle.rehearse_terms.specs.declared.shell.Shell.{Shell}
 use Rattle.hushcheck.specs.Order.{IsReached, is_asked, is_run, once, with_name, with_names}
-use Rattle.hushcheck.specs.Report.{BeginsCheck, ChecksNames, is_fine, lines_of}
+use Rattle.hushcheck.specs.Report.{BeginsTurns, TakesTurns, is_fine, lines_of}
+use Rattle.hushcheck.specs.Unset.{Used, used_by}
 use Rattle.hushcheck.proofs.OrderLemmas.{with_names-append}
 
 -- ---- names that are added after others
@@ -160,23 +161,25 @@ left-turn shell (p ∷ env) done n new =
 
 -- ---- one turn
 
-module _ (rules : Rules) (env : List Pair) (asked : List Text) (names : List Text) (at : ℕ) (so_far : Bool) where
-  -- the names so far are in order, and so is what was reported of the names before a place
-  pub record Standing (told : Text) (sound : Bool) : Type 0 where
+module _ (rules : Rules) (env : List Pair) (before : List Used) (asked : List Text) (names : List Text) (at : ℕ) (so_far : Bool) where
+  -- the names so far are in order, and so is what was reported of the names before a place, and what their texts use
+  pub record Standing (told : Text) (sound : Bool) (used : List Used) : Type 0 where
     pub within : at ≤ length names
     pub in_turn : names ≡ once (asked ++ flat_map (run_by_name rules.shell env) (take at names))
     pub reached : (m : Text) → Contains names m → IsReached rules.shell env asked m
     pub told_is : told ≡ flat_map (lines_of rules env) (take at names)
     pub sound_is : sound ≡ (so_far && list_all (is_fine rules env) (take at names))
+    pub used_is : used ≡ before ++ flat_map (used_by rules env) (take at names)
 
 -- before the first turn
-pub standing_first : (rules : Rules) (env : List Pair) (asked names : List Text) (so_far : Bool) (told : Text) (sound : Bool) → names ≡ once asked → told ≡ [] → sound ≡ so_far → Standing rules env asked names 0 so_far told sound
-standing_first rules env asked names so_far told sound e t s = record {
+pub standing_first : (rules : Rules) (env : List Pair) (before : List Used) (asked names : List Text) (so_far : Bool) (told : Text) (sound : Bool) (used : List Used) → names ≡ once asked → told ≡ [] → sound ≡ so_far → used ≡ before → Standing rules env before asked names 0 so_far told sound used
+standing_first rules env before asked names so_far told sound used e t s u = record {
   within = omega arith;
   in_turn = e ∙ ap once (sym (append-nil asked));
   reached = subst (λ ns. (m : Text) → Contains ns m → IsReached rules.shell env asked m) (sym e) (good-with_names (IsReached rules.shell env asked) [] asked (λ m c. absurd (let h = c.1 in omega (arith, h))) (λ m c. is_asked m c));
   told_is = t;
   sound_is = s ∙ sym (and_true so_far);
+  used_is = u ∙ sym (append-nil before);
 }
   where
     and_true : (b : Bool) → (b && true) ≡ b
@@ -203,29 +206,33 @@ one_more : {X : Type 0} (f : Text → List X) (xs : List Text) (x : Text) → fl
 one_more f xs x = flat_map-append f xs (x ∷ []) ∙ ap (λ ys. flat_map f xs ++ ys) (append-nil (f x))
 
 -- after one more turn
-pub standing_next : (rules : Rules) (env : List Pair) (asked names names' : List Text) (at : ℕ) (so_far : Bool) (told told' : Text) (sound sound' : Bool) → at < length names → Standing rules env asked names at so_far told sound
+pub standing_next : (rules : Rules) (env : List Pair) (before : List Used) (asked names names' : List Text) (at : ℕ) (so_far : Bool) (told told' : Text) (sound sound' : Bool) (used used' : List Used) → at < length names → Standing rules env before asked names at so_far told sound used
     → names' ≡ with_names names (run_by_name rules.shell env (get_or names at []))
     → told' ≡ told ++ lines_of rules env (get_or names at [])
     → sound' ≡ (sound && is_fine rules env (get_or names at []))
-    → Standing rules env asked names' (at + 1) so_far told' sound'
-standing_next rules env asked names names' at so_far told told' sound sound' within s e t w =
+    → used' ≡ used ++ used_by rules env (get_or names at [])
+    → Standing rules env before asked names' (at + 1) so_far told' sound' used'
+standing_next rules env before asked names names' at so_far told told' sound sound' used used' within s e t w u =
     let n = get_or names at [] in
     let more = run_by_name rules.shell env n in
     let front : take (at + 1) names' ≡ take at names ++ n ∷ [] = ap (take (at + 1)) e ∙ take_turn names more at within in
     let x = extends names more in
     let long : length names' ≡ length names + length x.0 = ap (λ ns. length ns) (e ∙ x.1) ∙ length-append names x.0 in
-    let before = flat_map (run_by_name rules.shell env) (take at names) in
+    let ran = flat_map (run_by_name rules.shell env) (take at names) in
     record {
       within = omega (arith, long, within);
       in_turn =
-          e ∙ ap (λ ns. with_names ns more) s.in_turn ∙ sym (with_names-append [] (asked ++ before) more)
-          ∙ ap once (append_assoc asked before more ∙ ap (λ ns. asked ++ ns) (sym (ap (flat_map (run_by_name rules.shell env)) front ∙ one_more (run_by_name rules.shell env) (take at names) n)));
+          e ∙ ap (λ ns. with_names ns more) s.in_turn ∙ sym (with_names-append [] (asked ++ ran) more)
+          ∙ ap once (append_assoc asked ran more ∙ ap (λ ns. asked ++ ns) (sym (ap (flat_map (run_by_name rules.shell env)) front ∙ one_more (run_by_name rules.shell env) (take at names) n)));
       reached = subst (λ ns. (m : Text) → Contains ns m → IsReached rules.shell env asked m) (sym e)
           (good-with_names (IsReached rules.shell env asked) names more s.reached (λ m c. is_run n m (s.reached n (at, within, refl_at names at within)) c));
       told_is = t ∙ ap (λ ts. ts ++ lines_of rules env n) s.told_is ∙ sym (ap (flat_map (lines_of rules env)) front ∙ one_more (lines_of rules env) (take at names) n);
       sound_is =
           w ∙ ap (λ b. b && is_fine rules env n) s.sound_is ∙ and_assoc so_far (list_all (is_fine rules env) (take at names)) (is_fine rules env n)
           ∙ ap (λ b. so_far && b) (sym (ap (list_all (is_fine rules env)) front ∙ list_all-append (is_fine rules env) (take at names) (n ∷ []) ∙ and_end (list_all (is_fine rules env) (take at names)) (is_fine rules env n)));
+      used_is =
+          u ∙ ap (λ us. us ++ used_by rules env n) s.used_is ∙ append_assoc before (flat_map (used_by rules env) (take at names)) (used_by rules env n)
+          ∙ ap (λ us. before ++ us) (sym (ap (flat_map (used_by rules env)) front ∙ one_more (used_by rules env) (take at names) n));
     }
   where
     refl_at : (xs : List Text) (k : ℕ) → k < length xs → get_or xs k (get_or xs k []) ≡ get_or xs k []
@@ -234,10 +241,10 @@ standing_next rules env asked names names' at so_far told told' sound sound' wit
     refl_at (y ∷ ys) (suc k) h = refl_at ys k (omega (arith, h))
 
 -- fewer names are left
-pub left_less : (rules : Rules) (env : List Pair) (asked names names' : List Text) (at : ℕ) (so_far : Bool) (told : Text) (sound : Bool) → at < length names → Standing rules env asked names at so_far told sound
+pub left_less : (rules : Rules) (env : List Pair) (before : List Used) (asked names names' : List Text) (at : ℕ) (so_far : Bool) (told : Text) (sound : Bool) (used : List Used) → at < length names → Standing rules env before asked names at so_far told sound used
     → names' ≡ with_names names (run_by_name rules.shell env (get_or names at []))
     → left rules.shell env (take (at + 1) names') + (length names' - (at + 1)) < left rules.shell env (take at names) + (length names - at)
-left_less rules env asked names names' at so_far told sound within s e =
+left_less rules env before asked names names' at so_far told sound used within s e =
     let n = get_or names at [] in
     let more = run_by_name rules.shell env n in
     let front : take (at + 1) names' ≡ take at names ++ n ∷ [] = ap (take (at + 1)) e ∙ take_turn names more at within in
@@ -247,8 +254,8 @@ left_less rules env asked names names' at so_far told sound within s e =
     omega (arith, fewer, long, within)
 
 -- after the last turn
-pub standing_last : (rules : Rules) (env : List Pair) (asked names : List Text) (at : ℕ) (so_far : Bool) (told : Text) (sound : Bool) → length names ≤ at → Standing rules env asked names at so_far told sound → ChecksNames rules env asked so_far told sound
-standing_last rules env asked names at so_far told sound past s =
+pub standing_last : (rules : Rules) (env : List Pair) (before : List Used) (asked names : List Text) (at : ℕ) (so_far : Bool) (told : Text) (sound : Bool) (used : List Used) → length names ≤ at → Standing rules env before asked names at so_far told sound used → TakesTurns rules env before asked so_far told sound used
+standing_last rules env before asked names at so_far told sound used past s =
     let all : take at names ≡ names = take_all at names past in
     record {
       order = names;
@@ -258,10 +265,11 @@ standing_last rules env asked names at so_far told sound past s =
       };
       told_is = s.told_is ∙ ap (flat_map (lines_of rules env)) all;
       sound_is = s.sound_is ∙ ap (λ ns. so_far && list_all (is_fine rules env) ns) all;
+      used_is = s.used_is ∙ ap (λ ns. before ++ flat_map (used_by rules env) ns) all;
     }
 
 -- before the first turn nothing is told
-pub begins_first : (rules : Rules) (env : List Pair) (asked : List Text) → BeginsCheck rules env asked []
+pub begins_first : (rules : Rules) (env : List Pair) (asked : List Text) → BeginsTurns rules env asked []
 begins_first rules env asked = record {
   turns = [];
   behind = once (asked ++ []);
@@ -271,12 +279,12 @@ begins_first rules env asked = record {
 }
 
 -- in a turn
-pub begins_next : (rules : Rules) (env : List Pair) (asked names : List Text) (at : ℕ) (so_far : Bool) (told : Text) (sound : Bool) → at < length names → Standing rules env asked names at so_far told sound
-    → BeginsCheck rules env asked (told ++ lines_of rules env (get_or names at []))
-begins_next rules env asked names at so_far told sound within s =
+pub begins_next : (rules : Rules) (env : List Pair) (before : List Used) (asked names : List Text) (at : ℕ) (so_far : Bool) (told : Text) (sound : Bool) (used : List Used) → at < length names → Standing rules env before asked names at so_far told sound used
+    → BeginsTurns rules env asked (told ++ lines_of rules env (get_or names at []))
+begins_next rules env before asked names at so_far told sound used within s =
     let n = get_or names at [] in
     let more = run_by_name rules.shell env n in
-    let next = standing_next rules env asked names (with_names names more) at so_far told (told ++ lines_of rules env n) sound (sound && is_fine rules env n) within s refl refl refl in
+    let next = standing_next rules env before asked names (with_names names more) at so_far told (told ++ lines_of rules env n) sound (sound && is_fine rules env n) used (used ++ used_by rules env n) within s refl refl refl refl in
     let all = with_names names more in
     record {
       turns = take (at + 1) all;

@@ -5,6 +5,8 @@ pub mod WalkLemmas
 pub mod CheckLemmas
 pub mod LinesLemmas
 pub mod CallsLemmas
+pub mod SetsLemmas
+pub mod UnsetLemmas
 pub mod AskedLemmas
 pub mod TellingLemmas
 pub mod ByShellLemmas
@@ -12,5 +14,6 @@ pub mod ScriptLemmas
 pub mod CheckExamples
 pub mod CallsExamples
 pub mod WarningsExamples
+pub mod UnsetExamples
 pub mod ByShellExamples
 mod ShownExamples

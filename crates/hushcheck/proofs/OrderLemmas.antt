@@ -29,6 +29,13 @@ once_item g xs i d now next name within is before e =
     let one : map g (take i xs) ++ g (get_or xs i d) ∷ [] ≡ map g (take (i + 1) xs) = sym (rw add-one (map-upto g xs i d within)) in
     e ∙ ap (λ ns. with_name ns name) before ∙ ap (with_name (once (map g (take i xs)))) is ∙ sym (with_names-append [] (map g (take i xs)) (g (get_or xs i d) ∷ [])) ∙ ap once one
 
+-- one more name after others
+pub added_item : {X : Type 0} (g : X → Text) (start : List Text) (xs : List X) (now next : List Text) (i : ℕ) (x : X) (name : Text) → i < length xs → x ≡ get_or xs i x → name ≡ g x → now ≡ with_names start (map g (take i xs)) → next ≡ with_name now name
+    → next ≡ with_names start (map g (take (i + 1) xs))
+added_item g start xs now next i x name within is so before e =
+    let one : map g (take i xs) ++ g x ∷ [] ≡ map g (take (i + 1) xs) = ap (λ y. map g (take i xs) ++ g y ∷ []) is ∙ sym (rw add-one (map-upto g xs i x within)) in
+    e ∙ ap (λ ns. with_name ns name) before ∙ ap (with_name (with_names start (map g (take i xs)))) so ∙ sym (with_names-append start (map g (take i xs)) (g x ∷ [])) ∙ ap (with_names start) one
+
 module _ {X : Type 0} (f : X → List Text) (start : List Text) (xs : List X) where
   -- the names of one more item
   pub names_item : (now next : List Text) (i : ℕ) (x : X) → i < length xs → x ≡ get_or xs i x → now ≡ with_names start (flat_map f (take i xs)) → next ≡ with_names now (f x) → next ≡ with_names start (flat_map f (take (i + 1) xs))
@@ -60,3 +67,6 @@ seen-if false names name = seen-append names name
 pub seen-insert : (old new : List (Vec ℕ Global)) (names : List Text) (name : Vec ℕ Global) → seen old ≡ names → new ≡ insert_key (λ a b. same a.items b.items) old name → seen new ≡ with_name names name.items
 seen-insert old new names name view e =
     ap seen e ∙ seen-if (list_any (λ b. same name.items b.items) old) old name ∙ ap (λ b. if b then seen old else seen old ++ name.items ∷ []) (any_seen name old) ∙ ap (λ ns. with_name ns name.items) view
+
+pub seen-there : (old : List (Vec ℕ Global)) (names : List Text) (name : Vec ℕ Global) → seen old ≡ names → list_any (λ b. same name.items b.items) old ≡ list_any (same name.items) names
+seen-there old names name view = any_seen name old ∙ ap (list_any (same name.items)) view

@@ -1,15 +1,16 @@
--- What is found in the calls of a text: a command that the device list lacks, and a name of `run` that is not followed.
--- Ours.
-use Rattle.std.specs.Prelude.{◌||◌, ◌++◌, ℕ, Bool, true, false, not, List, [], ◌∷◌, length, map, filter, drop, Option, Some, None, codes, is_some, if◌then◌else◌}
+-- What is found in the calls of a text: a command that the device list lacks, a name of `run` that is not followed, and a
+-- call that may set variables whose names are not known; and which variables the text reads and sets. Ours.
+use Rattle.std.specs.Prelude.{◌||◌, ◌++◌, ℕ, Bool, true, false, not, List, [], ◌∷◌, map, filter, drop, Option, Some, None, codes, is_some, if◌then◌else◌}
 use Rattle.std.specs.List.{flat_map, fold, list_any}
 use Rattle.std.specs.Str.{bytes_eq}
 use Rattle.hushlang.specs.CursorShown.{input_in}
 use Rattle.hushlang.specs.Grammar.{is_word}
 use Rattle.hushlang.specs.Token.{Token}
-use Rattle.hushlang.specs.Tree.{Script, Empty, Runs, AndOr, Starts, Joined, Alone, Joins, Command, Simple, Assign, If, Loop, For, Arms, NoElse, Else, Arm, Word}
+use Rattle.hushlang.specs.Tree.{Script, Empty, Runs, AndOr, Starts, Joined, Alone, Joins, Command, Simple, Assign, If, Loop, For, Arms, NoElse, Else, Arm, Word, Bytes, Mark, Var, Status}
 use Rattle.builtins.specs.Builtins.{is_built_in}
 use Rattle.device_list.specs.DeviceList.{Devices, is_listed}
 use Rattle.text.specs.Escapes.{word_form}
+use Rattle.hushcheck.specs.CallSets.{Sets, set_by_call}
 use Rattle.hushcheck.specs.Names.{Text, is_run, written_out}
 use Rattle.hushcheck.specs.Places.{lines_at}
 use Rattle.hushcheck.specs.WarningTexts.{warning_text}
@@ -38,16 +39,26 @@ pub data Remark : Type 0 where
   NotFollowed : Remark
   -- the device list lacks a command
   Lacks : (name : Text) → Remark
+  -- a call may set variables whose names are not known
+  SetsMore : Remark
+  -- nothing sets a variable that is read
+  Unset : (name : Text) → Remark
   -- a shell of U-Boot reads something otherwise
   Warns : (warning : Warning) → Remark
 
--- the device list, the places of the words that are left, what was found at which places, and whether a command is
--- lacking
+-- a variable that a word reads, and the place of the word
+abbrev pub Read : Type 0
+Read = ℕ × Text
+
+-- the device list, the places of the words that are left, what was found at which places, whether a command is lacking,
+-- and the variables that are read and those that are set
 pub record Reading : Type 0 where
   pub devices : Option Devices
   pub left : List ℕ
   pub found : List (ℕ × Remark)
   pub lacks : Bool
+  pub reads : List Read
+  pub sets : List Text
 
 -- the place of the next word
 abbrev pub first_place : List ℕ → ℕ
@@ -61,11 +72,29 @@ skip count r = record r { left = drop count r.left }
 abbrev pub find : Remark → Reading → Reading
 find what r = record r { found = r.found ++ (first_place r.left, what) ∷ [] }
 
+-- ---- a word
+
+-- the variables that it reads, at its place
+abbrev pub reads_in : ℕ → Word → List Read
+reads_in at [] = []
+reads_in at (Var name split ∷ more) = (at, name) ∷ reads_in at more
+reads_in at (Bytes bytes ∷ more) = reads_in at more
+reads_in at (Mark ∷ more) = reads_in at more
+reads_in at (Status ∷ more) = reads_in at more
+
+-- the next word is passed, and what it reads is kept
+abbrev pub after_word : Reading → Word → Reading
+after_word r word = skip 1 (record r { reads = r.reads ++ reads_in (first_place r.left) word })
+
+-- a name is set
+abbrev pub set_name : Text → Reading → Reading
+set_name name r = record r { sets = r.sets ++ name ∷ [] }
+
 -- ---- the words of a call
 
 -- a name of `run`: it is followed if it is written out
 abbrev pub after_operand : Reading → Word → Reading
-after_operand r word = skip 1 (if is_some (written_out word) then r else find NotFollowed r)
+after_operand r word = after_word (if is_some (written_out word) then r else find NotFollowed r) word
 
 abbrev pub find_lacking : Text → Reading → Reading
 find_lacking name r = record (find (Lacks name) r) { lacks = true }
@@ -75,11 +104,24 @@ abbrev pub after_name : Reading → Option Text → Reading
 after_name r None = r
 after_name r (Some name) = if is_lacking r.devices name then find_lacking name r else r
 
+-- what the call sets
+abbrev pub after_sets : Sets → Reading → Reading
+after_sets s r = record (if s.more then find SetsMore r else r) { sets = r.sets ++ s.names }
+
+-- a call that is not of `run`
+abbrev pub after_call : Reading → Word → List Word → Reading
+after_call r word words =
+    fold after_word
+    (after_word (after_sets (set_by_call r.devices (written_out word) words) (after_name r (written_out word))) word) words
+
 abbrev pub after_words : Reading → List Word → Reading
 after_words r [] = r
 after_words r (word ∷ words) =
-    if is_run (written_out word) then fold after_operand (skip 1 r) words
-    else skip (length words) (skip 1 (after_name r (written_out word)))
+    if is_run (written_out word) then fold after_operand (skip 1 r) words else after_call r word words
+
+-- an assignment
+abbrev pub after_value : Reading → Text × Word → Reading
+after_value r value = after_word (set_name value.0 r) value.1
 
 -- ---- the tree in the order of the text: each reserved word and each word of a `for` or of an assignment is one word
 
@@ -97,13 +139,14 @@ abbrev mutual
 
   pub after_command : Reading → Command → Reading
   after_command r (Simple words) = after_words r words
-  after_command r (Assign values) = skip (length values) r
+  after_command r (Assign values) = fold after_value r values
   -- `fi` is the last word
   after_command r (If arms) = skip 1 (after_arms r arms)
   -- `while` or `until`, the condition, `do`, the body, `done`
   after_command r (Loop until cond body) = skip 1 (after_script (skip 1 (after_script (skip 1 r) cond)) body)
   -- `for NAME in WORD..`, and `do`, the body, `done`
-  after_command r (For name words body) = skip 1 (after_script (skip 1 (skip (length words) (skip 3 r))) body)
+  after_command r (For name words body) =
+      skip 1 (after_script (skip 1 (fold after_word (skip 3 (set_name name r)) words)) body)
 
   -- `if` or `elif`, the condition, `then`, the block; `else` and its block
   pub after_arms : Reading → Arms → Reading
@@ -122,6 +165,8 @@ begun devices text = record {
   left = word_places (input_in text).tokens;
   found = [];
   lacks = false;
+  reads = [];
+  sets = [];
 }
 
 -- what is read of the script that a text is
@@ -133,6 +178,8 @@ calls_of devices text script = after_script (begun devices text) script
 abbrev pub remark_text : Remark → Text
 remark_text NotFollowed = codes "note: not followed, since the name holds a variable"
 remark_text (Lacks name) = codes "the device list lacks " ++ word_form name
+remark_text SetsMore = codes "note: which variables this sets is not known"
+remark_text (Unset name) = codes "warning: nothing sets " ++ word_form name
 remark_text (Warns warning) = warning_text warning
 
 -- the lines of a word

@@ -5,11 +5,15 @@ pub mod Rules
 pub mod Order
 pub mod Places
 pub mod WarningTexts
+pub mod CallSets
+pub mod CallSetsShown
 pub mod Calls
 pub mod Sights
 pub mod Seats
 pub mod Warnings
 pub mod WarningsByShell
 pub mod Remarks
+pub mod Unset
+pub mod UsedShown
 pub mod Report
 pub mod Telling

@@ -1,5 +1,5 @@
 -- What is reported of each text. Ours; the faults are those of the language.
-use Rattle.std.specs.Prelude.{◌≡◌, ◌==◌, ◌&&◌, ◌++◌, ℕ, Bool, true, false, not, List, length, map, Option, Some, None, Result, Ok, Err, Contains, codes, if◌then◌else◌}
+use Rattle.std.specs.Prelude.{◌≡◌, ◌⊎◌, ◌==◌, ◌&&◌, ◌++◌, ℕ, [], Bool, true, false, not, List, length, map, Option, Some, None, Result, Ok, Err, Contains, codes, if◌then◌else◌}
 use Rattle.std.specs.List.{flat_map, list_all, list_any}
 use Rattle.envimage.specs.Data.{Pair}
 use Rattle.envtools.specs.Environment.{value_of}
@@ -11,6 +11,7 @@ use Rattle.hushcheck.specs.Names.{Text, read_by, run_by_name, run_by_text}
 use Rattle.hushcheck.specs.Order.{IsOrder, IsReached, once}
 use Rattle.hushcheck.specs.Places.{lines_at}
 use Rattle.hushcheck.specs.Calls.{calls_of, found_lines}
+use Rattle.hushcheck.specs.Unset.{Used, has_unset, set_names, unset_lines, used_by, used_by_text}
 use Rattle.hushcheck.specs.Warnings.{blocks_of}
 use Rattle.hushcheck.specs.WarningsByShell.{warnings_by}
 use Rattle.rehearse_terms.specs.declared.shell.Shell.{Shell}
@@ -74,9 +75,14 @@ lines_of_value rules name (Some text) = lines_of_text rules name text
 abbrev pub lines_of : Rules → List Pair → Text → Text
 lines_of rules env name = lines_of_value rules name (value_of env name)
 
--- the text is well-formed, and the device list lacks no command of it
+-- there is a warning of the text
+abbrev pub is_warned : Rules → (text : Text) → Bool
+is_warned rules text = not (length (warnings_by rules.shell text) == 0)
+
+-- the text is well-formed, the device list lacks no command of it, and if a warning is a fault, it has none
 abbrev pub is_fine_read : Rules → (text : Text) → Result Script SyntaxError → Bool
-is_fine_read rules text (Ok script) = not (calls_of rules.devices text script).lacks
+is_fine_read rules text (Ok script) =
+    not (calls_of rules.devices text script).lacks && not (rules.strict && is_warned rules text)
 is_fine_read rules text (Err error) = false
 
 abbrev pub is_fine_text : Rules → (text : Text) → Bool
@@ -90,27 +96,59 @@ is_fine_value rules (Some text) = is_fine_text rules text
 abbrev pub is_fine : Rules → List Pair → Text → Bool
 is_fine rules env name = is_fine_value rules (value_of env name)
 
--- the lines of the names that are reached, in their order, and whether all is well: it was so far, and each text that is
--- reached is fine
-pub record ChecksNames (rules : Rules) (env : List Pair) (asked : List Text) (so_far : Bool) (told : Text) (sound : Bool) :
-    Type 0 where
+-- the lines of the names that are reached, in their order; whether all is well: it was so far, and each text that is
+-- reached is fine; and what the texts use, after what was used before
+pub record TakesTurns (rules : Rules) (env : List Pair) (before : List Used) (asked : List Text) (so_far : Bool) (told : Text)
+    (sound : Bool) (used : List Used) : Type 0 where
   pub order : List Text
   pub is_order : IsOrder rules.shell env asked order
   pub told_is : told ≡ flat_map (lines_of rules env) order
   pub sound_is : sound ≡ (so_far && list_all (is_fine rules env) order)
+  pub used_is : used ≡ before ++ flat_map (used_by rules env) order
+
+-- what nothing sets of what the texts use, and whether there is such a variable
+abbrev pub last_lines : Rules → List Pair → List Used → Text
+last_lines rules env used = unset_lines (set_names rules.devices env used) used
+
+abbrev pub lacks_set : Rules → List Pair → List Used → Bool
+lacks_set rules env used = has_unset (set_names rules.devices env used) used
+
+-- The lines of the names that are reached, in their order, and after them what nothing sets.
+pub record AreLines (rules : Rules) (env : List Pair) (before : List Used) (asked order : List Text) (told : Text) :
+    Type 0 where
+  pub is_order : IsOrder rules.shell env asked order
+  pub told_is : told ≡ flat_map (lines_of rules env) order
+      ++ last_lines rules env (before ++ flat_map (used_by rules env) order)
+
+-- These lines, and whether all is well: it was so far, each text that is reached is fine, and if a warning is a fault,
+-- something sets each variable that is read.
+pub record ChecksNames (rules : Rules) (env : List Pair) (before : List Used) (asked : List Text) (so_far : Bool)
+    (told : Text) (sound : Bool) : Type 0 where
+  pub order : List Text
+  pub lines : AreLines rules env before asked order told
+  pub sound_is : sound ≡ ((so_far && list_all (is_fine rules env) order)
+      && not (rules.strict && lacks_set rules env (before ++ flat_map (used_by rules env) order)))
 
 -- the same where each name that is asked for has to be set
 abbrev pub Checks : Rules → List Pair → (asked : List Text) → (told : Text) → (sound : Bool) → Type 0
-Checks rules env asked told sound = ChecksNames rules env asked (all_found env asked) told sound
+Checks rules env asked told sound = ChecksNames rules env [] asked (all_found env asked) told sound
 
 -- What is told of a check that does not come to its end: the lines of the names whose turn has come, which are the first
 -- of those that are asked for and that the texts of these run.
-pub record BeginsCheck (rules : Rules) (env : List Pair) (asked : List Text) (told : Text) : Type 0 where
+pub record BeginsTurns (rules : Rules) (env : List Pair) (asked : List Text) (told : Text) : Type 0 where
   pub turns : List Text
   pub behind : List Text
   pub in_turn : once (asked ++ flat_map (run_by_name rules.shell env) turns) ≡ turns ++ behind
   pub reached : (name : Text) → Contains turns name → IsReached rules.shell env asked name
   pub told_is : told ≡ flat_map (lines_of rules env) turns
+
+-- Or all lines, if it ends within those of what nothing sets.
+abbrev pub BeginsNames : Rules → List Pair → (before : List Used) → (asked : List Text) → (told : Text) → Type 0
+BeginsNames rules env before asked told =
+    BeginsTurns rules env asked told ⊎ ((order : List Text) × AreLines rules env before asked order told)
+
+abbrev pub BeginsCheck : Rules → List Pair → (asked : List Text) → (told : Text) → Type 0
+BeginsCheck rules env asked told = BeginsNames rules env [] asked told
 
 -- ---- a script that is no variable's text
 
@@ -124,13 +162,14 @@ pub record ChecksScript (rules : Rules) (env : List Pair) (name text : Text) (as
     Type 0 where
   pub rest : Text
   pub told_is : told ≡ lines_of_text rules name text ++ rest
-  pub checks : ChecksNames rules env (behind_script rules text asked) (all_found env asked && is_fine_text rules text) rest sound
+  pub checks : ChecksNames rules env (used_by_text rules name text) (behind_script rules text asked)
+      (all_found env asked && is_fine_text rules text) rest sound
 
 -- what is told if that does not come to its end
 pub record BeginsScript (rules : Rules) (env : List Pair) (name text : Text) (asked : List Text) (told : Text) : Type 0 where
   pub rest : Text
   pub told_is : told ≡ lines_of_text rules name text ++ rest
-  pub begins : BeginsCheck rules env (behind_script rules text asked) rest
+  pub begins : BeginsNames rules env (used_by_text rules name text) (behind_script rules text asked) rest
 
 -- ---- which names are asked for
 

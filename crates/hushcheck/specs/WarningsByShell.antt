@@ -1,6 +1,6 @@
 -- Which warnings a text has, by the shell that the call names. Ours.
 use Rattle.std.specs.Prelude.{ℕ, ◌++◌, ◌&&◌, not, Bool, true, false, List, [], ◌∷◌, filter, Option, Some, None, is_some}
-use Rattle.hushcheck.specs.Calls.{Remark, NotFollowed, Lacks, Warns}
+use Rattle.hushcheck.specs.Calls.{Remark, NotFollowed, Lacks, SetsMore, Unset, Warns}
 use Rattle.hushcheck.specs.Names.{Text, old_script}
 use Rattle.hushcheck.specs.Warnings.{warnings_of}
 use Rattle.hushcheck.specs.declared.warning.Warning.{Warning}
@@ -33,6 +33,8 @@ abbrev pub tells_remark : Option Shell → Remark → Bool
 tells_remark shell (Warns warning) = tells shell warning
 tells_remark shell NotFollowed = true
 tells_remark shell (Lacks name) = true
+tells_remark shell SetsMore = true
+tells_remark shell (Unset name) = true
 
 abbrev pub is_old : Option Shell → Bool
 is_old None = false

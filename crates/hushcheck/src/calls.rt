@@ -1,13 +1,15 @@
 //! What is found in the calls of a script.
 ghost use Rattle.std.specs.Prelude.{◌≡◌, map, option_map, IfOk, OnOk};
 ghost use Rattle.std.specs.List.{fold};
+ghost use Rattle.std.specs.Option.{option_copied};
 ghost use Rattle.hushlang.specs.TreesShown as view;
+ghost use Rattle.hushcheck.specs.CallSetsShown.{names_shown};
 ghost use Rattle.hushcheck.specs.Calls as spec;
 ghost use Rattle.hushcheck.specs.Names as names;
 ghost use Rattle.hushcheck.specs.Remarks as shown;
 
 use crate::reading::{Reading, word_places};
-use crate::remark::{Found, Remark};
+use crate::remark::{Found, Read, Remark};
 use crate::walk::{is_run, written_out};
 use device_list::Devices;
 use hushlang::{AndOr, Command, Script, Word};
@@ -21,6 +23,10 @@ pub(crate) struct Calls {
     pub(crate) found: Vec<Found>,
     /// Whether the device list lacks a command.
     pub(crate) lacks: bool,
+    /// The variables that the text reads, in its order.
+    pub(crate) reads: Vec<Read>,
+    /// The names of the variables that it sets.
+    pub(crate) sets: Vec<Vec<u8>>,
 }
 
 /// Reads a name that `run` is given. Errors: memory ran out.
@@ -31,8 +37,7 @@ fn read_operand(alloc: Global, word: &Word, reading: &mut Reading<'_>) -> Result
     if written_out(alloc, word)?.is_none() {
         reading.find(Remark::NotFollowed)?;
     }
-    reading.skip(1);
-    Ok(())
+    reading.pass(alloc, word)
 }
 
 /// Reads the names that `run` is given. Errors: memory ran out.
@@ -46,15 +51,64 @@ fn read_operands(alloc: Global, words: &[Word], reading: &mut Reading<'_>) -> Re
     Ok(())
 }
 
-/// Reads the first word of a call. Errors: memory ran out.
-fn read_name(alloc: Global, word: &Word, reading: &mut Reading<'_>) -> Result<(), AllocError>
+/// Looks a command up, if its name is written out. Errors: memory ran out.
+fn read_name(
+    alloc: Global,
+    name: Option<&[u8]>,
+    reading: &mut Reading<'_>,
+) -> Result<(), AllocError>
     ensures { OnOk result (reading.new
-        ≡ spec.after_name reading.old (names.written_out (view.word word.now))) }
+        ≡ spec.after_name reading.old (option_copied name.entry)) }
 {
-    match written_out(alloc, word)? {
-        Some(name) => reading.find_if_lacking(name),
+    match name {
+        Some(name) => reading.find_if_lacking(alloc, name),
         None => Ok(()),
     }
+}
+
+/// Passes over words, and keeps what they read. Errors: memory ran out.
+fn pass_words(alloc: Global, words: &[Word], reading: &mut Reading<'_>) -> Result<(), AllocError>
+    ensures { OnOk result (reading.new
+        ≡ fold spec.after_word reading.old (map view.word words.now)) }
+{
+    for word in words {
+        reading.pass(alloc, word)?;
+    }
+    Ok(())
+}
+
+/// Reads a call that is not of `run`. Errors: memory ran out.
+fn read_call(
+    alloc: Global,
+    first: &Word,
+    operands: &[Word],
+    reading: &mut Reading<'_>,
+) -> Result<(), AllocError>
+    ensures { OnOk result (reading.new
+        ≡ spec.after_call reading.old (view.word first.now) (map view.word operands.now)) }
+{
+    let name = written_out(alloc, first)?;
+    let name = name.as_deref();
+    read_name(alloc, name, reading)?;
+    reading.keep_call(alloc, name, operands)?;
+    reading.pass(alloc, first)?;
+    pass_words(alloc, operands, reading)
+}
+
+/// Reads assignments. Errors: memory ran out.
+fn read_values(
+    alloc: Global,
+    values: &[(Vec<u8>, Word)],
+    reading: &mut Reading<'_>,
+) -> Result<(), AllocError>
+    ensures { OnOk result (reading.new
+        ≡ fold spec.after_value reading.old (map view.value values.now)) }
+{
+    for (name, word) in values {
+        reading.set(alloc, name)?;
+        reading.pass(alloc, word)?;
+    }
+    Ok(())
 }
 
 /// Reads the words of a call. Errors: memory ran out.
@@ -69,10 +123,7 @@ fn read_words(alloc: Global, words: &[Word], reading: &mut Reading<'_>) -> Resul
         reading.skip(1);
         return read_operands(alloc, operands, reading);
     }
-    read_name(alloc, first, reading)?;
-    reading.skip(1);
-    reading.skip(operands.len());
-    Ok(())
+    read_call(alloc, first, operands, reading)
 }
 
 /// Reads a script. Errors: memory ran out.
@@ -110,10 +161,7 @@ fn read_command(
 {
     match command {
         Command::Simple(call) => read_words(alloc, call.words(), reading),
-        Command::Assign(values) => {
-            reading.skip(values.len());
-            Ok(())
-        }
+        Command::Assign(values) => read_values(alloc, values, reading),
         Command::If { arms, other } => {
             read_arms(alloc, arms, reading)?;
             match other {
@@ -134,9 +182,10 @@ fn read_command(
             reading.skip(1);
             Ok(())
         }
-        Command::For { words, body, .. } => {
+        Command::For { name, words, body } => {
+            reading.set(alloc, name)?;
             reading.skip(3);
-            reading.skip(words.len());
+            pass_words(alloc, words, reading)?;
             reading.skip(1);
             read_script(alloc, body, reading)?;
             reading.skip(1);
@@ -177,10 +226,27 @@ pub(crate) fn calls_of(
     ensures lacks { IfOk result (λ calls. calls.lacks
         ≡ (spec.calls_of (option_map (λ d. d.now) devices.entry) text.now
         (view.script script.now)).lacks) }
+    ensures reads { IfOk result (λ calls. shown.all_read calls.reads.items
+        ≡ (spec.calls_of (option_map (λ d. d.now) devices.entry) text.now
+        (view.script script.now)).reads) }
+    ensures sets { IfOk result (λ calls. names_shown calls.sets.items
+        ≡ (spec.calls_of (option_map (λ d. d.now) devices.entry) text.now
+        (view.script script.now)).sets) }
 {
     let places = word_places(alloc, text)?;
     let mut reading = Reading::new(alloc, devices, &places);
     read_script(alloc, script, &mut reading)?;
-    let Reading { found, lacks, .. } = reading;
-    Ok(Calls { found, lacks })
+    let Reading {
+        found,
+        lacks,
+        reads,
+        sets,
+        ..
+    } = reading;
+    Ok(Calls {
+        found,
+        lacks,
+        reads,
+        sets,
+    })
 }

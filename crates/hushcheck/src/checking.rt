@@ -1,17 +1,22 @@
 //! The texts that are reached, and what is reported of each.
-ghost use Rattle.std.specs.Prelude.{◌≡◌, ◌&&◌, ◌++◌, ◌<◌, [], length, map, option_map, IfOk, OnOk, slice_index_or};
+ghost use Rattle.std.specs.Prelude.{◌≡◌, ◌==◌, ◌&&◌, ◌++◌, ◌<◌, [], length, map, not, option_map, IfOk, OnOk, slice_index_or};
 ghost use Rattle.envtools.specs.Printing.{all_found};
 ghost use Rattle.hushcheck.specs.Names.{run_by_found, run_by_name, run_by_text};
 ghost use Rattle.hushcheck.specs.Order.{once, with_names};
+ghost use Rattle.hushcheck.specs.Rules.{held_to};
 ghost use Rattle.hushcheck.specs.Report.{is_fine, is_fine_text, lines_of, lines_of_text};
-ghost use Rattle.hushcheck.specs.Telling.{Writes, WritesCheck, WritesNames, WritesScript};
+ghost use Rattle.hushcheck.specs.Telling.{Writes, WritesCheck, WritesNames, WritesScript, WritesTurns};
+ghost use Rattle.hushcheck.specs.Unset.{used_by, used_by_text};
+ghost use Rattle.hushcheck.specs.UsedShown.{all_used};
 
 use crate::by_shell::{TextRead, read_by, warnings_by};
-use crate::calls::calls_of;
+use crate::calls::{Calls, calls_of};
 use crate::check_error::CheckError;
 use crate::names::{Names, asked_names};
+use crate::remark::Found;
 use crate::rules::Rules;
 use crate::telling::{write_fault, write_read, write_unset};
+use crate::unset::{Used, add_used, set_names, write_unset_reads};
 use crate::walk::add_script;
 use device_list::Devices;
 use envtools::Env;
@@ -48,32 +53,51 @@ struct Checked {
     fine: bool,
 }
 
-/// Checks a text, and writes its lines.
-fn check_text<O: Out>(
+/// Whether a well-formed text is fine: the device list lacks no command of it, and if a warning is a fault, it
+/// has none.
+fn is_fine(strict: bool, lacks: bool, warnings: &[Found]) -> bool
+    ensures { result ≡ (not lacks && not (strict && not (length warnings.now == 0))) }
+{
+    !lacks && !(strict && !warnings.is_empty())
+}
+
+/// Checks a text, writes its lines, and adds what it uses.
+fn check_text<'a, O: Out>(
     alloc: Global,
     devices: Option<&Devices>,
     shell: Option<Shell>,
+    strict: bool,
     name: &[u8],
-    text: &[u8],
+    text: &'a [u8],
+    used: &mut Vec<Used<'a>>,
     out: &mut O,
 ) -> Result<Checked, CheckError>
     ensures lines { Writes result (O.sink out.old) (O.sink out.new)
-        (lines_of_text record { devices = option_map (λ d. d.now) devices.entry; shell = shell }
+        (lines_of_text (held_to (option_map (λ d. d.now) devices.entry) shell strict)
         name.now text.now) }
     ensures fine { IfOk result (λ checked. checked.fine ≡ is_fine_text
-        record { devices = option_map (λ d. d.now) devices.entry; shell = shell } text.now) }
+        (held_to (option_map (λ d. d.now) devices.entry) shell strict) text.now) }
     ensures script { IfOk result (λ checked. run_by_found checked.script
         ≡ run_by_text shell text.now) }
+    ensures used { OnOk result (all_used used.new.items ≡ all_used used.old.items ++ used_by_text
+        (held_to (option_map (λ d. d.now) devices.entry) shell strict) name.now text.now) }
 {
     let TextRead { script, by_old } = read_by(alloc, shell, text)?;
     let warnings = warnings_by(alloc, shell, by_old, text)?;
     match script {
         Ok(script) => {
             let calls = calls_of(alloc, devices, text, &script)?;
-            write_read(alloc, name, text, &warnings.found, &calls.found, out)?;
+            let Calls {
+                found,
+                lacks,
+                reads,
+                sets,
+            } = calls;
+            add_used(alloc, used, name, text, reads, sets)?;
+            write_read(alloc, name, text, &warnings.found, &found, out)?;
             Ok(Checked {
                 script: Some(script),
-                fine: !calls.lacks,
+                fine: is_fine(strict, lacks, &warnings.found),
             })
         }
         Err(SyntaxError::Memory) => Err(CheckError::Memory),
@@ -87,12 +111,13 @@ fn check_text<O: Out>(
     }
 }
 
-/// Checks a variable, and writes its lines.
-fn check_name<O: Out>(
+/// Checks a variable, writes its lines, and adds what its text uses.
+fn check_name<'a, O: Out>(
     alloc: Global,
     rules: &Rules<'_>,
-    env: &Env,
+    env: &'a Env,
     name: &[u8],
+    used: &mut Vec<Used<'a>>,
     out: &mut O,
 ) -> Result<Checked, CheckError>
     ensures lines { Writes result (O.sink out.old) (O.sink out.new)
@@ -101,9 +126,22 @@ fn check_name<O: Out>(
         ≡ is_fine rules.now env.now name.now) }
     ensures script { IfOk result (λ checked. run_by_found checked.script
         ≡ run_by_name rules.now.shell env.now name.now) }
+    ensures used { OnOk result (all_used used.new.items
+        ≡ all_used used.old.items ++ used_by rules.now env.now name.now) }
 {
     match env.get(name) {
-        Some(text) => check_text(alloc, rules.devices, rules.shell, name, text, out),
+        Some(text) => {
+            check_text(
+                alloc,
+                rules.devices,
+                rules.shell,
+                rules.strict,
+                name,
+                text,
+                used,
+                out,
+            )
+        }
         None => {
             write_unset(alloc, name, out)?;
             Ok(Checked {
@@ -124,14 +162,15 @@ fn add_found(alloc: Global, script: Option<Script>, names: &mut Names) -> Result
     }
 }
 
-/// Checks the variable at a place, writes its lines, and adds the names that its text runs. Returns
-/// whether nothing is wrong with it.
-fn take_turn<O: Out>(
+/// Checks the variable at a place, writes its lines, and adds the names that its text runs, and what it uses.
+/// Returns whether nothing is wrong with it.
+fn take_turn<'a, O: Out>(
     alloc: Global,
     rules: &Rules<'_>,
-    env: &Env,
+    env: &'a Env,
     names: &mut Names,
     at: usize,
+    used: &mut Vec<Used<'a>>,
     out: &mut O,
 ) -> Result<bool, CheckError>
     requires { at < length names.old }
@@ -141,9 +180,11 @@ fn take_turn<O: Out>(
     ensures fine { IfOk result (λ fine. fine ≡ is_fine rules.now env.now (slice_index_or names.old at [])) }
     ensures names { OnOk result (names.new
         ≡ with_names names.old (run_by_name rules.now.shell env.now (slice_index_or names.old at []))) }
+    ensures used { OnOk result (all_used used.new.items
+        ≡ all_used used.old.items ++ used_by rules.now env.now (slice_index_or names.old at [])) }
 {
     let name = names.name_at(at);
-    let Checked { script, fine } = check_name(alloc, rules, env, name, out)?;
+    let Checked { script, fine } = check_name(alloc, rules, env, name, used, out)?;
     add_found(alloc, script, names)?;
     Ok(fine)
 }
@@ -159,39 +200,74 @@ fn names_behind(alloc: Global, asked: &[&[u8]], script: Option<Script>) -> Resul
 }
 
 /// Checks the variables that are asked for, and those that a script runs, if there is one, and then those
-/// that the text of each in turn runs. Returns whether all is well, as it was so far.
-fn check_names<O: Out>(
+/// that the text of each in turn runs, and adds what the texts use. Returns whether all is well, as it was
+/// so far.
+fn check_turns<'a, O: Out>(
     alloc: Global,
     rules: &Rules<'_>,
-    env: &Env,
+    env: &'a Env,
     asked: &[&[u8]],
     script: Option<Script>,
     so_far: bool,
+    used: &mut Vec<Used<'a>>,
     out: &mut O,
 ) -> Result<bool, CheckError>
-    ensures { WritesNames rules.now env.now
-        (map (λ name. name.now) asked.now ++ run_by_found script) so_far result
-        (O.sink out.old) (O.sink out.new) }
+    ensures { WritesTurns rules.now env.now (all_used used.old.items)
+        (map (λ name. name.now) asked.now ++ run_by_found script) so_far
+        (all_used used.new.items) result (O.sink out.old) (O.sink out.new) }
 {
     let mut names = names_behind(alloc, asked, script)?;
     let mut sound = so_far;
     let mut at = 0;
     'names: while at < names.len() {
-        let fine = take_turn(alloc, rules, env, &mut names, at, out)?;
+        let fine = take_turn(alloc, rules, env, &mut names, at, used, out)?;
         sound = both(sound, fine);
         at += 1;
     }
     Ok(sound)
 }
 
+/// Whether all is well, if it was so far, and if something may be read that nothing sets.
+fn is_well(strict: bool, sound: bool, unset: bool) -> bool
+    ensures { result ≡ (sound && not (strict && unset)) }
+{
+    sound && !(strict && unset)
+}
+
+/// The same, and then writes which variables nothing sets, of those that these texts and the texts before them
+/// read.
+fn check_names<'a, O: Out>(
+    alloc: Global,
+    rules: &Rules<'_>,
+    env: &'a Env,
+    asked: &[&[u8]],
+    script: Option<Script>,
+    so_far: bool,
+    used: Vec<Used<'a>>,
+    out: &mut O,
+) -> Result<bool, CheckError>
+    ensures { WritesNames rules.now env.now (all_used used.entry.items)
+        (map (λ name. name.now) asked.now ++ run_by_found script) so_far result
+        (O.sink out.old) (O.sink out.new) }
+{
+    let mut used = used;
+    let sound = check_turns(alloc, rules, env, asked, script, so_far, &mut used, out)?;
+    let known = set_names(alloc, rules.devices, env, &used)?;
+    let unset = write_unset_reads(alloc, known, &used, out)?;
+    Ok(is_well(rules.strict, sound, unset))
+}
+
 /// Checks the variables that are asked for, and then the variables that the text of each in turn
 /// runs by a name that is written out, each once. Writes for each whether its text is well-formed,
 /// and if not, where it breaks; what U-Boot's shells read otherwise in it, or if a shell is named,
 /// what a rehearsal by it does not follow; which commands the device list lacks, if there is one;
-/// and which names of `run` are not followed. With an old shell a text is well-formed too if that
-/// shell reads it. Returns whether all is well: each name that is asked for is set, each text is
-/// well-formed, and the device list lacks no command. The lines are written as the check goes.
-/// Errors: the output failed, or memory ran out; the first lines are then written.
+/// which names of `run` are not followed; and of which calls it is not known what they set. With an old
+/// shell a text is well-formed too if that shell reads it. Then writes which variables nothing sets, of those
+/// that the texts read: neither the environment has them, nor the device list gives them, nor a text sets them.
+/// Each is written once, at the first word that reads it. Returns whether all is well: each name that is asked
+/// for is set, each text is well-formed, the device list lacks no command, and if a warning is a fault, there
+/// is none. The lines are written as the check goes. Errors: the output failed, or memory ran out; the first
+/// lines are then written.
 pub fn check<O: Out>(
     alloc: Global,
     rules: &Rules<'_>,
@@ -202,26 +278,38 @@ pub fn check<O: Out>(
     ensures { WritesCheck rules.now env.now
         (map (λ name. name.now) asked.now) result (O.sink out.old) (O.sink out.new) }
 {
-    let are_set = are_set(env, asked);
-    check_names(alloc, rules, env, asked, None, are_set, out)
+    let so_far = are_set(env, asked);
+    let used = Vec::new(alloc);
+    check_names(alloc, rules, env, asked, None, so_far, used, out)
 }
 
 /// Checks a script that is no variable's text, under this name, and then as `check` the variables that are
 /// asked for and those that the script runs. Returns whether all is well: as `check` says, and the script is
-/// well-formed and the device list lacks no command of it. Errors: those of `check`.
-pub fn check_script<O: Out>(
+/// well-formed, the device list lacks no command of it, and if a warning is a fault, it has none. Errors: those
+/// of `check`.
+pub fn check_script<'a, O: Out>(
     alloc: Global,
     rules: &Rules<'_>,
-    env: &Env,
+    env: &'a Env,
     name: &[u8],
-    text: &[u8],
+    text: &'a [u8],
     asked: &[&[u8]],
     out: &mut O,
 ) -> Result<bool, CheckError>
     ensures { WritesScript rules.now env.now name.now text.now
         (map (λ name. name.now) asked.now) result (O.sink out.old) (O.sink out.new) }
 {
-    let checked = check_text(alloc, rules.devices, rules.shell, name, text, out)?;
+    let mut used = Vec::new(alloc);
+    let checked = check_text(
+        alloc,
+        rules.devices,
+        rules.shell,
+        rules.strict,
+        name,
+        text,
+        &mut used,
+        out,
+    )?;
     let so_far = both(are_set(env, asked), checked.fine);
-    check_names(alloc, rules, env, asked, checked.script, so_far, out)
+    check_names(alloc, rules, env, asked, checked.script, so_far, used, out)
 }

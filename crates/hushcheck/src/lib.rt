@@ -3,6 +3,7 @@
 
 mod asked;
 mod by_shell;
+mod call_sets;
 mod calls;
 mod check_error;
 mod checking;
@@ -17,6 +18,7 @@ mod seat;
 mod shown;
 mod sights;
 mod telling;
+mod unset;
 mod walk;
 mod warning;
 mod watch;

@@ -92,6 +92,13 @@ fn push_remark(told: &mut Vec<u8>, remark: &Remark) -> Result<(), AllocError>
             told.extend_from_slice(b"the device list lacks ")?;
             push_name(told, name)
         }
+        Remark::SetsMore => {
+            told.extend_from_slice(b"note: which variables this sets is not known")
+        }
+        Remark::Unset(name) => {
+            told.extend_from_slice(b"warning: nothing sets ")?;
+            push_name(told, name)
+        }
         Remark::Warns(warning) => told.extend_from_slice(warning_text(*warning)),
     }
 }

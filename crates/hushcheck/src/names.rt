@@ -1,8 +1,12 @@
 //! Names in order, each once.
-ghost use Rattle.std.specs.Prelude.{◌≡◌, ◌^◌, ◌<◌, [], length, map, IfOk, OnOk, slice_get, slice_index_or};
+ghost use Rattle.std.specs.Prelude.{◌≡◌, ◌^◌, ◌<◌, [], length, map, not, IfOk, OnOk, slice_get, slice_index_or};
 ghost use Rattle.std.specs.Option.{option_copied};
-ghost use Rattle.hushcheck.specs.Order.{once, with_name};
+ghost use Rattle.std.specs.List.{list_any};
+ghost use Rattle.envtools.specs.Environment.{same};
+ghost use Rattle.hushcheck.specs.CallSetsShown.{names_shown};
+ghost use Rattle.hushcheck.specs.Order.{once, with_name, with_names};
 
+use envtools::Env;
 use indexmap::IndexSet;
 use std::alloc::{AllocError, Global};
 use std::marker::Model;
@@ -62,6 +66,36 @@ impl Names {
         self.names.insert(name)?;
         Ok(())
     }
+
+    /// Adds a name after the others, if it is new, and says whether it is. Errors: memory ran out.
+    pub(crate) fn add_new(&mut self, name: Vec<u8>) -> Result<bool, AllocError>
+        ensures names { OnOk result (self.new ≡ with_name self.old name.items) }
+        ensures new { IfOk result (λ new. new ≡ not (list_any (same name.items) self.old)) }
+    {
+        Ok(self.names.insert(name)?)
+    }
+
+    /// Adds copies of names. Errors: memory ran out.
+    pub(crate) fn add_all(&mut self, alloc: Global, more: &[Vec<u8>]) -> Result<(), AllocError>
+        ensures { OnOk result (self.new ≡ with_names self.old (names_shown more.now)) }
+    {
+        for name in more {
+            self.add(Vec::from_slice(alloc, name)?)?;
+        }
+        Ok(())
+    }
+}
+
+/// The names of the variables of an environment. Errors: memory ran out.
+pub(crate) fn names_of(alloc: Global, env: &Env) -> Result<Names, AllocError>
+    ensures { IfOk result (λ names. names ≡ once (map (λ p. p.0) env.now)) }
+{
+    let mut names = Names::new(alloc);
+    let pairs = env.pairs()?;
+    for pair in &pairs {
+        names.add(Vec::from_slice(alloc, pair.0)?)?;
+    }
+    Ok(names)
 }
 
 /// The names that are asked for, each once.

@@ -1,13 +1,17 @@
 //! How far a text is read, and what is found in it.
-ghost use Rattle.std.specs.Prelude.{◌≡◌, [], false, Some, option_map, IfOk, OnOk};
+ghost use Rattle.std.specs.Prelude.{◌≡◌, ◌++◌, ◌∷◌, [], false, Some, map, option_map, IfOk, OnOk};
+ghost use Rattle.std.specs.Option.{option_copied};
 ghost use Rattle.hushlang.specs.CursorShown.{input_in};
+ghost use Rattle.hushlang.specs.TreesShown as view;
+ghost use Rattle.hushcheck.specs.CallSets.{set_by_call};
 ghost use Rattle.hushcheck.specs.Calls as spec;
 ghost use Rattle.hushcheck.specs.Remarks as shown;
 
-use crate::remark::{Found, Remark};
+use crate::call_sets::{Sets, set_by_call};
+use crate::remark::{Found, Read, Remark};
 use builtins::is_built_in;
 use device_list::Devices;
-use hushlang::{Kind, Lexer};
+use hushlang::{Kind, Lexer, Piece, Word};
 use std::alloc::{AllocError, Global};
 use std::marker::Model;
 
@@ -37,6 +41,35 @@ fn is_lacking(devices: Option<&Devices>, name: &[u8]) -> bool
     }
 }
 
+/// Adds a variable that is read at a place. Errors: memory ran out.
+fn push_read(alloc: Global, reads: &mut Vec<Read>, at: usize, name: &[u8]) -> Result<(), AllocError>
+    ensures { OnOk result (shown.all_read reads.new.items
+        ≡ shown.all_read reads.old.items ++ (at, name.now) ∷ []) }
+{
+    let name = Vec::from_slice(alloc, name)?;
+    reads.push(Read { at, name })?;
+    Ok(())
+}
+
+/// Adds the variables that a word reads, at its place. Errors: memory ran out.
+fn push_reads(
+    alloc: Global,
+    reads: &mut Vec<Read>,
+    at: usize,
+    word: &Word,
+) -> Result<(), AllocError>
+    ensures { OnOk result (shown.all_read reads.new.items
+        ≡ shown.all_read reads.old.items ++ spec.reads_in at (view.word word.now)) }
+{
+    for piece in &word.pieces {
+        match piece {
+            Piece::Var { name, .. } => push_read(alloc, reads, at, name)?,
+            Piece::Bytes(_) | Piece::Mark | Piece::Status => {}
+        }
+    }
+    Ok(())
+}
+
 /// How far a text is read, and what was found in it.
 #[derive(Drop)]
 pub(crate) struct Reading<'a> {
@@ -48,10 +81,15 @@ pub(crate) struct Reading<'a> {
     pub(crate) found: Vec<Found>,
     /// Whether the device list lacks a command.
     pub(crate) lacks: bool,
+    /// The variables that are read, in the order of the text.
+    pub(crate) reads: Vec<Read>,
+    /// The names of the variables that are set.
+    pub(crate) sets: Vec<Vec<u8>>,
 }
 
 impl<'a> Model for Reading<'a> {
     ghost use Rattle.hushcheck.specs.Calls as spec;
+    ghost use Rattle.hushcheck.specs.CallSetsShown.{names_shown};
     ghost use Rattle.hushcheck.specs.Remarks as shown;
     ghost use Rattle.std.specs.Prelude.{option_map};
 
@@ -62,6 +100,8 @@ impl<'a> Model for Reading<'a> {
       left = r.left.now;
       found = shown.all_found r.found.items;
       lacks = r.lacks;
+      reads = shown.all_read r.reads.items;
+      sets = names_shown r.sets.items;
     } };
 }
 
@@ -73,6 +113,8 @@ impl<'a> Reading<'a> {
           left = left.now;
           found = [];
           lacks = false;
+          reads = [];
+          sets = [];
         } }
     {
         Reading {
@@ -80,6 +122,8 @@ impl<'a> Reading<'a> {
             left,
             found: Vec::new(alloc),
             lacks: false,
+            reads: Vec::new(alloc),
+            sets: Vec::new(alloc),
         }
     }
 
@@ -94,26 +138,82 @@ impl<'a> Reading<'a> {
         }
     }
 
+    /// The place of the next word.
+    fn next_place(&self) -> usize
+        ensures { result ≡ spec.first_place (self.now).left }
+    {
+        match self.left {
+            [place, ..] => *place,
+            [] => 0,
+        }
+    }
+
     /// Adds what is found at the next word. Errors: memory ran out.
     pub(crate) fn find(&mut self, remark: Remark) -> Result<(), AllocError>
         ensures { OnOk result (self.new ≡ spec.find (shown.remark remark) self.old) }
     {
-        let at = match self.left {
-            [place, ..] => *place,
-            [] => 0,
-        };
+        let at = self.next_place();
         self.found.push(Found { at, remark })?;
         Ok(())
     }
 
-    /// Adds that the device list lacks a command, if it does. Errors: memory ran out.
-    pub(crate) fn find_if_lacking(&mut self, name: Vec<u8>) -> Result<(), AllocError>
-        ensures { OnOk result (self.new ≡ spec.after_name self.old (Some name.items)) }
+    /// Passes over a word, and keeps what it reads. Errors: memory ran out.
+    pub(crate) fn pass(&mut self, alloc: Global, word: &Word) -> Result<(), AllocError>
+        ensures { OnOk result (self.new ≡ spec.after_word self.old (view.word word.now)) }
     {
-        if !is_lacking(self.devices, &name) {
+        let at = self.next_place();
+        push_reads(alloc, &mut self.reads, at, word)?;
+        self.skip(1);
+        Ok(())
+    }
+
+    /// Keeps that a name is set. Errors: memory ran out.
+    pub(crate) fn set(&mut self, alloc: Global, name: &[u8]) -> Result<(), AllocError>
+        ensures { OnOk result (self.new ≡ spec.set_name name.now self.old) }
+    {
+        let name = Vec::from_slice(alloc, name)?;
+        self.sets.push(name)?;
+        Ok(())
+    }
+
+    /// Keeps what is set, and adds that there are others, if there are. Errors: memory ran out.
+    fn keep_sets(&mut self, sets: Sets) -> Result<(), AllocError>
+        ensures { OnOk result (self.new ≡ spec.after_sets sets self.old) }
+    {
+        let Sets {
+            mut names,
+            more,
+            ..
+        } = sets;
+        self.sets.append(&mut names)?;
+        if more {
+            self.find(Remark::SetsMore)?;
+        }
+        Ok(())
+    }
+
+    /// Keeps what a call sets with these words behind its first one. Errors: memory ran out.
+    pub(crate) fn keep_call(
+        &mut self,
+        alloc: Global,
+        command: Option<&[u8]>,
+        words: &[Word],
+    ) -> Result<(), AllocError>
+        ensures { OnOk result (self.new ≡ spec.after_sets (set_by_call (self.old).devices
+            (option_copied command.entry) (map view.word words.now)) self.old) }
+    {
+        let sets = set_by_call(alloc, self.devices, command, words)?;
+        self.keep_sets(sets)
+    }
+
+    /// Adds that the device list lacks a command, if it does. Errors: memory ran out.
+    pub(crate) fn find_if_lacking(&mut self, alloc: Global, name: &[u8]) -> Result<(), AllocError>
+        ensures { OnOk result (self.new ≡ spec.after_name self.old (Some name.now)) }
+    {
+        if !is_lacking(self.devices, name) {
             return Ok(());
         }
-        self.find(Remark::Lacks(name))?;
+        self.find(Remark::Lacks(Vec::from_slice(alloc, name)?))?;
         self.lacks = true;
         Ok(())
     }

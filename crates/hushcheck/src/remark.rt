@@ -9,6 +9,10 @@ pub(crate) enum Remark {
     NotFollowed,
     /// The device list lacks the command of this name.
     Lacks(Vec<u8>),
+    /// A call may set variables whose names are not known.
+    SetsMore,
+    /// Nothing sets the variable of this name, which is read.
+    Unset(Vec<u8>),
     /// A shell of U-Boot reads something otherwise.
     Warns(Warning),
 }
@@ -20,4 +24,13 @@ pub(crate) struct Found {
     pub(crate) at: usize,
     /// What is reported.
     pub(crate) remark: Remark,
+}
+
+/// A variable that a word reads, and where the word starts.
+#[derive(Drop)]
+pub(crate) struct Read {
+    /// The byte in the text.
+    pub(crate) at: usize,
+    /// The name.
+    pub(crate) name: Vec<u8>,
 }

@@ -11,6 +11,8 @@ pub struct Rules<'a> {
     pub devices: Option<&'a Devices>,
     /// The shell that the call names, if it names one.
     pub shell: Option<Shell>,
+    /// Whether a warning is a fault.
+    pub strict: bool,
 }
 
 impl<'a> Model for Rules<'a> {
@@ -22,5 +24,6 @@ impl<'a> Model for Rules<'a> {
     ghost view = { λ r. record {
       devices = option_map (λ d. d.now) r.devices;
       shell = r.shell;
+      strict = r.strict;
     } };
 }

@@ -17,7 +17,7 @@ use output::{Out, write_all};
 use std::alloc::Global;
 
 /// Writes what was found in a text, word by word. It holds the lines of one word at a time.
-fn write_found<O: Out>(
+pub(crate) fn write_found<O: Out>(
     alloc: Global,
     name: &[u8],
     text: &[u8],

@@ -1,7 +1,7 @@
-use Rattle.std.proofs.Common.{◌≡◌, ap, ◌∙◌, length}
+use Rattle.std.proofs.Common.{◌≡◌, ap, ◌∙◌, map}
 use Rattle.std.specs.List.{fold}
 use Rattle.hushlang.specs.TreesShown as view
-use Rattle.hushcheck.specs.Calls.{after_command, after_list, after_script, skip}
+use Rattle.hushcheck.specs.Calls.{after_command, after_list, after_script, after_value, after_word, set_name, skip}
 use Rattle.hushcheck.proofs.CallsLemmas.{after_other, by_arms, by_commands, by_for, by_lists, by_loop, by_values, by_words, fold_all, fold_item, two_scripts, with_other, without_other}
 use Rattle.hushcheck.proofs.WalkLemmas.{ok_so}
 use Rattle.hushcheck.proofs.calls.+calls.Goals as goal
@@ -34,15 +34,16 @@ read_command-returns-in-Simple t c =
 
 pub read_command-returns-in-Assign : goal.read_command-returns-in-Assign
 read_command-returns-in-Assign t c =
-    c.skip.ensures ∙ ap (λ n. skip n c.args.reading.now) (c.len.ensures ∙ c.in-Assign.values.ok.0) ∙ by_values c.args.reading.now c.args.command.now c.in-Assign.values c.in-Assign.is
+    let all = ap (λ vs. fold after_value c.args.reading.now (map view.value vs)) c.deref.ensures.value in
+    ok_so c.read_values.result (λ so. so ∙ all ∙ by_values c.args.reading.now c.args.command.now c.in-Assign.values c.in-Assign.is) c.read_values.ensures
 
 pub read_command-returns-after-other : goal.read_command-returns-after-other
 read_command-returns-after-other t c =
     let a = c.read_arms.new.reading in
-    let all = by_arms c.args.reading.now c.args.command.now c.in-If.arms c.in-If.other c.deref.result.now c.in-If.is c.deref.ensures.value in
+    let all = by_arms c.args.reading.now c.args.command.now c.in-If.arms c.in-If.other c.deref-in-If.result.now c.in-If.is c.deref-in-If.ensures.value in
     let arms = ap (λ q. skip 1 (after_other q (view.script_in c.in-If.other))) c.in_ok-read_arms-in-If.ensures in
     let so : c.match-other.reading ≡ after_other a (view.script_in c.in-If.other) = elim c.match-other.branch [
-      | read_command-in-Some+in_ok-read_script-in-Some w ↦ w.reading-is ∙ with_other a w.skip-in-Some.new.self w.read_script.new.reading w.deref-in-Some.result.now w.in-Some.body c.in-If.other w.in-Some.is w.deref-in-Some.ensures w.skip-in-Some.ensures w.in_ok-read_script-in-Some.ensures
+      | read_command-in-Some+in_ok-read_script-in-Some w ↦ w.reading-is ∙ with_other a w.skip.new.self w.read_script.new.reading w.deref-in-Some.result.now w.in-Some.body c.in-If.other w.in-Some.is w.deref-in-Some.ensures w.skip.ensures w.in_ok-read_script-in-Some.ensures
       | read_command-in-None w ↦ w.reading-is ∙ without_other a c.in-If.other w.in-None.is
     ] in
     c.skip-in-If.ensures ∙ ap (skip 1) so ∙ arms ∙ all
@@ -50,11 +51,12 @@ read_command-returns-after-other t c =
 pub read_command-returns-in_ok-read_script-in-For : goal.read_command-returns-in_ok-read_script-in-For
 read_command-returns-in_ok-read_script-in-For t c =
     let r = c.args.reading.now in
-    let count = c.len-in-For.ensures ∙ c.in-For.words.ok.0 in
-    let begun = c.skip-in-For-3.ensures ∙ ap (skip 1) (c.skip-in-For-2.ensures ∙ ap (λ q. skip c.len-in-For.result q) c.skip-in-For.ensures ∙ ap (λ n. skip n (skip 3 r)) count) in
-    c.skip-in-For-4.ensures
-    ∙ ap (skip 1) (c.in_ok-read_script-in-For.ensures ∙ ap (λ q. after_script q (view.script c.deref-in-For.result.now)) begun
-    ∙ ap (λ s. after_script (skip 1 (skip (length c.in-For.words.items) (skip 3 r))) (view.script s)) c.deref-in-For.ensures)
+    let named = c.in_ok-set-in-For.ensures ∙ ap (λ name. set_name name r) c.deref-in-For.ensures.value in
+    let passed = c.in_ok-pass_words-in-For.ensures ∙ ap (λ ws. fold after_word c.skip-in-For.new.self (map view.word ws)) c.deref-in-For-2.ensures.value in
+    let begun = c.skip-in-For-2.ensures ∙ ap (skip 1) (passed ∙ ap (λ q. fold after_word q (map view.word c.in-For.words.items)) (c.skip-in-For.ensures ∙ ap (skip 3) named)) in
+    c.skip-in-For-3.ensures
+    ∙ ap (skip 1) (c.in_ok-read_script-in-For.ensures ∙ ap (λ q. after_script q (view.script c.deref-in-For-3.result.now)) begun
+    ∙ ap (λ s. after_script (skip 1 (fold after_word (skip 3 (set_name c.in-For.name.items r)) (map view.word c.in-For.words.items))) (view.script s)) c.deref-in-For-3.ensures)
     ∙ by_for r c.args.command.now c.in-For.name c.in-For.words c.in-For.body c.in-For.is
 
 pub read_command-returns-in_ok-read_script-in-Loop-2 : goal.read_command-returns-in_ok-read_script-in-Loop-2

@@ -1,59 +1,48 @@
-use Rattle.std.proofs.Common.{◌<◌, ◌≤◌, ◌&&◌, ◌++◌, [], length, map, get_or, refl, ap, ◌∙◌, arith}
+use Rattle.std.proofs.Common.{◌≡◌, ◌&&◌, ◌++◌, ◌∙◌, ap, map, not, option_map}
 use Rattle.std.proofs.lemmas.Result.{err_from_is_err_and}
-use Rattle.output.proofs.SinkLemmas.{Wrote-append, Wrote-none}
 use Rattle.hushcheck.specs.Names.{run_by_found}
-use Rattle.hushcheck.specs.Report.{lines_of}
-use Rattle.hushcheck.proofs.CheckLemmas.{begins_first, begins_next, left_less, standing_first, standing_last, standing_next}
-use Rattle.hushcheck.proofs.TellingLemmas.{front-nothing, stops-after}
+use Rattle.hushcheck.specs.Report.{lacks_set, last_lines}
+use Rattle.hushcheck.specs.Unset.{has_unset, set_names, unset_lines}
+use Rattle.hushcheck.specs.UsedShown.{all_used}
+use Rattle.hushcheck.proofs.TellingLemmas.{stops-as, wrote-as}
+use Rattle.hushcheck.proofs.UnsetLemmas.{last-broke, last-wrote}
 use Rattle.hushcheck.proofs.checking.check_names.Goals as goal
 
-pub returns-in_err-names : goal.returns-in_err-names
-returns-in_err-names g c =
-    let p = err_from_is_err_and c.from_residual.result c.from_residual.ensures.1 in
-    rw (p.1, p.2) ([], begins_first (c.args.rules.now) c.args.env.now (map (λ name. name.now) c.args.asked.now ++ run_by_found c.args.script), front-nothing (g.O.Out.sink c.args.out.now) [])
-
-pub names-init : goal.names-init
-names-init g c = (
-  [],
-  standing_first (c.args.rules.now) c.args.env.now (map (λ name. name.now) c.args.asked.now ++ run_by_found c.args.script) c.in_ok-names.names c.args.so_far [] c.args.so_far c.in_ok-names.ensures refl refl,
-  Wrote-none (g.O.Out.sink c.args.out.now),
-)
-
-pub names-smaller : goal.names-smaller
-names-smaller g c =
-    let within : c.names.at < length c.names.names = (let l = c.len.ensures.count in let h = c.names-test.true in omega (arith, l, h)) in
-    left_less (c.args.rules.now) c.args.env.now (map (λ name. name.now) c.args.asked.now ++ run_by_found c.args.script) c.names.names c.take_turn.new.names c.names.at c.args.so_far c.names.invariant.0 c.names.sound within c.names.invariant.1 c.in_ok-fine.ensures.names
-
-pub names-preserved : goal.names-preserved
-names-preserved g c =
-    let within : c.names.at < length c.names.names = (let l = c.len.ensures.count in let h = c.names-test.true in omega (arith, l, h)) in
+pub returns-in_err-unset : goal.returns-in_err-unset
+returns-in_err-unset g c =
     let rules = c.args.rules.now in
-    let told = c.names.invariant.0 in
-    let lines = lines_of rules c.args.env.now (get_or c.names.names c.names.at []) in (
-      told ++ lines,
-      standing_next rules c.args.env.now (map (λ name. name.now) c.args.asked.now ++ run_by_found c.args.script) c.names.names c.take_turn.new.names c.names.at c.args.so_far
-          told (told ++ lines) c.names.sound c.both-sound.result
-          within c.names.invariant.1 c.in_ok-fine.ensures.names refl (c.both-sound.ensures ∙ ap (λ b. c.names.sound && b) c.in_ok-fine.ensures.fine),
-      Wrote-append c.names.invariant.2 c.in_ok-fine.ensures.lines,
-    )
-
-pub returns-in_err-fine : goal.returns-in_err-fine
-returns-in_err-fine g c =
-    let within : c.names.at < length c.names.names = (let l = c.len.ensures.count in let h = c.names-test.true in omega (arith, l, h)) in
-    let rules = c.args.rules.now in
-    let told = c.names.invariant.0 in
-    let lines = lines_of rules c.args.env.now (get_or c.names.names c.names.at []) in
-    let p = err_from_is_err_and c.from_residual-in_err-fine.result c.from_residual-in_err-fine.ensures.1 in
-    rw (p.1, p.2) (
-      told ++ lines,
-      begins_next rules c.args.env.now (map (λ name. name.now) c.args.asked.now ++ run_by_found c.args.script) c.names.names c.names.at c.args.so_far told c.names.sound within c.names.invariant.1,
-      stops-after (g.O.Out.sink c.args.out.now) (g.O.Out.sink c.names.out) (g.O.Out.sink c.take_turn.new.out) told lines c.in_err-fine.field-0.0 c.names.invariant.2 c.in_err-fine.ensures.lines,
-    )
+    let env = c.args.env.now in
+    let before = all_used c.args.used.items in
+    let asked = map (λ name. name.now) c.args.asked.now ++ run_by_found c.args.script in
+    let items = c.check_turns.new.used.items in
+    let mid = g.O.Out.sink c.check_turns.new.out in
+    let new = g.O.Out.sink c.write_unset_reads.new.out in
+    let held = option_map (λ d. d.now) c.rules.inside.devices in
+    let known : c.in_ok-known.known ≡ set_names rules.devices env (all_used items) =
+    c.in_ok-known.ensures ∙ ap (λ us. set_names held env (all_used us)) c.deref.ensures.value ∙ ap (λ r. set_names r.devices env (all_used items)) c.rules.view_is in
+    let lines : unset_lines c.in_ok-known.known (all_used c.deref-2.result.now) ≡ last_lines rules env (all_used items) =
+    ap (λ us. unset_lines c.in_ok-known.known (all_used us)) c.deref-2.ensures.value ∙ ap (λ k. unset_lines k (all_used items)) known in
+    let p = err_from_is_err_and c.from_residual-in_err-unset.result c.from_residual-in_err-unset.ensures.1 in
+    rw (p.1, p.2) (last-broke rules env before asked c.args.so_far (all_used items) c.in_ok-sound.sound c.in_err-unset.field-0.0 (g.O.Out.sink c.args.out.now) mid new c.in_ok-sound.ensures
+    (stops-as mid new _ _ c.in_err-unset.field-0.0 lines c.in_err-unset.ensures.lines))
 
 pub returns : goal.returns
 returns g c =
-    let past : length c.names.names ≤ c.names.at = (let l = c.len.ensures.count in let h = c.names-test.false in omega (arith, l, h)) in (
-      c.names.invariant.0,
-      standing_last (c.args.rules.now) c.args.env.now (map (λ name. name.now) c.args.asked.now ++ run_by_found c.args.script) c.names.names c.names.at c.args.so_far c.names.invariant.0 c.names.sound past c.names.invariant.1,
-      c.names.invariant.2,
-    )
+    let rules = c.args.rules.now in
+    let env = c.args.env.now in
+    let before = all_used c.args.used.items in
+    let asked = map (λ name. name.now) c.args.asked.now ++ run_by_found c.args.script in
+    let items = c.check_turns.new.used.items in
+    let mid = g.O.Out.sink c.check_turns.new.out in
+    let new = g.O.Out.sink c.write_unset_reads.new.out in
+    let held = option_map (λ d. d.now) c.rules.inside.devices in
+    let known : c.in_ok-known.known ≡ set_names rules.devices env (all_used items) =
+    c.in_ok-known.ensures ∙ ap (λ us. set_names held env (all_used us)) c.deref.ensures.value ∙ ap (λ r. set_names r.devices env (all_used items)) c.rules.view_is in
+    let lines : unset_lines c.in_ok-known.known (all_used c.deref-2.result.now) ≡ last_lines rules env (all_used items) =
+    ap (λ us. unset_lines c.in_ok-known.known (all_used us)) c.deref-2.ensures.value ∙ ap (λ k. unset_lines k (all_used items)) known in
+    let any : c.in_ok-unset.unset ≡ lacks_set rules env (all_used items) =
+    c.in_ok-unset.ensures.any ∙ ap (λ us. has_unset c.in_ok-known.known (all_used us)) c.deref-2.ensures.value ∙ ap (λ k. has_unset k (all_used items)) known in
+    let sound = c.in_ok-sound.sound in
+    let well = c.is_well.ensures ∙ ap (λ r. sound && not (r.strict && c.in_ok-unset.unset)) c.rules.view_is ∙ ap (λ b. sound && not (rules.strict && b)) any in
+    last-wrote rules env before asked c.args.so_far (all_used items) sound c.is_well.result (g.O.Out.sink c.args.out.now) mid new c.in_ok-sound.ensures
+    (wrote-as mid new _ _ lines c.in_ok-unset.ensures.lines) well

@@ -1,0 +1,119 @@
+-- What calls set, and which variables nothing sets, computed.
+use Rattle.std.proofs.Common.{◌≡◌, true, false, [], ◌∷◌, Some, None, refl}
+use Rattle.std.specs.Prelude.{List, codes}
+use Rattle.std.specs.Fmt.{digits}
+use Rattle.envimage.specs.Data.{Pair}
+use Rattle.hushlang.specs.Grammar.{reserved_of, assignment, name_in, name_of, is_in_word}
+use Rattle.hushlang.specs.Tokenizing.{step, bare, dollar, braced, inside, front, word_front}
+use Rattle.hushlang.specs.Tree.{Word, Bytes, Var}
+use Rattle.hushlang.specs.Words.{reserved}
+use Rattle.hushlang.specs.WordPieces.{pieces}
+use Rattle.hushlang.specs.Parsing.{whole, script, command, simple, keyword, next, behind, sees, expect, joined, joined_all, and_or, lists, lists_all, block, arm, arms, arms_all, if_command, body_of, loop_command, for_command, name, name_next, expect_in, in_next, all_words, separators, separator_next, closes_next, op_next, refusal, missing, at_last, word_next, assignment_next, assignments}
+use Rattle.device_list.specs.DeviceList.{Devices, Effect, Setting, Variable, WordAt, LastWord, Literal}
+use Rattle.hushcheck.specs.CallSets.{Sets, set_by_call}
+use Rattle.hushcheck.specs.Names.{Text}
+use Rattle.hushcheck.specs.Report.{lacks_set, last_lines}
+use Rattle.hushcheck.specs.Rules.{Rules}
+use Rattle.hushcheck.specs.Unset.{used_by_text}
+
+-- ---- calls
+
+abbrev known : List Text → Sets
+known names = record { names = names; more = false }
+
+abbrev unknown : Sets
+unknown = record { names = []; more = true }
+
+abbrev word : Text → Word
+word bytes = Bytes bytes ∷ []
+
+abbrev held : Word
+held = Var (codes "x") true ∷ []
+
+-- with a value, without one, with an option, and by a name that holds a variable
+sets_one : set_by_call None (Some (codes "setenv")) (word (codes "a") ∷ held ∷ []) ≡ known (codes "a" ∷ [])
+sets_one = refl
+
+deletes : set_by_call None (Some (codes "setenv")) (word (codes "a") ∷ []) ≡ known []
+deletes = refl
+
+with_option : set_by_call None (Some (codes "env")) (word (codes "set") ∷ word (codes "-f") ∷ word (codes "a") ∷ word (codes "1") ∷ []) ≡ known (codes "a" ∷ [])
+with_option = refl
+
+held_name : set_by_call None (Some (codes "setenv")) (held ∷ word (codes "1") ∷ []) ≡ unknown
+held_name = refl
+
+-- `setexpr`; a test of a variable; names from memory; and a command that holds a variable
+calculates : set_by_call None (Some (codes "setexpr")) (word (codes "a") ∷ word (codes "1") ∷ []) ≡ known (codes "a" ∷ [])
+calculates = refl
+
+asks : set_by_call None (Some (codes "env")) (word (codes "exists") ∷ word (codes "a") ∷ []) ≡ known []
+asks = refl
+
+imports : set_by_call None (Some (codes "env")) (word (codes "import") ∷ held ∷ []) ≡ unknown
+imports = refl
+
+held_command : set_by_call None None (word (codes "a") ∷ []) ≡ unknown
+held_command = refl
+
+-- ---- a device list: a variable, the second word of a call, and its last one
+
+abbrev effect : List Setting → Effect
+effect sets = record { ends = false; stays = false; always = None; sets = sets }
+
+abbrev list : Devices
+list = record {
+  commands = (codes "load", effect ((Variable (codes "filesize"), Literal (codes "1")) ∷ [])) ∷ [];
+  subs = (codes "part", (codes "uuid", effect ((WordAt 1, Literal (codes "1")) ∷ (LastWord, Literal (codes "1")) ∷ [])) ∷ []) ∷ [];
+  calls = [];
+  known = [];
+  test_stays = false;
+}
+
+listed : set_by_call (Some list) (Some (codes "load")) (held ∷ []) ≡ known (codes "filesize" ∷ [])
+listed = refl
+
+by_words : set_by_call (Some list) (Some (codes "part")) (word (codes "uuid") ∷ word (codes "a") ∷ word (codes "b") ∷ []) ≡ known (codes "a" ∷ codes "b" ∷ [])
+by_words = refl
+
+-- a word that holds a variable, and a word that is not there
+by_held : set_by_call (Some list) (Some (codes "part")) (word (codes "uuid") ∷ word (codes "a") ∷ held ∷ []) ≡ record { names = codes "a" ∷ []; more = true }
+by_held = refl
+
+by_none : set_by_call (Some list) (Some (codes "part")) (word (codes "uuid") ∷ []) ≡ known (codes "uuid" ∷ [])
+by_none = refl
+
+-- ---- whole texts, in an environment that has `a`
+
+abbrev rules : Rules
+rules = record { devices = None; shell = None; strict = false }
+
+abbrev env : List Pair
+env = (codes "a", codes "1") ∷ []
+
+abbrev told_in : Text → Text
+told_in text = last_lines rules env (used_by_text rules (codes "b") text)
+
+-- a variable of the environment; and two that are set, one of them later
+quiet : told_in (codes "echo $a $c $i; for i in 1; do c=$i; done") ≡ []
+unfolding whole script command simple keyword next behind sees expect joined joined_all and_or lists lists_all block arm arms arms_all if_command body_of loop_command for_command name name_next expect_in in_next all_words separators separator_next closes_next op_next refusal missing at_last word_next assignment_next assignments reserved_of reserved assignment name_in name_of is_in_word pieces step bare dollar braced inside front word_front digits
+quiet = refl
+
+-- in a word that is assigned, in quotes and beside other bytes; `c` is told once
+told : told_in (codes "x=$c\ntest \"a${c}$d\"") ≡ codes "b:1:1: warning: nothing sets c\nx=$c\n^\nb:2:6: warning: nothing sets d\ntest \"a${c}$d\"\n     ^\n"
+unfolding whole script command simple keyword next behind sees expect joined joined_all and_or lists lists_all block arm arms arms_all if_command body_of loop_command for_command name name_next expect_in in_next all_words separators separator_next closes_next op_next refusal missing at_last word_next assignment_next assignments reserved_of reserved assignment name_in name_of is_in_word pieces step bare dollar braced inside front word_front digits
+told = refl
+
+-- the status is no variable, and a text that is refused reads none
+no_reads : told_in (codes "echo $? ${?}") ≡ []
+unfolding whole script command simple keyword next behind sees expect joined joined_all and_or lists lists_all block arm arms arms_all if_command body_of loop_command for_command name name_next expect_in in_next all_words separators separator_next closes_next op_next refusal missing at_last word_next assignment_next assignments reserved_of reserved assignment name_in name_of is_in_word pieces step bare dollar braced inside front word_front digits
+no_reads = refl
+
+refused : told_in (codes "echo $c; fi") ≡ []
+unfolding whole script command simple keyword next behind sees expect joined joined_all and_or lists lists_all block arm arms arms_all if_command body_of loop_command for_command name name_next expect_in in_next all_words separators separator_next closes_next op_next refusal missing at_last word_next assignment_next assignments reserved_of reserved assignment name_in name_of is_in_word pieces step bare dollar braced inside front word_front digits
+refused = refl
+
+-- a condition that tests it, as real scripts do
+tested : lacks_set rules env (used_by_text rules (codes "b") (codes "if test ${c} -eq 1; then true; fi")) ≡ true
+unfolding whole script command simple keyword next behind sees expect joined joined_all and_or lists lists_all block arm arms arms_all if_command body_of loop_command for_command name name_next expect_in in_next all_words separators separator_next closes_next op_next refusal missing at_last word_next assignment_next assignments reserved_of reserved assignment name_in name_of is_in_word pieces step bare dollar braced inside front word_front digits
+tested = refl

@@ -1,0 +1,102 @@
+-- What a call sets, as far as its words say it. That `setenv`, `setexpr` and `env` set variables, and how their words name
+-- these, is U-Boot's (doc/usage/cmd/env, doc/usage/cmd/setexpr). What other commands set is what the device list says. That
+-- a word with a variable names nothing that is known is ours.
+use Rattle.std.specs.Prelude.{◌-◌, ◌||◌, ◌++◌, ◌∷◌, Bool, true, false, List, [], length, map, slice_get, Option, Some, None, codes, if◌then◌else◌}
+use Rattle.std.specs.List.{fold}
+use Rattle.text.specs.Bytes as ascii
+use Rattle.envtools.specs.Environment.{same}
+use Rattle.hushlang.specs.Tree.{Word, Bytes, Mark, Var, Status}
+use Rattle.device_list.specs.DeviceList.{Devices, Effect, LeftSide, Variable, WordAt, LastWord, effect_of}
+use Rattle.hushcheck.specs.Names.{Text, written_out}
+use Rattle.hushcheck.specs.Seats.{starts_with}
+
+-- the names that are set, and whether there are others that are not known
+pub record Sets : Type 0 where
+  pub names : List Text
+  pub more : Bool
+
+abbrev pub none : Sets
+none = record { names = []; more = false }
+
+abbrev pub with_more : Sets → Sets
+with_more s = record s { more = true }
+
+-- a name, if it is written out
+abbrev pub with_set : Sets → Option Text → Sets
+with_set s None = with_more s
+with_set s (Some name) = record s { names = s.names ++ name ∷ [] }
+
+-- ---- `setenv`, `setexpr` and `env`, by their words, as far as these are written out
+
+abbrev pub is_option : Option Text → Bool
+is_option None = false
+is_option (Some word) = starts_with ascii.minus word
+
+abbrev pub behind_options : List (Option Text) → List (Option Text)
+behind_options [] = []
+behind_options (word ∷ words) = if is_option word then behind_options words else word ∷ words
+
+-- a name and its value; a name alone is deleted
+abbrev pub set_to_value : Sets → List (Option Text) → Sets
+set_to_value s [] = s
+set_to_value s (name ∷ []) = s
+set_to_value s (name ∷ value ∷ words) = with_set s name
+
+abbrev pub set_by_words : Sets → List (Option Text) → Sets
+set_by_words s words = set_to_value s (behind_options words)
+
+-- the subcommands of `env` that take the names from memory, from storage or from U-Boot itself
+abbrev pub takes_names : Text → Bool
+takes_names word = same word (codes "import") || (same word (codes "default") || same word (codes "load"))
+
+abbrev pub set_by_subcommand : Sets → Text → List (Option Text) → Sets
+set_by_subcommand s word words =
+    if same word (codes "set") then set_by_words s words else (if takes_names word then with_more s else s)
+
+abbrev pub set_by_env : Sets → List (Option Text) → Sets
+set_by_env s [] = s
+set_by_env s (None ∷ words) = with_more s
+set_by_env s (Some word ∷ words) = set_by_subcommand s word words
+
+abbrev pub set_by_name : Sets → (command : Text) → List (Option Text) → Sets
+set_by_name s command words =
+    if same command (codes "setenv") || same command (codes "setexpr") then set_by_words s words
+    else (if same command (codes "env") then set_by_env s words else s)
+
+-- ---- the settings of a device list
+
+-- the bytes of a word that are written out
+abbrev pub part_of : Word → Text
+part_of [] = []
+part_of (Bytes bytes ∷ more) = bytes ++ part_of more
+part_of (Mark ∷ more) = part_of more
+part_of (Var name split ∷ more) = part_of more
+part_of (Status ∷ more) = part_of more
+
+-- a word of the call, if it is there
+abbrev pub with_word : Sets → Option (Option Text) → Sets
+with_word s None = s
+with_word s (Some word) = with_set s word
+
+-- what the left side of a setting names in a call with these words
+abbrev pub set_by_side : List (Option Text) → Sets → LeftSide → Sets
+set_by_side words s (Variable name) = with_set s (Some name)
+set_by_side words s (WordAt place) = with_word s (slice_get words place)
+set_by_side words s LastWord = with_word s (slice_get words (length words - 1))
+
+abbrev pub set_by_effect : Sets → List (Option Text) → Option Effect → Sets
+set_by_effect s words None = s
+set_by_effect s words (Some effect) = fold (λ t setting. set_by_side words t setting.0) s effect.sets
+
+-- The list is asked for the call with what is written out of its words.
+abbrev pub set_by_list : Sets → Option Devices → (command : Text) → List Word → Sets
+set_by_list s None command words = s
+set_by_list s (Some devices) command words =
+    set_by_effect s (map written_out words) (effect_of devices command (map part_of words))
+
+-- ---- a call: a command that is not written out may set anything
+
+abbrev pub set_by_call : Option Devices → Option Text → List Word → Sets
+set_by_call devices None words = with_more none
+set_by_call devices (Some command) words =
+    set_by_list (set_by_name none command (map written_out words)) devices command words
