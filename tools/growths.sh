@@ -39,18 +39,7 @@ changes() {
         [ "$(cat output)" != 'no memory to begin with' ] || continue
         grep -v '^refused' output >kept || true
         cmp -s ample kept || fail 'another output'
-        awk '
-            /:/ { found = $0; sub(/^[^:]*:/, "", found) }
-            /^refused/ {
-                count++
-                if (found != state) {
-                    print "a refused change left another state: " $0
-                    exit 1
-                }
-            }
-            /:/ { state = found }
-            END { if (count > 1) { print "refused more than once"; exit 1 } }
-        ' output >why || fail "$(cat why)"
+        awk -f "$repository/tools/growths.awk" output >why || fail "$(cat why)"
         refusals=$((refusals + $(grep -c '^refused' output || true)))
     done
     cmp -s ample output || fail 'another output without a refusal'

@@ -1,0 +1,98 @@
+# Random device lists and scripts, as files listN and scriptN. Usage: awk -v seed=S -v count=N -v folder=DIR -f random.awk
+
+# one of these words
+function one_of(words,    all) {
+    return all[1 + int(rand() * split(words, all, " "))]
+}
+
+function chance(percent) {
+    return rand() * 100 < percent
+}
+
+# words of a call, up to this many
+function some_words(most,    text, left) {
+    for (left = int(rand() * (most + 1)); left > 0; left--)
+        text = text " " one_of("0 1 ab abc : a=b -x")
+    return text
+}
+
+# a setting, of a line that names words of a call if `called` says so
+function setting(called,    left, value) {
+    left = called && chance(40) ? one_of("@1 @2 @02 @last") : one_of("a b p")
+    if (chance(2))
+        left = one_of("@0 @x @ @1 -a " quote "p " quote "p" quote " =")
+    if (called == 2 && chance(40))
+        return left "=" (chance(97) ? one_of("@1 @3 @last") : one_of("@0 @ @1x"))
+    value = one_of("1 2 xyz")
+    if (called == 2 && chance(40))
+        value = quote value " : " one_of("@1 y  z") (chance(97) ? quote : "") (chance(30) ? value : "")
+    return left "=" (chance(90) ? value : "")
+}
+
+function settings(called, most,    text, left) {
+    for (left = int(rand() * (most + 1)); left > 0; left--)
+        text = text " " setting(called)
+    return text (chance(1) ? " " one_of("load final @1") : "")
+}
+
+function name() {
+    if (chance(2))
+        return one_of("echo test setenv m*")
+    return chance(80) ? one_of("load mmc") : one_of("final steady sub call absent env")
+}
+
+function pattern(    text, left) {
+    for (left = int(rand() * 3); left > 0; left--)
+        text = text " " one_of("0 1 ab * a* ab*")
+    if (chance(40))
+        text = text " **" (chance(2) ? " 0" : "")
+    return text (chance(1) ? " " quote "0" quote : "")
+}
+
+function clauses(    text, left) {
+    for (left = int(rand() * 3); left > 0; left--)
+        text = text " " (chance(50) ? setting(2) : one_of("final steady always always" (chance(2) ? " known" : "")))
+    gsub(/always/, "always " int(rand() * 2 + (chance(2) ? 1 : 0)), text)
+    return text
+}
+
+# a line of one of the forms
+function line(    form) {
+    form = int(rand() * 20)
+    if (form < 6)
+        return "call " (chance(99) ? name() : "") pattern() " :" clauses()
+    if (form < 7)
+        return "absent " (chance(98) ? name() : ":") (chance(2) ? " x" : "")
+    if (form < 8)
+        return "known " one_of("env env itest" (chance(5) ? " load" : ""))
+    if (form < 9)
+        return one_of("# \t ") (chance(50) ? "load" : "")
+    if (form < 10)
+        return "steady test" (chance(3) ? " a=1" : "")
+    return (chance(25) ? "final " : "") (chance(30) ? "steady " : "") \
+        (chance(40) ? "sub " name() " " one_of("0 1 ab" (chance(5) ? " a=b" : "")) settings(1, 2) : name() settings(0, 3))
+}
+
+function call(    of) {
+    of = int(rand() * 10)
+    if (of < 1)
+        return "test -e mmc 0 " one_of("f g")
+    if (of < 3)
+        return "env exists " one_of("a b p")
+    return (chance(85) ? one_of("load mmc") : one_of("final steady sub call absent")) some_words(3)
+}
+
+BEGIN {
+    srand(seed)
+    quote = sprintf("%c", 39)
+    for (number = 1; number <= count; number++) {
+        for (left = 2 + int(rand() * 5); left > 0; left--)
+            print (chance(10) ? " " : "") line() (chance(10) ? "\t\r" : "") >(folder "/list" number)
+        if (chance(60))
+            print "load\nmmc b=2\nknown env" >(folder "/list" number)
+        for (left = 1 + int(rand() * 4); left > 0; left--)
+            print call() >(folder "/script" number)
+        close(folder "/list" number)
+        close(folder "/script" number)
+    }
+}
