@@ -33,7 +33,7 @@ _hushcheck_names() {
 # _hushcheck_options COMMAND: the options of the command, in `options`.
 _hushcheck_options() {
     case $1 in
-        hushcheck) options='-c --config -i --image --second --text --big-endian -d --device-list --script --all --shell -h --help -V --version' ;;
+        hushcheck) options='-c --config -i --image --second --text --big-endian -d --device-list --script --all --shell --strict -h --help -V --version' ;;
         *) options='' ;;
     esac
 }

@@ -37,6 +37,21 @@ a command that holds a variable
   $ printf '' >one.list
   $ text '$load x; x${a}; $?' -d one.list
   bootcmd: ok
+  bootcmd:1:1: note: which variables this sets is not known
+  $load x; x${a}; $?
+  ^
+  bootcmd:1:10: note: which variables this sets is not known
+  $load x; x${a}; $?
+           ^
+  bootcmd:1:17: note: which variables this sets is not known
+  $load x; x${a}; $?
+                  ^
+  bootcmd:1:1: warning: nothing sets load
+  $load x; x${a}; $?
+  ^
+  bootcmd:1:10: warning: nothing sets a
+  $load x; x${a}; $?
+           ^
 
 a warning, a command and a note
   $ printf 'ls\n' >one.list
@@ -54,6 +69,9 @@ a warning, a command and a note
   bootcmd:1:45: the device list lacks load
   if ls; then if ls; then load;fi fi; run $a; load
                                               ^
+  bootcmd:1:41: warning: nothing sets a
+  if ls; then if ls; then load;fi fi; run $a; load
+                                          ^
   [1]
 
 a text that is run

@@ -16,6 +16,7 @@ the examples of the help
   hushcheck --all -d devices
   hushcheck -c fw_env.config --big-endian
   hushcheck --shell old
+  hushcheck -d devices --strict
   hushcheck --text env.txt
   hushcheck --script boot.cmd
   hushcheck --script boot.scr --text env.txt -d devices
@@ -39,6 +40,10 @@ in the manual: hushcheck -c fw_env.config --big-endian
 in the manual: hushcheck --shell old
   $ grep -m1 -oFx -- 'hushcheck --shell old' manual
   hushcheck --shell old
+
+in the manual: hushcheck -d devices --strict
+  $ grep -m1 -oFx -- 'hushcheck -d devices --strict' manual
+  hushcheck -d devices --strict
 
 in the manual: hushcheck --text env.txt
   $ grep -m1 -oFx -- 'hushcheck --text env.txt' manual

@@ -64,6 +64,9 @@ the note of run $a
   bootcmd:1:5: note: not followed, since the name holds a variable
   run $a
       ^
+  bootcmd:1:5: warning: nothing sets a
+  run $a
+      ^
 
 the note of run 'x'"y"$?
   $ text 'run '\''x'\''"y"$?'
@@ -78,11 +81,17 @@ the note of if ls; then run ${a}b; fi
   bootcmd:1:17: note: not followed, since the name holds a variable
   if ls; then run ${a}b; fi
                   ^
+  bootcmd:1:17: warning: nothing sets a
+  if ls; then run ${a}b; fi
+                  ^
 
 the note of if ls; then ls; elif ls; then ls; else run $a; fi
   $ text 'if ls; then ls; elif ls; then ls; else run $a; fi'
   bootcmd: ok
   bootcmd:1:44: note: not followed, since the name holds a variable
+  if ls; then ls; elif ls; then ls; else run $a; fi
+                                             ^
+  bootcmd:1:44: warning: nothing sets a
   if ls; then ls; elif ls; then ls; else run $a; fi
                                              ^
 
@@ -106,10 +115,25 @@ the note of ls && run $a && ls # run $b
   bootcmd:1:11: note: not followed, since the name holds a variable
   ls && run $a && ls # run $b
             ^
+  bootcmd:1:11: warning: nothing sets a
+  ls && run $a && ls # run $b
+            ^
 
 a variable that is no name of run
   $ text 'echo run $a; $run a; ls $b; x=$a'
   bootcmd: ok
+  bootcmd:1:14: note: which variables this sets is not known
+  echo run $a; $run a; ls $b; x=$a
+               ^
+  bootcmd:1:10: warning: nothing sets a
+  echo run $a; $run a; ls $b; x=$a
+           ^
+  bootcmd:1:14: warning: nothing sets run
+  echo run $a; $run a; ls $b; x=$a
+               ^
+  bootcmd:1:25: warning: nothing sets b
+  echo run $a; $run a; ls $b; x=$a
+                          ^
 
 two notes, in their order
   $ text 'run $a gone $b'
@@ -121,3 +145,9 @@ two notes, in their order
   run $a gone $b
               ^
   gone: not set
+  bootcmd:1:5: warning: nothing sets a
+  run $a gone $b
+      ^
+  bootcmd:1:13: warning: nothing sets b
+  run $a gone $b
+              ^

@@ -93,6 +93,9 @@ what a text runs that this shell alone reads
   if ls; then else run a $b; fi
                          ^
   a: ok
+  bootcmd:1:24: warning: nothing sets b
+  if ls; then else run a $b; fi
+                         ^
 
 what the list lacks in such a text
   $ printf 'ls\n' >ls.list
@@ -107,6 +110,12 @@ the script of an update service, by old
   $ hushcheck -c rauc.config --shell old
   bootcmd: ok
   load_kernel: not set
+  bootcmd:13:26: warning: nothing sets kernel_addr_r
+        setenv load_kernel "load mmc 0:1 ${kernel_addr_r} Image"
+                           ^
+  bootcmd:14:23: warning: nothing sets default_bootargs
+        setenv bootargs "${default_bootargs} root=/dev/mmcblk0p1 rauc.slot=A"
+                        ^
 
 a shell of another name
   $ hushcheck --shell modern

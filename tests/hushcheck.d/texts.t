@@ -5,6 +5,9 @@ One text.
 a text
   $ text 'if test -n "$a"; then load; fi'
   bootcmd: ok
+  bootcmd:1:12: warning: nothing sets a
+  if test -n "$a"; then load; fi
+             ^
 
 no command
   $ text '# nothing'

@@ -70,10 +70,16 @@ the words of a for
   bootcmd:1:23: warning: U-Boot's old shell splits this word at each space, and drops it if it is empty
   for i in "$a" b 'c d' ''; do ls "$i"; done
                         ^
+  bootcmd:1:10: warning: nothing sets a
+  for i in "$a" b 'c d' ''; do ls "$i"; done
+           ^
 
 words of a for that are read alike
   $ text 'for i in a $b '\''c'\'' "d"; do ls "e f"; done'
   bootcmd: ok
+  bootcmd:1:12: warning: nothing sets b
+  for i in a $b 'c' "d"; do ls "e f"; done
+             ^
 
 the variable of a for
   $ text 'for fi in a; do ls; done; for _a in b; do ls; done'
@@ -114,6 +120,12 @@ an underscore
   bootcmd:1:16: warning: no variable of U-Boot's old shell has a name that begins with _
   _a=1; ls "$_a" ${_b} $c_
                  ^
+  bootcmd:1:16: warning: nothing sets _b
+  _a=1; ls "$_a" ${_b} $c_
+                 ^
+  bootcmd:1:22: warning: nothing sets c_
+  _a=1; ls "$_a" ${_b} $c_
+                       ^
 
 a backslash in single quotes
   $ text 'ls '\''a\\b'\'''
@@ -142,11 +154,20 @@ a word that is partly quoted
   bootcmd:1:4: warning: U-Boot's old shell does not split a word of which a part is quoted
   ls a"b"$c "$d"e
      ^
+  bootcmd:1:4: warning: nothing sets c
+  ls a"b"$c "$d"e
+     ^
+  bootcmd:1:11: warning: nothing sets d
+  ls a"b"$c "$d"e
+            ^
 
 a word of test
   $ text 'test $a = b; test "$a" = $?'
   bootcmd: ok
   bootcmd:1:6: warning: test may be true in U-Boot if this leaves words over or too few: quote it
+  test $a = b; test "$a" = $?
+       ^
+  bootcmd:1:6: warning: nothing sets a
   test $a = b; test "$a" = $?
        ^
 
@@ -193,6 +214,15 @@ names in braces
   bootcmd:1:16: warning: U-Boot's modern shell refuses this name in braces
   ls ${?} ${a.b} ${1a} ${a}
                  ^
+  bootcmd:1:9: warning: nothing sets a.b
+  ls ${?} ${a.b} ${1a} ${a}
+          ^
+  bootcmd:1:16: warning: nothing sets 1a
+  ls ${?} ${a.b} ${1a} ${a}
+                 ^
+  bootcmd:1:22: warning: nothing sets a
+  ls ${?} ${a.b} ${1a} ${a}
+                       ^
 
 a parameter
   $ text 'ls $1 \\$2'

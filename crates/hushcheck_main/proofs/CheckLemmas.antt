@@ -133,7 +133,7 @@ checks-unscripted asked out found text x y z w f read list h =
 module _ (asked : Asked) (out out' : Sink) (found : List Copy) (text script : Option (Vec ℕ Global)) (x y z w : Told) (read : HasReadImages asked.origin x y found) (list : ReadsList asked.device_list y z (Ok text))
     (named : ReadsNamed asked.script z w (Ok script)) where
   abbrev pub here : Given
-  here = given_by asked.order found (bytes_if text) (under asked.script (bytes_if script)) asked.names asked.all asked.shell
+  here = given_by asked.order found (bytes_if text) (under asked.script (bytes_if script)) asked.names asked.all asked.shell asked.strict
 
   from-files : (IsSo : Given → Type 0) → IsSo here → FromFiles asked x w IsSo
   from-files IsSo so = record {
@@ -230,46 +230,46 @@ counts-none g out out' count (Err (Shared (fault.NoScript path why))) h = refl
 -- ---- one environment
 
 -- what is said of the environment that was found, by the names as they are given
-pub texts-in : (answer : Result (List Pair) ImageError) (env : List Pair) (devices : Result (Option Devices) DevicesError) (script : Option Named) (names names' : List Text) (all : Bool) (shell : Option Shell) (old new : Sink) (told : Result Bool CheckFault) → answer ≡ Ok env
-    → names ≡ names' → ChecksText (given (Ok env) devices script names all shell) old new told → ChecksText (given answer devices script names' all shell) old new told
-texts-in answer env devices script names names' all shell old new told found same h =
-    subst (λ (e : Result (List Pair) ImageError). ChecksText (given e devices script names' all shell) old new told) (sym found)
-    (subst (λ (ns : List Text). ChecksText (given (Ok env) devices script ns all shell) old new told) same h)
+pub texts-in : (answer : Result (List Pair) ImageError) (env : List Pair) (devices : Result (Option Devices) DevicesError) (script : Option Named) (names names' : List Text) (all : Bool) (shell : Option Shell) (strict : Bool) (old new : Sink) (told : Result Bool CheckFault) → answer ≡ Ok env
+    → names ≡ names' → ChecksText (given (Ok env) devices script names all shell strict) old new told → ChecksText (given answer devices script names' all shell strict) old new told
+texts-in answer env devices script names names' all shell strict old new told found same h =
+    subst (λ (e : Result (List Pair) ImageError). ChecksText (given e devices script names' all shell strict) old new told) (sym found)
+    (subst (λ (ns : List Text). ChecksText (given (Ok env) devices script ns all shell strict) old new told) same h)
 
 -- the refusal of the image
-pub no-texts : (answer : Result (List Pair) ImageError) (devices : Result (Option Devices) DevicesError) (script : Option Named) (names : List Text) (all : Bool) (shell : Option Shell) (old : Sink) (error : ImageError) → Finds answer (Err error)
-    → ChecksText (given answer devices script names all shell) old old (Err (of_image error))
-no-texts answer devices script names all shell old image.WrongSize h = (h, refl)
-no-texts answer devices script names all shell old image.BadCrc h = (h, refl)
-no-texts answer devices script names all shell old (image.Content error) h = (h, refl)
-no-texts answer devices script names all shell old image.TooLarge h = (h, refl)
-no-texts answer devices script names all shell old image.Memory h = inl refl
+pub no-texts : (answer : Result (List Pair) ImageError) (devices : Result (Option Devices) DevicesError) (script : Option Named) (names : List Text) (all : Bool) (shell : Option Shell) (strict : Bool) (old : Sink) (error : ImageError) → Finds answer (Err error)
+    → ChecksText (given answer devices script names all shell strict) old old (Err (of_image error))
+no-texts answer devices script names all shell strict old image.WrongSize h = (h, refl)
+no-texts answer devices script names all shell strict old image.BadCrc h = (h, refl)
+no-texts answer devices script names all shell strict old (image.Content error) h = (h, refl)
+no-texts answer devices script names all shell strict old image.TooLarge h = (h, refl)
+no-texts answer devices script names all shell strict old image.Memory h = inl refl
 
 -- the refusal of the device list
-pub no-list : (answer : Result (Option Devices) DevicesError) (env : List Pair) (script : Option Named) (names : List Text) (all : Bool) (shell : Option Shell) (old : Sink) (error : CheckFault) → Lists answer (Err error)
-    → ChecksText (given (Ok env) answer script names all shell) old old (Err error)
-no-list answer env script names all shell old (DeviceList error) h = (record { env = env; there = refl; refused = h }, refl)
-no-list answer env script names all shell old (Shared fault.Memory) h = inl refl
-no-list answer env script names all shell old (Shared (fault.Tool error)) h = absurd h
-no-list answer env script names all shell old (Shared (fault.Config error)) h = absurd h
-no-list answer env script names all shell old (Shared (fault.Lock error)) h = absurd h
-no-list answer env script names all shell old (Shared (fault.CannotRead path)) h = absurd h
-no-list answer env script names all shell old (Shared (fault.CannotWrite path)) h = absurd h
-no-list answer env script names all shell old (Shared (fault.Exists path)) h = absurd h
-no-list answer env script names all shell old (Shared (fault.FileShort path)) h = absurd h
-no-list answer env script names all shell old (Shared (fault.FileTooLong path)) h = absurd h
-no-list answer env script names all shell old (Shared fault.UnequalSizes) h = absurd h
-no-list answer env script names all shell old (Shared (fault.Text error)) h = absurd h
-no-list answer env script names all shell old (Shared fault.TextTooLarge) h = absurd h
-no-list answer env script names all shell old (Shared fault.CannotReadInput) h = absurd h
-no-list answer env script names all shell old (Shared fault.InputTooLong) h = absurd h
-no-list answer env script names all shell old (Shared (fault.InputCutOff line)) h = absurd h
-no-list answer env script names all shell old (Shared (fault.NoScript path why)) h = absurd h
+pub no-list : (answer : Result (Option Devices) DevicesError) (env : List Pair) (script : Option Named) (names : List Text) (all : Bool) (shell : Option Shell) (strict : Bool) (old : Sink) (error : CheckFault) → Lists answer (Err error)
+    → ChecksText (given (Ok env) answer script names all shell strict) old old (Err error)
+no-list answer env script names all shell strict old (DeviceList error) h = (record { env = env; there = refl; refused = h }, refl)
+no-list answer env script names all shell strict old (Shared fault.Memory) h = inl refl
+no-list answer env script names all shell strict old (Shared (fault.Tool error)) h = absurd h
+no-list answer env script names all shell strict old (Shared (fault.Config error)) h = absurd h
+no-list answer env script names all shell strict old (Shared (fault.Lock error)) h = absurd h
+no-list answer env script names all shell strict old (Shared (fault.CannotRead path)) h = absurd h
+no-list answer env script names all shell strict old (Shared (fault.CannotWrite path)) h = absurd h
+no-list answer env script names all shell strict old (Shared (fault.Exists path)) h = absurd h
+no-list answer env script names all shell strict old (Shared (fault.FileShort path)) h = absurd h
+no-list answer env script names all shell strict old (Shared (fault.FileTooLong path)) h = absurd h
+no-list answer env script names all shell strict old (Shared fault.UnequalSizes) h = absurd h
+no-list answer env script names all shell strict old (Shared (fault.Text error)) h = absurd h
+no-list answer env script names all shell strict old (Shared fault.TextTooLarge) h = absurd h
+no-list answer env script names all shell strict old (Shared fault.CannotReadInput) h = absurd h
+no-list answer env script names all shell strict old (Shared fault.InputTooLong) h = absurd h
+no-list answer env script names all shell strict old (Shared (fault.InputCutOff line)) h = absurd h
+no-list answer env script names all shell strict old (Shared (fault.NoScript path why)) h = absurd h
 
 -- the same check with a device list that is another way to write this one
-pub listed-as : (answer answer' : Result (Option Devices) DevicesError) (env : List Pair) (script : Option Named) (names : List Text) (all : Bool) (shell : Option Shell) (old new : Sink) (told : Result Bool CheckFault) → answer ≡ answer'
-    → ChecksText (given (Ok env) answer script names all shell) old new told → ChecksText (given (Ok env) answer' script names all shell) old new told
-listed-as answer answer' env script names all shell old new told e h = subst (λ (d : Result (Option Devices) DevicesError). ChecksText (given (Ok env) d script names all shell) old new told) e h
+pub listed-as : (answer answer' : Result (Option Devices) DevicesError) (env : List Pair) (script : Option Named) (names : List Text) (all : Bool) (shell : Option Shell) (strict : Bool) (old new : Sink) (told : Result Bool CheckFault) → answer ≡ answer'
+    → ChecksText (given (Ok env) answer script names all shell strict) old new told → ChecksText (given (Ok env) answer' script names all shell strict) old new told
+listed-as answer answer' env script names all shell strict old new told e h = subst (λ (d : Result (Option Devices) DevicesError). ChecksText (given (Ok env) d script names all shell strict) old new told) e h
 
 -- the environment of the images, by the bytes of their copies
 pub found-in : (order : ByteOrder) (images : Images) (first : List ℕ) (second : Option (List ℕ)) → first ≡ images.first.bytes.items → second ≡ option_map (λ copy. copy.bytes.items) images.second

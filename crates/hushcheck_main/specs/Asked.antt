@@ -13,7 +13,8 @@ use Rattle.tool_words.specs.declared.ask.OriginError.{OriginError}
 use Rattle.rehearse_terms.specs.declared.shell.Shell.{Shell}
 
 -- what names the images, and the paths of the device list and of the script, if there are any; the variables to check, and
--- whether every variable is checked after them; the shell that is named, if one is; and how the checksum is stored
+-- whether every variable is checked after them; the shell that is named, if one is; whether a
+-- warning is a fault; and how the checksum is stored
 pub record Asked : Type 0 where
   pub origin : OriginShown
   pub device_list : Option Text
@@ -21,6 +22,7 @@ pub record Asked : Type 0 where
   pub names : List Text
   pub all : Bool
   pub shell : Option Shell
+  pub strict : Bool
   pub order : ByteOrder
 
 -- `bootcmd` if no name is given, and neither every variable nor a script is asked for
@@ -56,6 +58,7 @@ asked_from rows shell origin = record {
   names = or_bootcmd (is_set (codes "all") rows || has_script rows) (values_of (codes "names") rows);
   all = is_set (codes "all") rows;
   shell = shell;
+  strict = is_set (codes "strict") rows;
   order = order_of rows;
 }
 
@@ -82,5 +85,6 @@ asked_by origin list what order = record {
   names = map string_bytes what.names.items;
   all = what.all;
   shell = what.shell;
+  strict = what.strict;
   order = order;
 }

@@ -43,7 +43,7 @@ under (Some name) (Some text) = Some (name, text)
 under name text = None
 
 -- the environment that was found, the device list and the script if there are any, the names that the call gives, whether
--- every variable is checked after them, and the shell that is named, if one is
+-- every variable is checked after them, the shell that is named, if one is, and whether a warning is a fault
 pub record Given : Type 0 where
   pub env : Result (List Pair) ImageError
   pub devices : Result (Option Devices) DevicesError
@@ -51,11 +51,12 @@ pub record Given : Type 0 where
   pub names : List Text
   pub all : Bool
   pub shell : Option Shell
+  pub strict : Bool
 
 abbrev pub given : Result (List Pair) ImageError → Result (Option Devices) DevicesError → Option Named → List Text → Bool →
-    Option Shell → Given
-given env devices script names all shell =
-    record { env = env; devices = devices; script = script; names = names; all = all; shell = shell }
+    Option Shell → (strict : Bool) → Given
+given env devices script names all shell strict =
+    record { env = env; devices = devices; script = script; names = names; all = all; shell = shell; strict = strict }
 
 abbrev pub with_list : Result Devices DevicesError → Result (Option Devices) DevicesError
 with_list (Ok devices) = Ok (Some devices)
@@ -67,12 +68,14 @@ list_in None = Ok None
 list_in (Some text) = with_list (listed text)
 
 -- the same for copies and the text of a device list
-abbrev pub given_by : ByteOrder → List Copy → (list : Option Text) → Option Named → List Text → Bool → Option Shell → Given
-given_by order found list script names all shell = given (environment order found) (list_in list) script names all shell
+abbrev pub given_by : ByteOrder → List Copy → (list : Option Text) → Option Named → List Text → Bool → Option Shell →
+    (strict : Bool) → Given
+given_by order found list script names all shell strict =
+    given (environment order found) (list_in list) script names all shell strict
 
 -- what the texts are held to
 abbrev pub rules_in : Option Devices → Given → Rules
-rules_in devices g = record { devices = devices; shell = g.shell }
+rules_in devices g = record { devices = devices; shell = g.shell; strict = g.strict }
 
 -- ---- a script, or none
 
@@ -197,7 +200,7 @@ IsUnread asked old fault = IsOriginFault asked.origin old.stored fault
 -- and what is checked then has this property
 abbrev pub FromFiles : Asked → (old new : Told) → (Given → Type 0) → Type 0
 FromFiles asked old new IsSo = AreFound asked old new (λ found list script.
-    IsSo (given_by asked.order found list (under asked.script script) asked.names asked.all asked.shell))
+    IsSo (given_by asked.order found list (under asked.script script) asked.names asked.all asked.shell asked.strict))
 
 -- The files were read and the texts checked, or the image or the device list is refused; or a read is refused, and files
 -- were only read. Memory may run out at any time, also when lines were written.

@@ -1,4 +1,4 @@
--- The command line that `clap` is given: eight options and two flags, and names. The options but `--all` are those of
+-- The command line that `clap` is given: eight options and three flags, and names. All but `--all` and `--strict` are those of
 -- `ubtool`. It is ours.
 use Rattle.std.specs.Prelude.{[], ◌∷◌, false, true, codes}
 use Rattle.clap.specs.Words.{App, Rule, Shape, new_app}
@@ -19,8 +19,12 @@ device_list = record ubtool.device_list { required = false }
 abbrev pub all : Rule
 all = long_flag (codes "all")
 
+-- a warning is a fault
+abbrev pub strict : Rule
+strict = long_flag (codes "strict")
+
 -- `[-c FILE] [-i FILE] [--second FILE] [--text FILE] [--big-endian] [-d FILE] [--script FILE] [--all] [--shell NAME]
--- [NAME]..`
+-- [--strict] [NAME]..`
 unfoldable pub hushcheck : App
 hushcheck = with_rules base
-    (config ∷ image ∷ second ∷ text_file ∷ big_endian ∷ device_list ∷ script_file ∷ all ∷ shell ∷ names ∷ [])
+    (config ∷ image ∷ second ∷ text_file ∷ big_endian ∷ device_list ∷ script_file ∷ all ∷ shell ∷ strict ∷ names ∷ [])

@@ -28,4 +28,6 @@ pub struct CheckAsk {
     pub all: bool,
     /// The shell that is named, if one is.
     pub shell: Option<Shell>,
+    /// Whether a warning is a fault.
+    pub strict: bool,
 }

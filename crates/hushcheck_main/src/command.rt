@@ -22,15 +22,20 @@ name FILE. It is a script, or a script image for U-Boot's 'source'. Without
 -c, -i or --text beside it the environment is empty.
 
 A line with 'warning:' names a place that a shell of U-Boot reads otherwise than
-ubtool does by itself, and says how. It changes no status.
+ubtool does by itself, and says how. After the lines of the texts there is one,
+'warning: nothing sets VARIABLE', at the first place where a text reads a
+variable that is not in the environment and that neither a text sets nor, as
+the device list has it, a command or the board. A warning changes the status
+only with --strict.
 
 With -d there is such a place, and 'the device list lacks COMMAND', for each
 command that a text calls by a plain name and that is neither built in nor in
 the device list.
 
 The status is 0 if all texts are well-formed, each NAME is set and the device
-list lacks no command; 1 if that is not so; 2 if the words are wrong; 3 if a
-file, the image, the device list or the output is refused, or memory ran out.
+list lacks no command; 1 if that is not so, or with --strict if there is a
+warning; 2 if the words are wrong; 3 if a file, the image, the device list or
+the output is refused, or memory ran out.
 
 Examples:
   hushcheck
@@ -38,6 +43,7 @@ Examples:
   hushcheck --all -d devices
   hushcheck -c fw_env.config --big-endian
   hushcheck --shell old
+  hushcheck -d devices --strict
   hushcheck --text env.txt
   hushcheck --script boot.cmd
   hushcheck --script boot.scr --text env.txt -d devices
@@ -55,7 +61,7 @@ fn base<'a>(alloc: Global) -> Result<Command<'a>, AllocError>
     Ok(command.no_binary_name(true))
 }
 
-const ARGUMENTS: [Argument<'static>; 10] = [
+const ARGUMENTS: [Argument<'static>; 11] = [
     CONFIG,
     IMAGE,
     SECOND,
@@ -85,6 +91,15 @@ const ARGUMENTS: [Argument<'static>; 10] = [
         value: "NAME",
         help: "Name what a rehearsal by this shell does not follow: profile, old-2023.01, \
             old-2025.01 or old [default: what any shell reads otherwise]",
+    },
+    Argument {
+        id: "strict",
+        form: Form::Flag,
+        letter: None,
+        alias: None,
+        required: false,
+        value: "",
+        help: "Exit with status 1 if there is a warning",
     },
     Argument {
         help: "Variables to check, in order [default: bootcmd, with --all none]",

@@ -87,7 +87,7 @@ fn check_names<O: Out>(
 
 /// Checks the texts of an environment and the script, if there is one, with this device list if there is
 /// one, and writes what is reported of them. Returns false if a text is not well-formed, a name is not set,
-/// or the device list lacks a command.
+/// the device list lacks a command, or there is a warning and that is a fault.
 fn check_with<O: Out>(
     alloc: Global,
     devices: Option<&Devices>,
@@ -96,16 +96,22 @@ fn check_with<O: Out>(
     names: &[&[u8]],
     all: bool,
     shell: Option<Shell>,
+    strict: bool,
     out: &mut O,
 ) -> Result<bool, CheckFault>
     ensures { ChecksText (given (Ok env.now) (Ok (option_map (λ d. d.now) devices.entry))
-        (script_shown script.entry) (map (λ n. n.now) names.now) all shell)
+        (script_shown script.entry) (map (λ n. n.now) names.now) all shell strict)
         (O.sink out.old) (O.sink out.new) result }
 {
     let Ok(names) = asked_names(alloc, env, names, all) else {
         return Err(CheckFault::Shared(Fault::Memory));
     };
-    match check_names(alloc, &Rules { devices, shell }, env, script, &names, out) {
+    let rules = Rules {
+        devices,
+        shell,
+        strict,
+    };
+    match check_names(alloc, &rules, env, script, &names, out) {
         Ok(sound) => Ok(sound),
         Err(CheckError::Write) => Err(CheckFault::Shared(Fault::Tool(ToolError::Write))),
         Err(CheckError::Memory) => Err(CheckFault::Shared(Fault::Memory)),
@@ -121,14 +127,25 @@ fn check_env<O: Out>(
     names: &[&[u8]],
     all: bool,
     shell: Option<Shell>,
+    strict: bool,
     out: &mut O,
 ) -> Result<bool, CheckFault>
     ensures { ChecksText (given (Ok env.now) (list_in (option_copied list.entry))
-        (script_shown script.entry) (map (λ n. n.now) names.now) all shell)
+        (script_shown script.entry) (map (λ n. n.now) names.now) all shell strict)
         (O.sink out.old) (O.sink out.new) result }
 {
     let devices = list_of(alloc, list)?;
-    check_with(alloc, devices.as_ref(), env, script, names, all, shell, out)
+    check_with(
+        alloc,
+        devices.as_ref(),
+        env,
+        script,
+        names,
+        all,
+        shell,
+        strict,
+        out,
+    )
 }
 
 /// The same for images that were read, a single one or a pair.
@@ -142,7 +159,8 @@ fn check_images<O: Out>(
     out: &mut O,
 ) -> Result<bool, CheckFault>
     ensures { ChecksText (given_by order (copies images.now) (option_copied list.entry)
-        (script_shown script.entry) (map string_bytes what.now.names.items) what.now.all what.now.shell)
+        (script_shown script.entry) (map string_bytes what.now.names.items) what.now.all what.now.shell
+        what.now.strict)
         (O.sink out.old) (O.sink out.new) result }
 {
     let Ok(names) = slices_of(alloc, &what.names) else {
@@ -150,7 +168,17 @@ fn check_images<O: Out>(
     };
     let second = images.second_bytes();
     let env = env_of_image(alloc, &images.first.bytes, second, order)?;
-    check_env(alloc, &env, list, script, &names, what.all, what.shell, out)
+    check_env(
+        alloc,
+        &env,
+        list,
+        script,
+        &names,
+        what.all,
+        what.shell,
+        what.strict,
+        out,
+    )
 }
 
 /// Reads the text of the device list, if one is named.

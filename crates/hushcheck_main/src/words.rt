@@ -135,6 +135,7 @@ fn ask_of(alloc: Global, matches: &ArgMatches<'_>) -> Result<Ask, UseError>
             names: names_of(alloc, matches, all || has_script(matches))?,
             all,
             shell,
+            strict: is_set(matches, "strict"),
         },
         order: order_of(matches),
     })

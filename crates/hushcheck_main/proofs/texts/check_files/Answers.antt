@@ -57,7 +57,7 @@ returns-clause-told g c =
     let script = c.in_ok-text.text in
     let shown : script_shown c.under-script.result ≡ under asked.script (bytes_if script) =
     c.under-script.ensures ∙ ap (λ (name : Option (List ℕ)). under name (option_copied c.as_deref.result)) c.bytes_of.ensures ∙ ap (under asked.script) c.as_deref.ensures.value in
-    let P : Option (List ℕ) → Option Named → Type 0 = λ list script. ChecksText (given_by asked.order found list script asked.names asked.all asked.shell) out out' c.check_images.result in
+    let P : Option (List ℕ) → Option Named → Type 0 = λ list script. ChecksText (given_by asked.order found list script asked.names asked.all asked.shell asked.strict) out out' c.check_images.result in
     let of_list : P (bytes_if list) (script_shown c.under-script.result) = subst (λ (t : Option (List ℕ)). P t (script_shown c.under-script.result)) c.as_deref-2.ensures.value c.check_images.ensures in
     let checked : P (bytes_if list) (under asked.script (bytes_if script)) = subst (λ (s : Option Named). P (bytes_if list) s) shown of_list in
     then-three a b d e (λ x y z w h i k. checks-read asked out out' found list script x y z w h i k c.check_images.result checked)

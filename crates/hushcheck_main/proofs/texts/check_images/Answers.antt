@@ -21,12 +21,12 @@ returns-in_err-env g c =
     let names = map string_bytes c.args.what.now.names.items in
     let p = err_from_is_err_and c.from_residual.result c.from_residual.ensures.1 in
     let is : c.from_residual.result ≡ Err (of_image c.in_err-env.field-0.0) = p.1 ∙ ap Err p.2 in
-    let P : Result Bool CheckFault → Type 0 = λ r. ChecksText (given answer devices script names c.args.what.now.all c.args.what.now.shell) out out r in
-    subst P (sym is) (no-texts answer devices script names c.args.what.now.all c.args.what.now.shell out c.in_err-env.field-0.0
+    let P : Result Bool CheckFault → Type 0 = λ r. ChecksText (given answer devices script names c.args.what.now.all c.args.what.now.shell c.args.what.now.strict) out out r in
+    subst P (sym is) (no-texts answer devices script names c.args.what.now.all c.args.what.now.shell c.args.what.now.strict out c.in_err-env.field-0.0
     (subst (λ e. Finds e (Err c.in_err-env.field-0.0)) (sym (found-in c.args.order c.args.images.now c.deref-2.result.now (option_copied c.second_bytes-second.result) c.deref-2.ensures.value c.second_bytes-second.ensures)) c.in_err-env.ensures))
 
 pub returns : goal.returns
 returns g c =
-    texts-in (environment c.args.order (copies c.args.images.now)) c.in_ok-env.env (list_in (option_copied c.args.list)) (script_shown c.args.script) _ _ c.args.what.now.all c.args.what.now.shell (g.O.Out.sink c.args.out.now) (g.O.Out.sink c.check_env.new.out) c.check_env.result
+    texts-in (environment c.args.order (copies c.args.images.now)) c.in_ok-env.env (list_in (option_copied c.args.list)) (script_shown c.args.script) _ _ c.args.what.now.all c.args.what.now.shell c.args.what.now.strict (g.O.Out.sink c.args.out.now) (g.O.Out.sink c.check_env.new.out) c.check_env.result
     (found-in c.args.order c.args.images.now c.deref-2.result.now (option_copied c.second_bytes-second.result) c.deref-2.ensures.value c.second_bytes-second.ensures ∙ c.in_ok-env.ensures)
     (ap (map (λ n. n.now)) c.deref-3.ensures.value ∙ c.in-Ok.ensures.slices ∙ ap (map string_bytes) c.deref.ensures.value) c.check_env.ensures
