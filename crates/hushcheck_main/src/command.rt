@@ -25,8 +25,8 @@ A line with 'warning:' names a place that a shell of U-Boot reads otherwise than
 ubtool does by itself, and says how. After the lines of the texts there is one,
 'warning: nothing sets VARIABLE', at the first place where a text reads a
 variable that is not in the environment and that neither a text sets nor, as
-the device list has it, a command or the board. A warning changes the status
-only with --strict.
+the device list says, a command. A warning changes the status only with
+--strict.
 
 With -d there is such a place, and 'the device list lacks COMMAND', for each
 command that a text calls by a plain name and that is neither built in nor in
