@@ -181,6 +181,10 @@ files of test
   test ! -e mmc 0 a; test -e mmc 0 a; test -e mmc 0 a -o b
                                                       ^
 
+-e that is compared
+  $ text 'test a = -e; test a != -e'
+  bootcmd: ok
+
 an empty word
   $ text 'ls '\'''\'' ""'
   bootcmd: ok

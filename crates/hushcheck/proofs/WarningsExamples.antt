@@ -96,6 +96,11 @@ operands : warnings_of (codes "test $x = a; test \"$x\" = a -a $? = 0; echo $x; 
 unfolding step bare dollar braced inside front word_front
 operands = refl
 
+-- `-e` that is compared, and one behind a comparison
+compared : warnings_of (codes "test a = -e; test a != -e; test = -e; test a = -e -o -e b") ≡ (34, Warns FileTest) ∷ (53, Warns FileTest) ∷ []
+unfolding step bare dollar braced inside front word_front
+compared = refl
+
 -- `-e` that is not the first word of `test`, and a word too many behind it; not `-e` with three words
 file_tests : warnings_of (codes "test ! -e mmc 0 a; test -e mmc 0 a; test -e mmc 0 a -a b; echo a -e") ≡ (7, Warns FileTest) ∷ (52, Warns FileTest) ∷ []
 unfolding step bare dollar braced inside front word_front

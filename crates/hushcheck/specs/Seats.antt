@@ -8,7 +8,7 @@ use Rattle.hushlang.specs.ByteClasses as bytes
 use Rattle.hushcheck.specs.declared.seat.Start.{Start}
 use Rattle.hushcheck.specs.declared.seat.Start.TheVariants.{Opens, For, GoesOn, Closes, Assigns, Command}
 use Rattle.hushcheck.specs.declared.seat.Name.{Name}
-use Rattle.hushcheck.specs.declared.seat.Name.TheVariants.{Test, TestFile, SetEnv, Other}
+use Rattle.hushcheck.specs.declared.seat.Name.TheVariants.{Test, TestFile, TestText, SetEnv, Other}
 use Rattle.hushcheck.specs.declared.seat.Stand.{Stand}
 use Rattle.hushcheck.specs.declared.seat.Stand.TheVariants.{Assigned, Called, Variable, In, Items}
 
@@ -67,9 +67,16 @@ abbrev pub behind_first : Start → List ℕ → Stand
 behind_first Assigns text = Assigned
 behind_first start text = Called (name_of text) 1
 
--- `-e` as the first word of `test`
+-- `test` compares two texts, also if the second is `-e`
+abbrev pub compares : List ℕ → Bool
+compares text = same text (codes "=") || same text (codes "!=")
+
+-- `-e` as the first word of `test`, and the word behind a comparison
 abbrev pub name_behind : Name → ℕ → List ℕ → Name
-name_behind Test words text = if (words == 1) && same text (codes "-e") then TestFile else Test
+name_behind Test words text =
+    if (words == 1) && same text (codes "-e") then TestFile
+    else (if nat_le 2 words && compares text then TestText else Test)
+name_behind TestText words text = Test
 name_behind name words text = name
 
 -- words are counted up to the one that is too many in U-Boot's old shell

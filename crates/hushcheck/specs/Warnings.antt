@@ -16,7 +16,7 @@ use Rattle.hushcheck.specs.declared.sights.Seen.{Seen}
 use Rattle.hushcheck.specs.declared.seat.Start.{Start}
 use Rattle.hushcheck.specs.declared.seat.Start.TheVariants.{Opens, For, GoesOn, Closes, Assigns, Command}
 use Rattle.hushcheck.specs.declared.seat.Name.{Name}
-use Rattle.hushcheck.specs.declared.seat.Name.TheVariants.{Test, TestFile, SetEnv}
+use Rattle.hushcheck.specs.declared.seat.Name.TheVariants.{Test, TestFile, TestText, SetEnv}
 use Rattle.hushcheck.specs.declared.seat.Stand.{Stand}
 use Rattle.hushcheck.specs.declared.seat.Stand.TheVariants.{Fresh, Begins, Assigned, Called, Variable, In, Items, Behind}
 use Rattle.hushcheck.specs.declared.seat.Link.{Link}
@@ -70,9 +70,10 @@ by_start start text at found = found
 abbrev pub is_loose_operand : Name → Seen → Bool
 is_loose_operand Test seen = seen.loose
 is_loose_operand TestFile seen = seen.loose
+is_loose_operand TestText seen = seen.loose
 is_loose_operand name seen = false
 
--- `-e` of `test` that is not its first word, and a fifth word of `test -e`
+-- `-e` of `test` that is not its first word and not compared, and a fifth word of `test -e`
 abbrev pub is_file_test : Name → (words : ℕ) → Text → Bool
 is_file_test Test words text = nat_le 2 words && same text (codes "-e")
 is_file_test TestFile words text = words == 5

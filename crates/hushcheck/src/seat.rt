@@ -30,6 +30,8 @@ pub(crate) enum Name {
     Test,
     /// `test -e`.
     TestFile,
+    /// `test`, straight behind `=` or `!=`.
+    TestText,
     /// `setenv`.
     SetEnv,
     /// Another one.
@@ -211,12 +213,21 @@ pub(crate) fn behind_first(start: Start, text: &[u8]) -> Stand
     }
 }
 
+/// Whether a word of `test` compares texts, so that the word behind it is one.
+fn compares(text: &[u8]) -> bool
+    ensures { result ≡ spec.compares text.now }
+{
+    text == b"=".as_slice() || text == b"!=".as_slice()
+}
+
 /// The command, behind a word of its call.
 fn name_behind(name: Name, words: usize, text: &[u8]) -> Name
     ensures { result ≡ spec.name_behind name words text.now }
 {
     match name {
         Name::Test if words == 1 && text == b"-e".as_slice() => Name::TestFile,
+        Name::Test if 2 <= words && compares(text) => Name::TestText,
+        Name::TestText => Name::Test,
         _ => name,
     }
 }

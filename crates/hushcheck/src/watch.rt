@@ -82,7 +82,7 @@ fn is_loose_operand(name: Name, seen: Seen) -> bool
     ensures { result ≡ spec.is_loose_operand name seen }
 {
     match name {
-        Name::Test | Name::TestFile => seen.loose,
+        Name::Test | Name::TestFile | Name::TestText => seen.loose,
         Name::SetEnv | Name::Other => false,
     }
 }
@@ -94,7 +94,7 @@ fn is_file_test(name: Name, words: usize, text: &[u8]) -> bool
     match name {
         Name::Test => 2 <= words && text == b"-e".as_slice(),
         Name::TestFile => words == 5,
-        Name::SetEnv | Name::Other => false,
+        Name::TestText | Name::SetEnv | Name::Other => false,
     }
 }
 
@@ -104,7 +104,7 @@ fn is_option(name: Name, words: usize, text: &[u8]) -> bool
 {
     match name {
         Name::SetEnv => words == 1 && (starts_with(text, b'-') || is_empty_word(text)),
-        Name::Test | Name::TestFile | Name::Other => false,
+        Name::Test | Name::TestFile | Name::TestText | Name::Other => false,
     }
 }
 
