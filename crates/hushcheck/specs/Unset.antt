@@ -43,7 +43,8 @@ used_by rules env name = used_by_value rules name (value_of env name)
 
 -- ---- what is set
 
--- the variables that a device list says the board sets before a script runs
+-- The variables that the board's own code sets before a script runs, as far as the device list says it. No line of a list
+-- says it.
 abbrev pub given_names : Option Devices → List Text
 given_names devices = []
 

@@ -263,11 +263,10 @@ fn check_names<'a, O: Out>(
 /// what a rehearsal by it does not follow; which commands the device list lacks, if there is one;
 /// which names of `run` are not followed; and of which calls it is not known what they set. With an old
 /// shell a text is well-formed too if that shell reads it. Then writes which variables nothing sets, of those
-/// that the texts read: neither the environment has them, nor the device list gives them, nor a text sets them.
-/// Each is written once, at the first word that reads it. Returns whether all is well: each name that is asked
-/// for is set, each text is well-formed, the device list lacks no command, and if a warning is a fault, there
-/// is none. The lines are written as the check goes. Errors: the output failed, or memory ran out; the first
-/// lines are then written.
+/// that the texts read: neither the environment has them nor a text sets them. Each is written once, at the
+/// first word that reads it. Returns whether all is well: each name that is asked for is set, each text is
+/// well-formed, the device list lacks no command, and if a warning is a fault, there is none. The lines are
+/// written as the check goes. Errors: the output failed, or memory ran out; the first lines are then written.
 pub fn check<O: Out>(
     alloc: Global,
     rules: &Rules<'_>,
