@@ -157,7 +157,7 @@ function read_line(line,    words, many, at, named) {
 
 # whether the words of a call, from the second, fit a pattern
 function fits(pattern, words, many,    parts, count, at, part) {
-    count = split(pattern, parts, "\n") - 1
+    count = pattern == "" ? 0 : split(pattern, parts, "\n") - 1
     for (at = 1; at <= count; at++) {
         part = parts[at]
         if (part == "**" && at == count)
