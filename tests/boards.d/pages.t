@@ -54,8 +54,13 @@ of open questions
   $ cmp found shown
 
 of a script
-  $ sed -n '/^## A script in a file/,/^## A real/p' "$page" | calls
+  $ sed -n '/^## A script in a file/,/^## What the board/p' "$page" | calls
   1
+  $ cmp found shown
+
+of what the board sets
+  $ sed -n '/^## What the board sets/,/^## A real/p' "$page" | calls
+  2
   $ cmp found shown
 
 the states with steady test
