@@ -149,7 +149,7 @@ values with blanks
   unset p
   end 1
   done
-  $ runs 'fdt boardsetup' "call fdt boardsetup : p=a' : @1 'b always 0"
+  $ runs 'fdt boardsetup' "call  fdt  boardsetup :  p=a' : @1 'b  always  0"
   run .
   dev 0 fdt boardsetup
   unset fdtaddr

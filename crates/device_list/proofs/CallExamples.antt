@@ -136,6 +136,13 @@ other_lines = refl
 words_quoted : quoted_words (codes " \ta='b  c'd e\t") ≡ codes "a='b  c'd" ∷ codes "e" ∷ []
 words_quoted = refl
 
+-- blanks beside blanks make no words, and a tab in quotes is a byte
+words_apart : quoted_words (codes "a  b \t 'c\td'") ≡ codes "a" ∷ codes "b" ∷ codes "'c\td'" ∷ []
+words_apart = refl
+
+value_with_a_backslash : unquoted (codes "'a\\b'") ≡ Some (codes "a\\b")
+value_with_a_backslash = refl
+
 -- a quote that is not closed goes to the end of the line
 words_open : quoted_words (codes "a 'b c") ≡ codes "a" ∷ codes "'b c" ∷ []
 words_open = refl

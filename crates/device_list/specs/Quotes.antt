@@ -1,5 +1,5 @@
--- Single quotes in a line of a device list, as the shell reads them. Ours; what they mean is of U-Boot's documentation,
--- doc/usage/cmdline.rst.
+-- Single quotes in a line of a device list, as the shell reads them. Ours; U-Boot's old shell (common/cli_hush.c) drops a
+-- backslash in them, which is a byte here.
 use Rattle.std.specs.Prelude.{ℕ, ◌==◌, not, Bool, true, false, List, [], ◌∷◌, filter, Option, Some, None, option_map, if◌then◌else◌}
 use Rattle.text.specs.Words.{is_space, trimmed}
 use Rattle.text.specs.Lines.{Text}

@@ -63,8 +63,8 @@ impl Devices {
     /// `*` each that starts so, and a last `**` any number. Clauses are `final`, `steady`, `always 0` and
     /// `always 1` (the only status of the call, which then takes no outcome), and settings, in any order;
     /// there, `VAR=@N` and `VAR=@last` have a word of the call as the value, and a value may have parts in
-    /// single quotes, with blanks in them. `absent NAME` is `call NAME ** : always 1`. Spaces, tabs and carriage returns round a line are dropped;
-    /// spaces and tabs separate its words. Lines without a word, and lines that begin with `#`, are
+    /// single quotes, with blanks in them. `absent NAME` is `call NAME ** : always 1`. Spaces, tabs and
+    /// carriage returns round a line are dropped; spaces and tabs separate its words. Lines without a word, and lines that begin with `#`, are
     /// skipped. The first word is the name, unless it is `final` or `steady` and a word without `=`
     /// follows, or `sub` and two such words follow. Each further word is a setting: a variable, the first
     /// `=`, and a value that may be empty. In a `sub` line, `@N` and `@last` stand for the variable that
