@@ -1,0 +1,205 @@
+-- What each kind of command and each part of a script reads and writes, computed from the script's text.
+use Rattle.std.proofs.Common.{◌≡◌, refl, true, false, List, [], ◌∷◌, map, Some, None, codes}
+use Rattle.std.specs.Fmt.{digits}
+use Rattle.hushlang.specs.Expansion.{fields, joined, atoms}
+use Rattle.hushlang.specs.Trees.{tree_of}
+use Rattle.hushlang_old.specs.OldTrees.{lacks_end, old_tree_of}
+use Rattle.hushlang_old.specs.OldFields.{old_fields, old_turns, inserted, word_text, command_text, read, reread}
+use Rattle.hushlang_old.specs.TreesByShell.{tree_in}
+use Rattle.device_list.specs.DeviceList.{Variable, Literal, Devices, only}
+use Rattle.device_list.specs.DeviceLaws.{quiet}
+use Rattle.rehearse_terms.specs.Outcomes.{OutcomeWord, Success, Failure}
+use Rattle.rehearse_terms.specs.State.{Text, Variables, State, LoggedCommand, start}
+use Rattle.rehearse_terms.specs.declared.shell.Shell.{Shell}
+use Rattle.rehearse_terms.specs.declared.shell.Shell.TheVariants.{Profile, Old2023, Old2025}
+use Rattle.rehearse_rules.specs.Execution.{Limits}
+use Rattle.rehearse_reads.specs.Keys.{Key, Environment, Local, AnswerTo, Status, Access, Reads, Writes, keys_read}
+use Rattle.rehearse_reads.specs.Accesses.{accesses}
+
+-- ---- what they are computed with
+
+-- `load` is asked each time, `stay` once, and `set` sets the variable b
+abbrev devices : Devices
+devices = record (only ((codes "load", quiet) ∷ (codes "stay", record quiet { stays = true })
+    ∷ (codes "set", record quiet { sets = (Variable (codes "b"), Literal (codes "1")) ∷ [] }) ∷ [])) { known = codes "env" ∷ [] }
+
+abbrev limits : Shell → Limits
+limits shell = record { devices = devices; device_bound = 4; step_bound = 20; shell = shell }
+
+-- the variable a is set, and so is x, whose text is `true`
+abbrev variables : Variables
+variables = (codes "a", codes "1") ∷ (codes "x", codes "true") ∷ []
+
+abbrev before : OutcomeWord → State
+before word = start variables word
+
+-- what a text reads and writes in a shell, from a state
+unfoldable reached_in : Shell → State → Text → List Access
+unfolding tree_of old_tree_of lacks_end fields joined atoms digits old_fields old_turns inserted word_text command_text read reread
+reached_in shell s text = elim (tree_in shell text) [ None ↦ [] | Some t ↦ accesses (limits shell) 5 t s ]
+
+-- with a word of successes, in ubtool's own shell
+abbrev reached : Text → List Access
+reached text = reached_in Profile (before (Success ∷ Success ∷ Success ∷ [])) text
+
+-- ---- words
+
+abbrev a : Key
+a = Environment (codes "a")
+
+abbrev b : Key
+b = Environment (codes "b")
+
+variable_that_is_set : reached (codes "echo $a") ≡ Reads a ∷ Writes Status ∷ []
+unfolding reached_in
+variable_that_is_set = refl
+
+-- that it is not set in the environment is read too, and then the shell variable
+variable_that_is_not : reached (codes "echo \"$b\"") ≡ Reads b ∷ Reads (Local (codes "b")) ∷ Writes Status ∷ []
+unfolding reached_in
+variable_that_is_not = refl
+
+status_in_a_word : reached (codes "echo $?") ≡ Reads Status ∷ Writes Status ∷ []
+unfolding reached_in
+status_in_a_word = refl
+
+words_without_a_variable : reached (codes "echo a 'b c'") ≡ Writes Status ∷ []
+unfolding reached_in
+words_without_a_variable = refl
+
+-- ---- commands that change variables
+
+assignment : reached (codes "y=$a") ≡ Reads a ∷ Writes (Local (codes "y")) ∷ Writes Status ∷ []
+unfolding reached_in
+assignment = refl
+
+setting : reached (codes "setenv b 1") ≡ Writes b ∷ Writes Status ∷ []
+unfolding reached_in
+setting = refl
+
+deleting : reached (codes "setenv b") ≡ Writes b ∷ Writes Status ∷ []
+unfolding reached_in
+deleting = refl
+
+bad_name : reached (codes "setenv -f 1") ≡ Writes Status ∷ []
+unfolding reached_in
+bad_name = refl
+
+is_it_set : reached (codes "env exists b") ≡ Reads b ∷ Writes Status ∷ []
+unfolding reached_in
+is_it_set = refl
+
+-- the status says whether it was set
+deleting_by_env : reached (codes "env delete a b") ≡ Reads a ∷ Writes a ∷ Reads b ∷ Writes b ∷ Writes Status ∷ []
+unfolding reached_in
+deleting_by_env = refl
+
+-- ---- texts of variables
+
+-- the text, and the status with which it ended
+text_that_runs : reached (codes "run x") ≡ Reads (Environment (codes "x")) ∷ Writes Status ∷ Reads Status ∷ []
+unfolding reached_in
+text_that_runs = refl
+
+-- a shell variable of the name is not read
+text_that_is_not_there : reached (codes "run b") ≡ Reads b ∷ Writes Status ∷ []
+unfolding reached_in
+text_that_is_not_there = refl
+
+second_text : reached (codes "run x b") ≡ Reads (Environment (codes "x")) ∷ Writes Status ∷ Reads Status ∷ Reads b ∷ Writes Status ∷ []
+unfolding reached_in
+second_text = refl
+
+-- ---- device commands
+
+asked_each_time : reached (codes "load a") ≡ Writes Status ∷ []
+unfolding reached_in
+asked_each_time = refl
+
+-- one whose answer stays reads that it has none
+asked_once : reached (codes "stay a") ≡ Reads (AnswerTo (codes "stay" ∷ codes "a" ∷ [])) ∷ Writes Status ∷ []
+unfolding reached_in
+asked_once = refl
+
+-- without an outcome it reads that, too
+no_outcome_left : reached_in Profile (before []) (codes "stay a; echo $a") ≡ Reads (AnswerTo (codes "stay" ∷ codes "a" ∷ [])) ∷ []
+unfolding reached_in
+no_outcome_left = refl
+
+-- or the answer that it has
+abbrev logged : LoggedCommand
+logged = record { success = false; words = codes "stay" ∷ []; stays = true; again = false }
+
+told_again : reached_in Profile (record (before []) { log = logged ∷ [] }) (codes "stay") ≡ Reads (AnswerTo (codes "stay" ∷ [])) ∷ Writes Status ∷ []
+unfolding reached_in
+told_again = refl
+
+sets_on_success : reached (codes "set") ≡ Writes Status ∷ Writes b ∷ []
+unfolding reached_in
+sets_on_success = refl
+
+sets_nothing_on_failure : reached_in Profile (before (Failure ∷ [])) (codes "set") ≡ Writes Status ∷ []
+unfolding reached_in
+sets_nothing_on_failure = refl
+
+-- ---- where the status decides
+
+and_or : reached (codes "true && true || true") ≡ Writes Status ∷ Reads Status ∷ Writes Status ∷ Reads Status ∷ []
+unfolding reached_in
+and_or = refl
+
+condition : reached (codes "if true; then echo $a; fi") ≡ Writes Status ∷ Reads Status ∷ Reads a ∷ Writes Status ∷ []
+unfolding reached_in
+condition = refl
+
+-- a block that is not run reads nothing
+block_not_run : reached (codes "if false; then echo $a; fi") ≡ Writes Status ∷ Reads Status ∷ Writes Status ∷ []
+unfolding reached_in
+block_not_run = refl
+
+loop : reached (codes "until true; do echo $a; done") ≡ Writes Status ∷ Reads Status ∷ Writes Status ∷ []
+unfolding reached_in
+loop = refl
+
+turns_of_a_for : reached (codes "for i in 1 $a; do true; done")
+    ≡ Reads a ∷ Writes (Local (codes "i")) ∷ Writes Status ∷ Reads Status ∷ Writes (Local (codes "i")) ∷ Writes Status ∷ Reads Status ∷ Writes Status ∷ []
+unfolding reached_in
+turns_of_a_for = refl
+
+-- ---- in each shell
+
+abbrev in_each : Text → List (List Access)
+in_each text = map (λ shell. reached_in shell (before []) text) (Profile ∷ Old2023 ∷ Old2025 ∷ [])
+
+-- the status of no command is that of before in U-Boot's shells
+words_of_nothing : in_each (codes "$b") ≡ (Reads b ∷ Reads (Local (codes "b")) ∷ Writes Status ∷ []) ∷ (Reads b ∷ Reads (Local (codes "b")) ∷ []) ∷ (Reads b ∷ Reads (Local (codes "b")) ∷ []) ∷ []
+unfolding reached_in
+words_of_nothing = refl
+
+-- in 2023.01 a shell variable that is assigned an empty value stays as it is
+empty_value : in_each (codes "y=") ≡ (Writes (Local (codes "y")) ∷ Writes Status ∷ []) ∷ (Writes Status ∷ []) ∷ (Writes (Local (codes "y")) ∷ Writes Status ∷ []) ∷ []
+unfolding reached_in
+empty_value = refl
+
+-- ---- what is read before it is written
+
+written_first : keys_read (reached (codes "setenv b 1; echo $a $b $?")) ≡ a ∷ []
+unfolding reached_in
+written_first = refl
+
+read_first : keys_read (reached (codes "echo $a; setenv a 2; echo $a")) ≡ a ∷ []
+unfolding reached_in
+read_first = refl
+
+-- a shell variable is behind that of the environment, which is read all the same
+shell_variable_written : keys_read (reached (codes "b=1; echo $b")) ≡ b ∷ []
+unfolding reached_in
+shell_variable_written = refl
+
+other_call : keys_read (reached (codes "stay a; stay b")) ≡ AnswerTo (codes "stay" ∷ codes "a" ∷ []) ∷ AnswerTo (codes "stay" ∷ codes "b" ∷ []) ∷ []
+unfolding reached_in
+other_call = refl
+
+status_of_before : keys_read (reached (codes "echo $?; true && true")) ≡ Status ∷ []
+unfolding reached_in
+status_of_before = refl

@@ -1,0 +1,196 @@
+-- A script goes alike from states that agree on what it reads, as far as the bounds allow.
+use Rattle.std.proofs.Common.{◌≡◌, sym, ap, subst, ℕ, zero, suc, Bool, true, false, List, [], ◌∷◌, ◌++◌, Option, Some, None, nat_eq}
+use Rattle.hushlang.specs.Tree as tree
+use Rattle.hushlang.specs.Tree.{Script, AndOr, Joined, Command, Arms}
+use Rattle.hushlang_old.specs.TreesByShell.{tree_in, lacks_end_in}
+use Rattle.builtins.specs.Builtins.{Builtin, SetEnv, Run, Test, Echo, True, False, Leave, builtin_of}
+use Rattle.commands.specs.Computed.{Computed}
+use Rattle.commands.specs.BuiltInCommands.{ChangesVariables, carried, deed_of, setenv, echo, variables_changed, text_written}
+use Rattle.device_list.specs.Called.{BuiltIn, Device, NoCommand, called_by}
+use Rattle.device_list.specs.DeviceList.{Effect, effect_of, computed_by}
+use Rattle.rehearse_terms.specs.State.{Text, State, LoggedCommand, get}
+use Rattle.rehearse_rules.specs.Parameters.{parameters_in}
+use Rattle.rehearse_rules.specs.ByShell.{unread, leaves_in, status_of_exit, asks_in, truth_in, fields_in, turns_in, skips_rest, follows}
+use Rattle.rehearse_rules.specs.Execution.{Limits, Answer, Normal, Exit, Ended, Ending, CutSteps, Unknown, Unsupported, go_on, set_status, status_when, remember, goes, device, request_of, test_request, text_end, run_text, started_text, run_all, command, simple, sized, assign, for_each, exec_script, exec_list, exec_joined, exec_command, exec_arms, exec}
+use Rattle.rehearse_rules.proofs.TakenOutcomes.{KeepsAll, Keeps-if, Keeps-run, Keeps-simple, Keeps-sized, Keeps-assign, Keeps-for, Keeps-script, Keeps-joined, Keeps-arms, Keeps-exec, Keeps-ended}
+use Rattle.rehearse_reads.specs.Keys.{Key, Environment, Status, Access, Reads, AreAmong, AgreeOn, all_read, ReadsWithin, known_after}
+use Rattle.rehearse_reads.specs.Alike.{AreAbreast, IsAlike}
+use Rattle.rehearse_reads.specs.Accesses.{behind, behind_text, status_written, words_reads, device_accesses, computed_accesses, setenv_accesses, tree_accesses, text_accesses, started_accesses, run_accesses, builtin_accesses, call_accesses, simple_accesses, sized_accesses, assign_accesses, each_accesses, script_accesses, list_accesses, joined_accesses, command_accesses, arms_accesses, accesses}
+use Rattle.rehearse_reads.proofs.AccessLemmas.{read_first, read_then}
+use Rattle.rehearse_reads.proofs.AbreastLemmas.{near_status, near_computed, near_sets, near_echoed}
+use Rattle.rehearse_reads.proofs.SameWords.{fields_agree, turns_agree}
+use Rattle.rehearse_reads.proofs.AlikeParts.{normal_alike, exit_alike, ended_alike, if_alike, after_keys, Alike-go_on, Alike-text_end, sized_alike}
+use Rattle.rehearse_reads.proofs.AlikeDevices.{Alike-begin, Alike-device}
+use Rattle.rehearse_reads.proofs.AlikeLoops.{Alike-assign, nothing_alike, no_block_alike, Alike-turns, Alike-for}
+
+module _ (limits : Limits) (i j : ℕ) (k l : List LoggedCommand) where
+  abbrev Is : List Key → Answer → Answer → Type 0
+  Is known a b = IsAlike limits i j k l known a b
+
+  abbrev Near : List Key → State → State → Type 0
+  Near known s t = AreAbreast limits i j k l known s t
+
+  abbrev AlwaysDoes : (State → Answer) → (State → List Access) → Type 0
+  AlwaysDoes f u = (known : List Key) (s t : State) → Near known s t → ReadsWithin known (u s) → Is (known_after known (u s)) (f s) (f t)
+
+  -- a status that is set
+  status_alike : (n : ℕ) → AlwaysDoes (λ s. Normal (set_status n s)) (λ s. status_written)
+  status_alike n known s t near w = normal_alike limits i j k l (Status ∷ known) (set_status n s) (set_status n t) (near_status limits i j k l known s t n near)
+
+  -- a choice that is the same in both states
+  alike_if : (b : Bool) (f g : State → Answer) (u v : State → List Access) → AlwaysDoes f u → AlwaysDoes g v → AlwaysDoes (λ s. elim b [ true ↦ f s | false ↦ g s ]) (λ s. elim b [ true ↦ u s | false ↦ v s ])
+  alike_if true f g u v h m = h
+  alike_if false f g u v h m = m
+
+  stays_alike : AlwaysDoes Normal (λ s. [])
+  stays_alike known s t near w = normal_alike limits i j k l known s t near
+
+  ends_alike : (ending : Ending) → AlwaysDoes (Ended ending) (λ s. [])
+  ends_alike ending known s t near w = ended_alike limits i j k l known ending s t near
+
+  -- a `run`, if each script goes alike
+  module _ (script : Script → State → Answer) (of_script : Script → State → List Access) (kept : (a : Script) → KeepsAll limits (script a)) (does : (a : Script) → AlwaysDoes (script a) (of_script a)) where
+    Alike-tree : (found : Option Script) (name : Text) → AlwaysDoes (λ s. elim found [ None ↦ Ended (unread limits.shell name) s | Some a ↦ script a (elim a [ tree.Empty ↦ set_status 0 s | tree.Runs x xs ↦ s ]) ]) (λ s. elim found [ None ↦ [] | Some a ↦ tree_accesses limits script of_script a s ])
+    Alike-tree None name known s t near w = ended_alike limits i j k l known (unread limits.shell name) s t near
+    Alike-tree (Some tree.Empty) name known s t near w = does tree.Empty (Status ∷ known) (set_status 0 s) (set_status 0 t) (near_status limits i j k l known s t 0 near) w
+    Alike-tree (Some (tree.Runs x xs)) name known s t near w = does (tree.Runs x xs) known s t near w
+
+    pub Alike-text : (name text : Text) → AlwaysDoes (run_text limits script name text) (text_accesses limits script of_script text)
+    Alike-text name text = Alike-tree (tree_in limits.shell text) name
+
+    Alike-started : (name text : Text) → AlwaysDoes (started_text limits script name text) (started_accesses limits script of_script text)
+    Alike-started name text = alike_if (lacks_end_in limits.shell text) (λ s. Normal (set_status 1 s)) (run_text limits script name text) (λ s. status_written) (text_accesses limits script of_script text) (status_alike 1) (Alike-text name text)
+
+    Alike-named : (found : Option Text) (name : Text) (next : State → Answer) (u : State → List Access) → AlwaysDoes next u → KeepsAll limits next
+        → AlwaysDoes (λ s. elim found [ None ↦ Normal (set_status 1 s) | Some text ↦ text_end (started_text limits script name text s) next ])
+        (λ s. elim found [ None ↦ status_written | Some text ↦ started_accesses limits script of_script text s ++ behind_text (started_text limits script name text s) u ])
+    Alike-named None name next u h m known s t near w = status_alike 1 known s t near w
+    Alike-named (Some text) name next u h m known s t near w =
+        Alike-text_end limits i j k l known s t (started_text limits script name text) next (started_accesses limits script of_script text) u (Alike-started name text known s t) h m near w
+
+    Alike-run : (names : List Text) → AlwaysDoes (run_all limits script names) (run_accesses limits script of_script names)
+    Alike-run [] known s t near w = normal_alike limits i j k l known s t near
+    Alike-run (name ∷ names) known s t near w =
+        let next : State → Answer = run_all limits script names in
+        let here : List Key = known_after known (run_accesses limits script of_script (name ∷ names) s) in
+        subst (λ (o : Option Text). Is here (run_all limits script (name ∷ names) s) (elim o [ None ↦ Normal (set_status 1 t) | Some text ↦ text_end (started_text limits script name text t) next ])) (sym (near.keys (Environment name) w.0))
+        (Alike-named (get s.memory.environment name) name next (run_accesses limits script of_script names) (Alike-run names) (Keeps-run limits script kept names) known s t near w.1)
+
+    -- ---- a command
+
+    Alike-leave : (status : Option ℕ) (other : ℕ) → AlwaysDoes (λ s. elim status [ Some n ↦ Exit (set_status n s) | None ↦ Normal (set_status other s) ]) (λ s. status_written)
+    Alike-leave (Some n) other known s t near w = exit_alike limits i j k l (Status ∷ known) (set_status n s) (set_status n t) (near_status limits i j k l known s t n near)
+    Alike-leave None other known s t near w = status_alike other known s t near w
+
+    Alike-builtin : (builtin : Builtin) (name : Text) (words : List Text) → AlwaysDoes (command limits script (BuiltIn (deed_of builtin)) name words) (builtin_accesses limits script of_script builtin name words)
+    Alike-builtin SetEnv name words known s t near w =
+        normal_alike limits i j k l (known_after known (setenv_accesses words)) (remember (variables_changed setenv words) s) (remember (variables_changed setenv words) t) (near_sets limits i j k l words known s t near)
+    Alike-builtin Run name [] known s t near w = status_alike 1 known s t near w
+    Alike-builtin Run name (x ∷ xs) known s t near w = Alike-run (x ∷ xs) known s t near w
+    Alike-builtin Test name words known s t near w =
+        alike_if (asks_in limits.shell words) (device limits (test_request limits name words)) (λ x. Normal (set_status (status_when (truth_in limits.shell words)) x)) (device_accesses limits (test_request limits name words)) (λ x. status_written) (Alike-device limits i j k l (test_request limits name words)) (status_alike (status_when (truth_in limits.shell words))) known s t near w
+    Alike-builtin Echo name words known s t near w = normal_alike limits i j k l (Status ∷ known) (remember (text_written echo words) s) (remember (text_written echo words) t) (near_echoed limits i j k l known s t echo words near)
+    Alike-builtin True name words known s t near w = status_alike 0 known s t near w
+    Alike-builtin False name words known s t near w = status_alike 1 known s t near w
+    Alike-builtin Leave name words known s t near w = Alike-leave (leaves_in limits.shell words) (status_of_exit limits.shell words) known s t near w
+
+    Alike-call : (name : Text) (words : List Text) → AlwaysDoes (command limits script (called_by limits.devices name words) name words) (call_accesses limits script of_script name words)
+    Alike-call name words = by (computed_by limits.devices name words) (builtin_of name) (effect_of limits.devices name words)
+      where
+        by : (o : Option Computed) (b : Option Builtin) (f : Option Effect)
+            → AlwaysDoes (command limits script (elim o [ Some computed ↦ BuiltIn (ChangesVariables (λ ws. carried computed)) | None ↦ elim b [ Some builtin ↦ BuiltIn (deed_of builtin) | None ↦ elim f [ Some effect ↦ Device effect | None ↦ NoCommand ] ] ]) name words)
+            (λ s. elim o [ Some computed ↦ computed_accesses computed | None ↦ elim b [ Some builtin ↦ builtin_accesses limits script of_script builtin name words s | None ↦ elim f [ Some effect ↦ device_accesses limits (request_of name words effect) s | None ↦ [] ] ] ])
+        by (Some computed) b f known s t near w =
+            normal_alike limits i j k l (known_after known (computed_accesses computed)) (remember (variables_changed (λ ws. carried computed) words) s) (remember (variables_changed (λ ws. carried computed) words) t) (near_computed limits i j k l computed known s t near w)
+        by None (Some builtin) f known s t near w = Alike-builtin builtin name words known s t near w
+        by None None (Some effect) known s t near w = Alike-device limits i j k l (request_of name words effect) known s t near w
+        by None None None known s t near w = ended_alike limits i j k l known (Unknown name) s t near
+
+    pub Alike-simple : (fs : List Text) → AlwaysDoes (simple limits script fs) (simple_accesses limits script of_script fs)
+    Alike-simple [] known s t near w = nothing_alike limits i j k l limits.shell known s t near
+    Alike-simple (name ∷ words) known s t near w =
+        alike_if (follows limits.shell limits.devices name words) (command limits script (called_by limits.devices name words) name words) (Ended (Unsupported name)) (call_accesses limits script of_script name words) (λ x. []) (Alike-call name words) (ends_alike (Unsupported name)) known s t near w
+
+  -- ---- words that are expanded: to the same fields
+
+  expanded_alike : (expand : State → List Text) (words : List tree.Word) → ((known : List Key) (s t : State) → AgreeOn known s t → AreAmong (words_reads s.memory words) known → expand t ≡ expand s)
+      → (f : List Text → State → Answer) (u : List Text → State → List Access) → ((fs : List Text) → AlwaysDoes (f fs) (u fs))
+      → AlwaysDoes (λ t. sized (expand t) f t) (λ t. all_read (words_reads t.memory words) ++ sized_accesses (expand t) u t)
+  expanded_alike expand words agree f u h known s t near w =
+      let rest : List Access = sized_accesses (expand s) u s in
+      after_keys limits i j k l known (words_reads s.memory words) rest (sized (expand s) f s) (sized (expand t) f t)
+      (sized_alike limits i j k l known s t (expand s) (expand t) f u (agree known s t near.keys (read_first known (words_reads s.memory words) rest w)) (h (expand s) known s t) near (read_then known (words_reads s.memory words) rest w))
+
+  fields_alike : (words : List tree.Word) (f : List Text → State → Answer) (u : List Text → State → List Access) → ((fs : List Text) → AlwaysDoes (f fs) (u fs))
+      → AlwaysDoes (λ t. sized (fields_in limits.shell (parameters_in t.memory) words) f t) (λ t. all_read (words_reads t.memory words) ++ sized_accesses (fields_in limits.shell (parameters_in t.memory) words) u t)
+  fields_alike words f u h = expanded_alike (λ t. fields_in limits.shell (parameters_in t.memory) words) words (λ known s t agree w. fields_agree known s t agree limits.shell words w) f u h
+
+  turned_alike : (words : List tree.Word) (f : List Text → State → Answer) (u : List Text → State → List Access) → ((fs : List Text) → AlwaysDoes (f fs) (u fs))
+      → AlwaysDoes (λ t. sized (turns_in limits.shell (parameters_in t.memory) words) f t) (λ t. all_read (words_reads t.memory words) ++ sized_accesses (turns_in limits.shell (parameters_in t.memory) words) u t)
+  turned_alike words f u h = expanded_alike (λ t. turns_in limits.shell (parameters_in t.memory) words) words (λ known s t agree w. turns_agree known s t agree limits.shell words w) f u h
+
+  -- ---- the tree
+
+  module _ (left : ℕ) (text : Script → State → Answer) (of_text : Script → State → List Access) (kept : (a : Script) → KeepsAll limits (text a)) (does : (a : Script) → AlwaysDoes (text a) (of_text a)) where
+    mutual
+      pub Alike-script : (a : Script) → AlwaysDoes (exec_script limits left text a) (script_accesses limits left text of_text a)
+      Alike-script tree.Empty known s t near w = normal_alike limits i j k l known s t near
+      Alike-script (tree.Runs c more) known s t near w =
+          Alike-go_on limits i j k l known s t (exec_list limits left text c) (exec_script limits left text more) (list_accesses limits left text of_text c) (script_accesses limits left text of_text more) (Alike-list c known s t) (Alike-script more) (Keeps-script limits left text kept more) near w
+
+      pub Alike-list : (a : AndOr) → AlwaysDoes (exec_list limits left text a) (list_accesses limits left text of_text a)
+      Alike-list (tree.Starts c rest) known s t near w =
+          Alike-go_on limits i j k l known s t (exec_command limits left text c) (exec_joined limits left text rest) (command_accesses limits left text of_text c) (joined_accesses limits left text of_text rest) (Alike-one c known s t) (Alike-joined rest) (Keeps-joined limits left text kept rest) near w
+
+      pub Alike-joined : (a : Joined) → AlwaysDoes (exec_joined limits left text a) (joined_accesses limits left text of_text a)
+      Alike-joined tree.Alone known s t near w = normal_alike limits i j k l known s t near
+      Alike-joined (tree.Joins op c rest) known s t near w =
+          let last : State → Answer = exec_joined limits left text rest in
+          let of_last : State → List Access = joined_accesses limits left text of_text rest in
+          if_alike limits i j k l known (goes op s.memory.status) (goes op t.memory.status) (ap (λ (n : ℕ). goes op n) (near.keys Status w.0))
+          (go_on (exec_command limits left text c s) last) (elim (skips_rest limits.shell) [ true ↦ Normal s | false ↦ last s ])
+          (go_on (exec_command limits left text c t) last) (elim (skips_rest limits.shell) [ true ↦ Normal t | false ↦ last t ])
+          (command_accesses limits left text of_text c s ++ behind (exec_command limits left text c s) of_last) (elim (skips_rest limits.shell) [ true ↦ [] | false ↦ of_last s ])
+          (Alike-go_on limits i j k l known s t (exec_command limits left text c) last (command_accesses limits left text of_text c) of_last (Alike-one c known s t) (Alike-joined rest) (Keeps-joined limits left text kept rest) near)
+          (alike_if (skips_rest limits.shell) Normal last (λ x. []) of_last stays_alike (Alike-joined rest) known s t near)
+          w.1
+
+      pub Alike-one : (a : Command) → AlwaysDoes (exec_command limits left text a) (command_accesses limits left text of_text a)
+      Alike-one (tree.Simple words) known s t near w =
+          Alike-begin limits i j k l (λ x. sized (fields_in limits.shell (parameters_in x.memory) words) (simple limits text) x)
+          (λ x. all_read (words_reads x.memory words) ++ sized_accesses (fields_in limits.shell (parameters_in x.memory) words) (simple_accesses limits text of_text) x)
+          (fields_alike words (simple limits text) (simple_accesses limits text of_text) (Alike-simple text of_text kept does))
+          (λ x. Keeps-sized limits (fields_in limits.shell (parameters_in x.memory) words) (simple limits text) (Keeps-simple limits text kept) x)
+          known s t near w
+      Alike-one (tree.Assign pairs) known s t near w =
+          Alike-begin limits i j k l (assign limits.shell pairs) (assign_accesses limits.shell pairs) (Alike-assign limits i j k l limits.shell pairs) (Keeps-assign limits pairs) known s t near w
+      Alike-one (tree.If arms) known s t near w = Alike-arms arms known s t near w
+      Alike-one (tree.Loop until c b) known s t near w =
+          Alike-turns limits i j k l left until (exec_script limits left text c) (exec_script limits left text b) (script_accesses limits left text of_text c) (script_accesses limits left text of_text b) (Alike-script c) (Alike-script b) (Keeps-script limits left text kept c) (Keeps-script limits left text kept b) 0 known s t near w
+      Alike-one (tree.For name words b) known s t near w =
+          let body : State → Answer = exec_script limits left text b in
+          let of_body : State → List Access = script_accesses limits left text of_text b in
+          Alike-begin limits i j k l (λ x. sized (turns_in limits.shell (parameters_in x.memory) words) (for_each limits.shell name body 0) x)
+          (λ x. all_read (words_reads x.memory words) ++ sized_accesses (turns_in limits.shell (parameters_in x.memory) words) (each_accesses limits.shell name body of_body) x)
+          (turned_alike words (for_each limits.shell name body 0) (each_accesses limits.shell name body of_body) (λ fs. Alike-for limits i j k l name body of_body (Alike-script b) (Keeps-script limits left text kept b) fs 0))
+          (λ x. Keeps-sized limits (turns_in limits.shell (parameters_in x.memory) words) (for_each limits.shell name body 0) (λ fs. Keeps-for limits name body (Keeps-script limits left text kept b) 0 fs) x)
+          known s t near w
+
+      pub Alike-arms : (a : Arms) → AlwaysDoes (exec_arms limits left text a) (arms_accesses limits left text of_text a)
+      Alike-arms tree.NoElse known s t near w = no_block_alike limits i j k l limits.shell known s t near
+      Alike-arms (tree.Else b) known s t near w = Alike-script b known s t near w
+      Alike-arms (tree.Arm c b arms) known s t near w =
+          Alike-go_on limits i j k l known s t (exec_script limits left text c) (λ x. elim (nat_eq x.memory.status 0) [ true ↦ exec_script limits left text b x | false ↦ exec_arms limits left text arms x ])
+          (script_accesses limits left text of_text c) (λ x. Reads Status ∷ elim (nat_eq x.memory.status 0) [ true ↦ script_accesses limits left text of_text b x | false ↦ arms_accesses limits left text of_text arms x ])
+          (Alike-script c known s t)
+          (λ ks x y close m. if_alike limits i j k l ks (nat_eq x.memory.status 0) (nat_eq y.memory.status 0) (ap (λ (n : ℕ). nat_eq n 0) (close.keys Status m.0))
+          (exec_script limits left text b x) (exec_arms limits left text arms x) (exec_script limits left text b y) (exec_arms limits left text arms y)
+          (script_accesses limits left text of_text b x) (arms_accesses limits left text of_text arms x)
+          (Alike-script b ks x y close) (Alike-arms arms ks x y close) m.1)
+          (λ x. Keeps-if limits.device_bound x (nat_eq x.memory.status 0) (exec_script limits left text b) (exec_arms limits left text arms) (Keeps-script limits left text kept b x) (Keeps-arms limits left text kept arms x))
+          near w
+
+  -- a script goes alike, whatever steps are left
+  pub Alike-exec : (left : ℕ) (a : Script) → AlwaysDoes (exec limits left a) (accesses limits left a)
+  Alike-exec zero a = Alike-script zero (λ t s. Ended CutSteps s) (λ t s. []) (λ b s. Keeps-ended limits.device_bound s CutSteps) (λ b. ends_alike CutSteps) a
+  Alike-exec (suc left) a = Alike-script (suc left) (exec limits left) (accesses limits left) (Keeps-exec limits left) (Alike-exec left) a

@@ -1,0 +1,11 @@
+pub mod AccessLemmas
+pub mod SameWords
+pub mod LookedUpLemmas
+pub mod AbreastLemmas
+pub mod AlikeParts
+pub mod AlikeDevices
+pub mod AlikeLoops
+pub mod AlikeScripts
+pub mod KeysRead
+pub mod AlikeRuns
+mod AccessExamples

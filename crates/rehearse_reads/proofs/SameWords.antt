@@ -1,0 +1,109 @@
+-- Words expand to the same where the variables and the status that they read are the same.
+use Rattle.std.proofs.Common.{◌≡◌, ◌∙◌, refl, ap, ℕ, true, false, List, [], ◌∷◌, ◌++◌, map, Option, Some, None, unwrap_or, if◌then◌else◌}
+use Rattle.std.specs.Prelude.{decimal}
+use Rattle.std.specs.List.{flat_map, filter}
+use Rattle.text.specs.Bytes as ascii
+use Rattle.hushlang.specs.Tree as tree
+use Rattle.hushlang.specs.Tree.{Word, Piece}
+use Rattle.hushlang.specs.Expansion.{Parameters, Kept, split_atom, atoms_of_piece, atoms, cut, is_field, kept_bytes, fields_of_word, fields, all_bytes, joined}
+use Rattle.hushlang.specs.KnownFields.{is_constant_word, are_constant}
+use Rattle.hushlang_old.specs.OldFields.{newline_to_space, inserted, has_quotes, word_text, words_text, with_end, command_text, reread, old_fields, turns_of_word, old_turns}
+use Rattle.hushlang_old.specs.OldFields as old
+use Rattle.rehearse_terms.specs.State.{Text, State, get, value_in}
+use Rattle.rehearse_terms.specs.declared.shell.Shell.{Shell}
+use Rattle.rehearse_terms.specs.declared.shell.Shell.TheVariants.{Profile, Old2023, Old2025}
+use Rattle.rehearse_rules.specs.Parameters.{parameters_in}
+use Rattle.rehearse_rules.specs.ByShell.{fields_in, assigned_in, turns_in}
+use Rattle.rehearse_reads.specs.Keys.{Key, Environment, Local, Status, AreAmong, AgreeOn}
+use Rattle.rehearse_reads.specs.Accesses.{variable_reads, piece_reads, word_reads, words_reads}
+use Rattle.rehearse_reads.proofs.AccessLemmas.{among_first, among_then}
+
+module _ (known : List Key) (s t : State) (agree : AgreeOn known s t) where
+  abbrev here : Parameters
+  here = parameters_in s.memory
+
+  abbrev there : Parameters
+  there = parameters_in t.memory
+
+  same_value : (name : Text) → AreAmong (variable_reads s.memory name) known → value_in t.memory name ≡ value_in s.memory name
+  same_value name h = by (get s.memory.environment name) (get t.memory.environment name) (agree (Environment name) h.0) h.1
+    where
+      by : (o p : Option Text) → p ≡ o → AreAmong (elim o [ Some value ↦ [] | None ↦ Local name ∷ [] ]) known
+          → ◌≡◌ {A = Option Text} (elim p [ Some value ↦ Some value | None ↦ get t.memory.locals name ]) (elim o [ Some value ↦ Some value | None ↦ get s.memory.locals name ])
+      by (Some v) (Some w) e k = e
+      by (Some v) None e k = absurd (cc)
+      by None (Some w) e k = absurd (cc)
+      by None None e k = agree (Local name) k.0
+
+  same_piece : (piece : Piece) → AreAmong (piece_reads s.memory piece) known → atoms_of_piece there piece ≡ atoms_of_piece here piece
+  same_piece (tree.Bytes bytes) h = refl
+  same_piece tree.Mark h = refl
+  same_piece (tree.Var name true) h = ap (λ (o : Option Text). map split_atom (unwrap_or o [])) (same_value name h)
+  same_piece (tree.Var name false) h = ap (λ (o : Option Text). map Kept (unwrap_or o [])) (same_value name h)
+  same_piece tree.Status h = ap (λ (n : ℕ). map Kept (decimal n)) (agree Status h.0)
+
+  same_pieces : (word : Word) → AreAmong (word_reads s.memory word) known → flat_map (atoms_of_piece there) word ≡ flat_map (atoms_of_piece here) word
+  same_pieces [] h = refl
+  same_pieces (piece ∷ word) h =
+      ap (λ a. a ++ flat_map (atoms_of_piece there) word) (same_piece piece (among_first known (piece_reads s.memory piece) (word_reads s.memory word) h))
+      ∙ ap (λ a. atoms_of_piece here piece ++ a) (same_pieces word (among_then known (piece_reads s.memory piece) (word_reads s.memory word) h))
+
+  same_atoms : (word : Word) → AreAmong (word_reads s.memory word) known → atoms there word ≡ atoms here word
+  unfolding atoms
+  same_atoms word h = same_pieces word h
+
+  same_joined : (word : Word) → AreAmong (word_reads s.memory word) known → joined there word ≡ joined here word
+  unfolding joined
+  same_joined word h = ap all_bytes (same_atoms word h)
+
+  same_inserted : (word : Word) → AreAmong (word_reads s.memory word) known → inserted there word ≡ inserted here word
+  unfolding inserted
+  same_inserted word h = ap (λ (b : List ℕ). if is_constant_word word then b else map newline_to_space b) (same_joined word h)
+
+  same_text : (word : Word) → AreAmong (word_reads s.memory word) known → word_text there word ≡ word_text here word
+  unfolding word_text
+  same_text word h = ap (λ (b : List ℕ). if has_quotes word then (ascii.quote ∷ b) ++ ascii.quote ∷ [] else b) (same_inserted word h)
+
+  -- what is made word by word
+  same_each : {A : Type 0} (f g : Word → List A) → ((word : Word) → AreAmong (word_reads s.memory word) known → f word ≡ g word)
+      → (words : List Word) → AreAmong (words_reads s.memory words) known → flat_map f words ≡ flat_map g words
+  same_each f g each [] h = refl
+  same_each f g each (word ∷ words) h =
+      ap (λ a. a ++ flat_map f words) (each word (among_first known (word_reads s.memory word) (words_reads s.memory words) h))
+      ∙ ap (λ a. g word ++ a) (same_each f g each words (among_then known (word_reads s.memory word) (words_reads s.memory words) h))
+
+  same_fields : (words : List Word) → AreAmong (words_reads s.memory words) known → fields there words ≡ fields here words
+  unfolding fields
+  same_fields words h = same_each (fields_of_word there) (fields_of_word here) (λ word k. ap (λ a. map kept_bytes (filter is_field (cut a))) (same_atoms word k)) words h
+
+  same_command : (words : List Word) → AreAmong (words_reads s.memory words) known → command_text there words ≡ command_text here words
+  unfolding command_text
+  same_command words h =
+      ap with_end (same_each (λ word. ascii.space ∷ word_text there word) (λ word. ascii.space ∷ word_text here word) (λ word k. ap (λ (b : List ℕ). ascii.space ∷ b) (same_text word k)) words h)
+
+  same_old_fields : (words : List Word) → AreAmong (words_reads s.memory words) known → old_fields there words ≡ old_fields here words
+  unfolding old_fields
+  same_old_fields words h =
+      ap (λ (all : List Text). if are_constant words then all else unwrap_or (reread (command_text there words)) []) (same_fields words h)
+      ∙ ap (λ (text : Text). if are_constant words then fields here words else unwrap_or (reread text) []) (same_command words h)
+
+  same_old_turns : (words : List Word) → AreAmong (words_reads s.memory words) known → old_turns there words ≡ old_turns here words
+  unfolding old_turns
+  same_old_turns words h = same_each (turns_of_word there) (turns_of_word here) (λ word k. ap old.turns_in (same_inserted word k)) words h
+
+  -- ---- in each shell
+
+  pub fields_agree : (shell : Shell) (words : List Word) → AreAmong (words_reads s.memory words) known → fields_in shell there words ≡ fields_in shell here words
+  fields_agree Profile words h = same_fields words h
+  fields_agree Old2023 words h = same_old_fields words h
+  fields_agree Old2025 words h = same_old_fields words h
+
+  pub turns_agree : (shell : Shell) (words : List Word) → AreAmong (words_reads s.memory words) known → turns_in shell there words ≡ turns_in shell here words
+  turns_agree Profile words h = same_fields words h
+  turns_agree Old2023 words h = same_old_turns words h
+  turns_agree Old2025 words h = same_old_turns words h
+
+  pub assigned_agree : (shell : Shell) (word : Word) → AreAmong (word_reads s.memory word) known → assigned_in shell there word ≡ assigned_in shell here word
+  assigned_agree Profile word h = same_joined word h
+  assigned_agree Old2023 word h = same_inserted word h
+  assigned_agree Old2025 word h = same_inserted word h

@@ -1,0 +1,24 @@
+-- Laws of what runs read, over the definitions alone. Ours.
+use Rattle.std.specs.Prelude.{◌≡◌, ℕ, List}
+use Rattle.hushlang.specs.Tree.{Script}
+use Rattle.rehearse_terms.specs.State.{Text, State}
+use Rattle.rehearse_rules.specs.Execution.{Limits, exec, run_text}
+use Rattle.rehearse_reads.specs.Keys.{Key, AreAmong, AgreeOn, keys_read, known_after}
+use Rattle.rehearse_reads.specs.Accesses.{accesses, run_text_accesses}
+use Rattle.rehearse_reads.specs.Alike.{IsAlike, EndAlike}
+
+-- From two states that agree on some keys, among which is what a script reads before it writes it, the script comes to the
+-- same, as far as the bounds allow. The states that it comes to agree on these keys and on all that it wrote.
+abbrev pub StatesGoAlike : Type 0
+StatesGoAlike = (limits : Limits) (left : ℕ) (script : Script) (keys : List Key) (s t : State) → let reached =
+    accesses limits left script s in AreAmong (keys_read reached) keys → AgreeOn keys s t → t.word ≡ s.word →
+    IsAlike limits s.steps t.steps s.log t.log (known_after keys reached)
+    (exec limits left script s) (exec limits left script t)
+
+-- So does the text of a variable, up to the end of its run: whether the word is a run, how it ends, the further commands
+-- in its log, and how many steps and device commands it needs room for.
+abbrev pub RunsEndAlike : Type 0
+RunsEndAlike = (limits : Limits) (left : ℕ) (name text : Text) (keys : List Key) (s t : State) → let reached =
+    run_text_accesses limits left name text s in AreAmong (keys_read reached) keys → AgreeOn keys s t → t.word ≡ s.word →
+    EndAlike limits s.steps t.steps s.log t.log (known_after keys reached)
+    (run_text limits (exec limits left) name text s) (run_text limits (exec limits left) name text t)

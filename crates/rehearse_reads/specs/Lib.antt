@@ -1,0 +1,4 @@
+pub mod Keys
+pub mod Accesses
+pub mod Alike
+pub mod Laws

@@ -1,0 +1,19 @@
+//! Laws of what runs read. A call of one does nothing: its contract is the law.
+
+ghost use Rattle.rehearse_reads.specs.Laws.{RunsEndAlike, StatesGoAlike};
+
+/// From two states that agree on what a script reads before it writes it, and on the outcomes that are
+/// left, the script comes to the same as far as the bounds allow: it ends in the same way, after the
+/// same further device commands and as many steps, and the two states agree on the same keys and on all
+/// that was written. Whatever else they have, as other variables, makes no difference.
+#[tactic(auto, using(crate::proofs::AlikeRuns::states_go_alike))]
+pub fn states_go_alike()
+    ensures { StatesGoAlike }
+{}
+
+/// So does the text of a variable, up to the end of its run, which reads the status with which the text
+/// ends: the word is a run in both cases or in neither, and the runs end alike.
+#[tactic(auto, using(crate::proofs::AlikeRuns::runs_end_alike))]
+pub fn runs_end_alike()
+    ensures { RunsEndAlike }
+{}
