@@ -13,7 +13,7 @@ use Rattle.rehearse_terms.specs.State.{Text, Variables, State, LoggedCommand, st
 use Rattle.rehearse_terms.specs.declared.shell.Shell.{Shell}
 use Rattle.rehearse_terms.specs.declared.shell.Shell.TheVariants.{Profile, Old2023, Old2025}
 use Rattle.rehearse_rules.specs.Execution.{Limits}
-use Rattle.rehearse_reads.specs.Keys.{Key, Environment, Local, AnswerTo, Status, Access, Reads, Writes, keys_read}
+use Rattle.rehearse_reads.specs.Keys.{Key, Environment, Local, AnswerTo, Status, Access, Reads, Writes, keys_in_front, keys_read}
 use Rattle.rehearse_reads.specs.Accesses.{accesses}
 
 -- ---- what they are computed with
@@ -203,3 +203,8 @@ other_call = refl
 status_of_before : keys_read (reached (codes "echo $?; true && true")) ≡ Status ∷ []
 unfolding reached_in
 status_of_before = refl
+
+-- what is known after a stretch need not be known before it if the stretch writes it
+in_front_of_more : keys_in_front (reached (codes "setenv b $a")) (b ∷ Local (codes "i") ∷ []) ≡ a ∷ Local (codes "i") ∷ []
+unfolding reached_in
+in_front_of_more = refl

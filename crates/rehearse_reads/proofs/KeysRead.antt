@@ -1,10 +1,11 @@
--- The keys that are read before they are written are all that has to be known.
-use Rattle.std.proofs.Common.{◌≡◌, refl, ap, Bool, true, false, not, cond, List, [], ◌∷◌, filter, inl, inr}
+-- The keys that are read before they are written are what has to be known, also of one stretch after another.
+use Rattle.std.proofs.Common.{◌≡◌, ◌∙◌, refl, sym, ap, Bool, true, false, not, ◌&&◌, cond, List, [], ◌∷◌, filter, inl, inr}
 use Rattle.std.specs.Str.{bytes_eq}
 use Rattle.std.proofs.lemmas.Bool.{and_parts}
 use Rattle.std.proofs.lemmas.Slice.Eq.{bytes_eq-Decides}
 use Rattle.rehearse_terms.specs.State.{Text, same_words}
-use Rattle.rehearse_reads.specs.Keys.{Key, Environment, Local, AnswerTo, Status, Access, Reads, Writes, AreAmong, ReadsWithin, same_key, keys_read}
+use Rattle.rehearse_reads.specs.Keys.{Key, Environment, Local, AnswerTo, Status, Access, Reads, Writes, IsAmong, AreAmong, ReadsWithin, same_key, keys_in_front, keys_read}
+use Rattle.rehearse_reads.specs.Laws.{KeysReadSuffice, StretchesJoin, MoreKeysInFront}
 
 -- words that are found equal are equal
 equal_words : (v w : List Text) → same_words v w ≡ true → v ≡ w
@@ -49,3 +50,79 @@ pub reads_within : (known : List Key) (accesses : List Access) → AreAmong (key
 reads_within known [] h = tt
 reads_within known (Reads key ∷ accesses) h = (h.0, reads_within known accesses h.1)
 reads_within known (Writes key ∷ accesses) h = reads_within (key ∷ known) accesses (with_written key (keys_read accesses) known h)
+
+-- ---- and each of them has to be
+
+same_words_itself : (ws : List Text) → same_words ws ws ≡ true
+same_words_itself [] = refl
+same_words_itself (w ∷ ws) = ap (λ (b : Bool). b && same_words ws ws) ((bytes_eq-Decides w w).1 refl) ∙ same_words_itself ws
+
+same_itself : (key : Key) → same_key key key ≡ true
+same_itself (Environment name) = (bytes_eq-Decides name name).1 refl
+same_itself (Local name) = (bytes_eq-Decides name name).1 refl
+same_itself (AnswerTo call) = same_words_itself call
+same_itself Status = refl
+
+not_other : (k key : Key) → same_key k key ≡ false → k ≡ key → ⊥
+not_other k key e same =
+    let f : same_key k key ≡ true = ap (λ (other : Key). same_key other key) same ∙ same_itself key in
+    let g : true ≡ false = sym f ∙ e in
+    cc
+
+known_before : (k key : Key) (known : List Key) → same_key k key ≡ false → IsAmong k (key ∷ known) → IsAmong k known
+known_before k key known e (inl same) = absurd (not_other k key e same)
+known_before k key known e (inr h) = h
+
+without_written : (key : Key) (keys known : List Key) → AreAmong keys (key ∷ known) → AreAmong (filter (λ other. not (same_key other key)) keys) known
+without_written key [] known h = tt
+without_written key (k ∷ keys) known h = by (same_key k key) refl (without_written key keys known h.1)
+  where
+    by : (b : Bool) → same_key k key ≡ b → AreAmong (filter (λ other. not (same_key other key)) keys) known
+        → AreAmong (cond (not b) (k ∷ filter (λ other. not (same_key other key)) keys) (filter (λ other. not (same_key other key)) keys)) known
+    by true e rest = rest
+    by false e rest = (known_before k key known e h.0, rest)
+
+within_reads : (known : List Key) (accesses : List Access) → ReadsWithin known accesses → AreAmong (keys_read accesses) known
+within_reads known [] h = tt
+within_reads known (Reads key ∷ accesses) h = (h.0, within_reads known accesses h.1)
+within_reads known (Writes key ∷ accesses) h = without_written key (keys_read accesses) known (within_reads (key ∷ known) accesses h)
+
+pub keys_read_suffice : KeysReadSuffice
+keys_read_suffice accesses known = (within_reads known accesses, reads_within known accesses)
+
+-- ---- stretches
+
+pub stretches_join : StretchesJoin
+stretches_join [] behind = refl
+stretches_join (Reads key ∷ front) behind = ap (λ (keys : List Key). key ∷ keys) (stretches_join front behind)
+stretches_join (Writes key ∷ front) behind = ap (λ (keys : List Key). filter (λ other. not (same_key other key)) keys) (stretches_join front behind)
+
+kept_among : (p : Key → Bool) (k : Key) (keys : List Key) → p k ≡ true → IsAmong k keys → IsAmong k (filter p keys)
+kept_among p k [] e h = h
+kept_among p k (key ∷ keys) e (inl same) = by (p key) (ap p (sym same) ∙ e)
+  where
+    by : (b : Bool) → b ≡ true → IsAmong k (cond b (key ∷ filter p keys) (filter p keys))
+    by true f = inl same
+    by false f = absurd (cc)
+kept_among p k (key ∷ keys) e (inr h) = by (p key) (kept_among p k keys e h)
+  where
+    by : (b : Bool) → IsAmong k (filter p keys) → IsAmong k (cond b (key ∷ filter p keys) (filter p keys))
+    by true rest = inr rest
+    by false rest = rest
+
+filter_among : (p : Key → Bool) (keys more : List Key) → AreAmong keys more → AreAmong (filter p keys) (filter p more)
+filter_among p [] more h = tt
+filter_among p (key ∷ keys) more h = by (p key) refl (filter_among p keys more h.1)
+  where
+    by : (b : Bool) → p key ≡ b → AreAmong (filter p keys) (filter p more) → AreAmong (cond b (key ∷ filter p keys) (filter p keys)) (filter p more)
+    by true e rest = (kept_among p key more e h.0, rest)
+    by false e rest = rest
+
+with_more : (keys more : List Key) (key : Key) → AreAmong keys more → AreAmong keys (key ∷ more)
+with_more [] more key h = tt
+with_more (k ∷ keys) more key h = (inr h.0, with_more keys more key h.1)
+
+pub more_keys_in_front : MoreKeysInFront
+more_keys_in_front [] later more h = h
+more_keys_in_front (Reads key ∷ front) later more h = (inl refl, with_more (keys_in_front front later) (keys_in_front front more) key (more_keys_in_front front later more h))
+more_keys_in_front (Writes key ∷ front) later more h = filter_among (λ other. not (same_key other key)) (keys_in_front front later) (keys_in_front front more) (more_keys_in_front front later more h)

@@ -62,7 +62,11 @@ same_key (AnswerTo call) (AnswerTo other) = same_words call other
 same_key Status Status = true
 same_key _ _ = false
 
+-- what has to be known before these accesses, if these keys have to be known after them
+abbrev pub keys_in_front : List Access → (later : List Key) → List Key
+keys_in_front [] later = later
+keys_in_front (Reads key ∷ accesses) later = key ∷ keys_in_front accesses later
+keys_in_front (Writes key ∷ accesses) later = filter (λ other. not (same_key other key)) (keys_in_front accesses later)
+
 abbrev pub keys_read : List Access → List Key
-keys_read [] = []
-keys_read (Reads key ∷ accesses) = key ∷ keys_read accesses
-keys_read (Writes key ∷ accesses) = filter (λ other. not (same_key other key)) (keys_read accesses)
+keys_read accesses = keys_in_front accesses []

@@ -1,11 +1,29 @@
 -- Laws of what runs read, over the definitions alone. Ours.
-use Rattle.std.specs.Prelude.{◌≡◌, ℕ, List}
+use Rattle.std.specs.Prelude.{◌≡◌, ℕ, List, ◌++◌, ◌↔◌}
 use Rattle.hushlang.specs.Tree.{Script}
 use Rattle.rehearse_terms.specs.State.{Text, State}
 use Rattle.rehearse_rules.specs.Execution.{Limits, exec, run_text}
-use Rattle.rehearse_reads.specs.Keys.{Key, AreAmong, AgreeOn, keys_read, known_after}
+use Rattle.rehearse_reads.specs.Keys.{Key, Access, AreAmong, AgreeOn, ReadsWithin, keys_in_front, keys_read, known_after}
 use Rattle.rehearse_reads.specs.Accesses.{accesses, run_text_accesses}
 use Rattle.rehearse_reads.specs.Alike.{IsAlike, EndAlike}
+
+-- ---- keys
+
+-- the keys that are read before they are written are all that has to be known, and no key too many
+abbrev pub KeysReadSuffice : Type 0
+KeysReadSuffice = (accesses : List Access) (known : List Key) →
+    ReadsWithin known accesses ↔ AreAmong (keys_read accesses) known
+
+-- of one stretch after another: what the first one reads, and what the second one reads that the first has not written
+abbrev pub StretchesJoin : Type 0
+StretchesJoin = (front behind : List Access) → keys_read (front ++ behind) ≡ keys_in_front front (keys_read behind)
+
+-- with more keys behind, no fewer have to be known in front
+abbrev pub MoreKeysInFront : Type 0
+MoreKeysInFront = (front : List Access) (later more : List Key) → AreAmong later more →
+    AreAmong (keys_in_front front later) (keys_in_front front more)
+
+-- ---- runs
 
 -- From two states that agree on some keys, among which is what a script reads before it writes it, the script comes to the
 -- same, as far as the bounds allow. The states that it comes to agree on these keys and on all that it wrote.

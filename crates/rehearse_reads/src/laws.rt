@@ -1,6 +1,16 @@
 //! Laws of what runs read. A call of one does nothing: its contract is the law.
 
-ghost use Rattle.rehearse_reads.specs.Laws.{RunsEndAlike, StatesGoAlike};
+ghost use Rattle.rehearse_reads.specs.Laws.{KeysReadSuffice, MoreKeysInFront, RunsEndAlike, StatesGoAlike, StretchesJoin};
+
+/// The keys that are read before they are written are what has to be known before a stretch of a run,
+/// and no key too many. Of one stretch after another these are what the first reads, and what the second
+/// reads that the first has not written.
+#[tactic(auto, using(crate::proofs::KeysRead::keys_read_suffice, crate::proofs::KeysRead::stretches_join, crate::proofs::KeysRead::more_keys_in_front))]
+pub fn keys_of_stretches()
+    ensures suffice { KeysReadSuffice }
+    ensures joined { StretchesJoin }
+    ensures more { MoreKeysInFront }
+{}
 
 /// From two states that agree on what a script reads before it writes it, and on the outcomes that are
 /// left, the script comes to the same as far as the bounds allow: it ends in the same way, after the
