@@ -161,10 +161,13 @@ loop : reached (codes "until true; do echo $a; done") ≡ Writes Status ∷ Read
 unfolding reached_in
 loop = refl
 
-turns_of_a_for : reached (codes "for i in 1 $a; do true; done")
-    ≡ Reads a ∷ Writes (Local (codes "i")) ∷ Writes Status ∷ Reads Status ∷ Writes (Local (codes "i")) ∷ Writes Status ∷ Reads Status ∷ Writes Status ∷ []
+turns_of_a_for : reached (codes "for i in 1 $a; do true; done") ≡ Reads a ∷ Writes (Local (codes "i")) ∷ Writes Status ∷ Writes (Local (codes "i")) ∷ Writes Status ∷ []
 unfolding reached_in
 turns_of_a_for = refl
+
+for_without_a_field : reached (codes "for i in $b; do true; done") ≡ Reads b ∷ Reads (Local (codes "b")) ∷ Writes Status ∷ []
+unfolding reached_in
+for_without_a_field = refl
 
 -- ---- in each shell
 

@@ -10,7 +10,7 @@ use Rattle.rehearse_rules.specs.ByShell.{assigned_in, status_of_nothing, status_
 use Rattle.rehearse_rules.specs.Execution.{Limits, Answer, Normal, Ended, CutSteps, Size, go_on, set_status, set_local, assign, assign_local, turns, begin_turn, for_each, holds}
 use Rattle.rehearse_rules.proofs.TakenOutcomes.{KeepsAll, Keeps-turns, Keeps-for, after_condition, Keeps-after_condition}
 use Rattle.rehearse_reads.specs.Keys.{Key, Status, Local, Access, Reads, ReadsWithin, known_after}
-use Rattle.rehearse_reads.specs.Accesses.{behind, status_written, word_reads, local_accesses, assign_accesses, turns_accesses, turn_accesses, each_accesses, nothing_accesses}
+use Rattle.rehearse_reads.specs.Accesses.{behind, status_written, word_reads, local_accesses, assign_accesses, turns_accesses, turn_accesses, each_accesses, for_accesses, nothing_accesses}
 use Rattle.rehearse_reads.specs.Alike.{AreAbreast, IsAlike}
 use Rattle.rehearse_reads.proofs.AccessLemmas.{within_then, read_first, read_then}
 use Rattle.rehearse_reads.proofs.AbreastLemmas.{near_status, near_statuses, near_local, near_assigned}
@@ -91,15 +91,19 @@ module _ (limits : Limits) (i j : ℕ) (k l : List LoggedCommand) where
       let kept : KeepsAll limits again = λ x. Keeps-turns limits left until c b kc kb x.memory.status x in
       Alike-go_on limits i j k l known s t c (after_condition limits until b again last) u (λ x. Reads Status ∷ elim (holds until x.memory.status) [ true ↦ v x ++ behind (b x) next | false ↦ status_written ]) (h known s t) (after_alike until b again v next g does kept last) (Keeps-after_condition limits until b again kb kept last) near w
 
-  pub Alike-for : (name : Text) (b : State → Answer) (v : State → List Access) → AlwaysDoes b v → KeepsAll limits b → (fs : List Text) (last : ℕ) → AlwaysDoes (for_each limits.shell name b last fs) (each_accesses limits.shell name b v fs)
-  Alike-for name b v h kb [] last known s t near w = normal_alike limits i j k l (Status ∷ known) (set_status last s) (set_status last t) (near_status limits i j k l known s t last near)
-  Alike-for name b v h kb (f ∷ fs) last known s t near w =
+  -- after a body, whose status is that of the `for` if no field is left
+  Alike-each : (name : Text) (b : State → Answer) (v : State → List Access) → AlwaysDoes b v → KeepsAll limits b → (fs : List Text) → AlwaysDoes (λ x. for_each limits.shell name b x.memory.status fs x) (each_accesses limits.shell name b v fs)
+  Alike-each name b v h kb [] known s t near w = normal_alike limits i j k l known s t near
+  Alike-each name b v h kb (f ∷ fs) known s t near w =
       let s' : State = begin_turn limits.shell name f s in
       let t' : State = begin_turn limits.shell name f t in
       let again : State → Answer = λ x. for_each limits.shell name b x.memory.status fs x in
-      let next : State → List Access = λ x. Reads Status ∷ each_accesses limits.shell name b v fs x in
-      let does : AlwaysDoes again next = Alike-read limits i j k l (λ n. for_each limits.shell name b n fs) (each_accesses limits.shell name b v fs) (Alike-for name b v h kb fs) in
+      let next : State → List Access = each_accesses limits.shell name b v fs in
       let kept : KeepsAll limits again = λ x. Keeps-for limits name b kb x.memory.status fs x in
       let first : List Access = turn_accesses limits.shell name in
       after_then limits i j k l known first (v s' ++ behind (b s') next) (go_on (b s') again) (go_on (b t') again)
-      (Alike-go_on limits i j k l (known_after known first) s' t' b again v next (h (known_after known first) s' t') does kept (near_turn limits.shell known s t name f near) (within_then known first (v s' ++ behind (b s') next) w))
+      (Alike-go_on limits i j k l (known_after known first) s' t' b again v next (h (known_after known first) s' t') (Alike-each name b v h kb fs) kept (near_turn limits.shell known s t name f near) (within_then known first (v s' ++ behind (b s') next) w))
+
+  pub Alike-for : (name : Text) (b : State → Answer) (v : State → List Access) → AlwaysDoes b v → KeepsAll limits b → (fs : List Text) → AlwaysDoes (for_each limits.shell name b 0 fs) (for_accesses limits.shell name b v fs)
+  Alike-for name b v h kb [] known s t near w = normal_alike limits i j k l (Status ∷ known) (set_status 0 s) (set_status 0 t) (near_status limits i j k l known s t 0 near)
+  Alike-for name b v h kb (f ∷ fs) known s t near w = Alike-each name b v h kb (f ∷ fs) known s t near w

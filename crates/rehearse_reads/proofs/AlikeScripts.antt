@@ -15,7 +15,7 @@ use Rattle.rehearse_rules.specs.Execution.{Limits, Answer, Normal, Exit, Ended, 
 use Rattle.rehearse_rules.proofs.TakenOutcomes.{KeepsAll, Keeps-if, Keeps-run, Keeps-simple, Keeps-sized, Keeps-assign, Keeps-for, Keeps-script, Keeps-joined, Keeps-arms, Keeps-exec, Keeps-ended}
 use Rattle.rehearse_reads.specs.Keys.{Key, Environment, Status, Access, Reads, AreAmong, AgreeOn, all_read, ReadsWithin, known_after}
 use Rattle.rehearse_reads.specs.Alike.{AreAbreast, IsAlike}
-use Rattle.rehearse_reads.specs.Accesses.{behind, behind_text, status_written, words_reads, device_accesses, computed_accesses, setenv_accesses, tree_accesses, text_accesses, started_accesses, run_accesses, builtin_accesses, call_accesses, simple_accesses, sized_accesses, assign_accesses, each_accesses, script_accesses, list_accesses, joined_accesses, command_accesses, arms_accesses, accesses}
+use Rattle.rehearse_reads.specs.Accesses.{behind, behind_text, status_written, words_reads, device_accesses, computed_accesses, setenv_accesses, tree_accesses, text_accesses, started_accesses, run_accesses, builtin_accesses, call_accesses, simple_accesses, sized_accesses, assign_accesses, for_accesses, script_accesses, list_accesses, joined_accesses, command_accesses, arms_accesses, accesses}
 use Rattle.rehearse_reads.proofs.AccessLemmas.{read_first, read_then}
 use Rattle.rehearse_reads.proofs.AbreastLemmas.{near_status, near_computed, near_sets, near_echoed}
 use Rattle.rehearse_reads.proofs.SameWords.{fields_agree, turns_agree}
@@ -171,8 +171,8 @@ module _ (limits : Limits) (i j : ℕ) (k l : List LoggedCommand) where
           let body : State → Answer = exec_script limits left text b in
           let of_body : State → List Access = script_accesses limits left text of_text b in
           Alike-begin limits i j k l (λ x. sized (turns_in limits.shell (parameters_in x.memory) words) (for_each limits.shell name body 0) x)
-          (λ x. all_read (words_reads x.memory words) ++ sized_accesses (turns_in limits.shell (parameters_in x.memory) words) (each_accesses limits.shell name body of_body) x)
-          (turned_alike words (for_each limits.shell name body 0) (each_accesses limits.shell name body of_body) (λ fs. Alike-for limits i j k l name body of_body (Alike-script b) (Keeps-script limits left text kept b) fs 0))
+          (λ x. all_read (words_reads x.memory words) ++ sized_accesses (turns_in limits.shell (parameters_in x.memory) words) (for_accesses limits.shell name body of_body) x)
+          (turned_alike words (for_each limits.shell name body 0) (for_accesses limits.shell name body of_body) (λ fs. Alike-for limits i j k l name body of_body (Alike-script b) (Keeps-script limits left text kept b) fs))
           (λ x. Keeps-sized limits (turns_in limits.shell (parameters_in x.memory) words) (for_each limits.shell name body 0) (λ fs. Keeps-for limits name body (Keeps-script limits left text kept b) 0 fs) x)
           known s t near w
 

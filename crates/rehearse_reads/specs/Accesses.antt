@@ -136,14 +136,20 @@ turn_accesses Profile name = Writes (Local name) ∷ []
 turn_accesses Old2023 name = Writes (Local name) ∷ status_written
 turn_accesses Old2025 name = Writes (Local name) ∷ status_written
 
--- the status of each body is read, since it may be the status of the `for`
+-- the body once for each field. The status of the last body is that of the `for`
 abbrev pub each_accesses : Shell → (name : Text) → (body : State → Answer) → (of_body : State → List Access) →
     List Text → State → List Access
-each_accesses shell name body of_body [] s = status_written
+each_accesses shell name body of_body [] s = []
 each_accesses shell name body of_body (f ∷ fs) s =
     let turn = begin_turn shell name f s in
     turn_accesses shell name
-    ++ (of_body turn ++ behind (body turn) (λ t. Reads Status ∷ each_accesses shell name body of_body fs t))
+    ++ (of_body turn ++ behind (body turn) (each_accesses shell name body of_body fs))
+
+-- without a field it sets the status
+abbrev pub for_accesses : Shell → (name : Text) → (body : State → Answer) → (of_body : State → List Access) →
+    List Text → State → List Access
+for_accesses shell name body of_body [] s = status_written
+for_accesses shell name body of_body (f ∷ fs) s = each_accesses shell name body of_body (f ∷ fs) s
 
 -- ---- beside the execution
 
@@ -255,7 +261,7 @@ module _ (limits : Limits) where
       command_accesses (tree.For name words body) s =
           begun_accesses (λ t. all_read (words_reads t.memory words)
           ++ sized_accesses (turns_in limits.shell (parameters_in t.memory) words)
-          (each_accesses limits.shell name (exec_script limits left text body) (script_accesses body)) t) s
+          (for_accesses limits.shell name (exec_script limits left text body) (script_accesses body)) t) s
 
       -- the status of each condition is read
       pub arms_accesses : Arms → State → List Access
