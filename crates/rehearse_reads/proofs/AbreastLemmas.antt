@@ -24,7 +24,7 @@ further_on k l here there entry h = record {
 }
 
 -- with other counts of steps and other words
-moved_at : (key : Key) (s t : State) (m n : ℕ) (v w : OutcomeWord) → AgreeAt key s t → AgreeAt key (record s { steps = m; word = v }) (record t { steps = n; word = w })
+pub moved_at : (key : Key) (s t : State) (m n : ℕ) (v w : OutcomeWord) → AgreeAt key s t → AgreeAt key (record s { steps = m; word = v }) (record t { steps = n; word = w })
 moved_at (Environment name) s t m n v w h = h
 moved_at (Local name) s t m n v w h = h
 moved_at (AnswerTo call) s t m n v w h = h

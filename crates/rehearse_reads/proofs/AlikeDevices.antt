@@ -68,7 +68,7 @@ module _ (limits : Limits) (i j : ℕ) (k l : List LoggedCommand) where
       (near_set limits i j k l (Status ∷ known) (logged Success request s) (logged Success request t) sets (near_logged limits i j k l known s t Success request near))
   with_alike request Failure known s t near = normal_alike limits i j k l (Status ∷ known) (logged Failure request s) (logged Failure request t) (near_logged limits i j k l known s t Failure request near)
 
-  take_alike : (request : Request) (w : OutcomeWord) (known : List Key) (s t : State) → Near known s t → Is (known_after known (taken_accesses request w)) (take_outcome request w s) (take_outcome request w t)
+  pub take_alike : (request : Request) (w : OutcomeWord) (known : List Key) (s t : State) → Near known s t → Is (known_after known (taken_accesses request w)) (take_outcome request w s) (take_outcome request w t)
   take_alike request [] known s t near = dry_alike limits i j k l known s t near
   take_alike request (d ∷ rest) known s t near = with_alike request d known (record s { word = rest }) (record t { word = rest }) (near_moved limits i j k l known s t rest near)
 

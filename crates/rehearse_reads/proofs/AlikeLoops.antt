@@ -74,7 +74,7 @@ module _ (limits : Limits) (i j : ℕ) (k l : List LoggedCommand) where
       let m : ℕ = status_of_loop shell last t.memory.status in
       normal_alike limits i j k l (Status ∷ known) (set_status n s) (set_status m t) (near_statuses limits i j k l known s t n m (ap (λ (x : ℕ). status_of_loop shell last x) e) near)
 
-  after_alike : (until : Bool) (b again : State → Answer) (v next : State → List Access) → AlwaysDoes b v → AlwaysDoes again next → KeepsAll limits again → (last : ℕ)
+  pub after_alike : (until : Bool) (b again : State → Answer) (v next : State → List Access) → AlwaysDoes b v → AlwaysDoes again next → KeepsAll limits again → (last : ℕ)
       → AlwaysDoes (after_condition limits until b again last) (λ t. Reads Status ∷ elim (holds until t.memory.status) [ true ↦ v t ++ behind (b t) next | false ↦ status_written ])
   after_alike until b again v next h does kept last known s t near w =
       let e : t.memory.status ≡ s.memory.status = near.keys Status w.0 in
@@ -92,7 +92,7 @@ module _ (limits : Limits) (i j : ℕ) (k l : List LoggedCommand) where
       Alike-go_on limits i j k l known s t c (after_condition limits until b again last) u (λ x. Reads Status ∷ elim (holds until x.memory.status) [ true ↦ v x ++ behind (b x) next | false ↦ status_written ]) (h known s t) (after_alike until b again v next g does kept last) (Keeps-after_condition limits until b again kb kept last) near w
 
   -- after a body, whose status is that of the `for` if no field is left
-  Alike-each : (name : Text) (b : State → Answer) (v : State → List Access) → AlwaysDoes b v → KeepsAll limits b → (fs : List Text) → AlwaysDoes (λ x. for_each limits.shell name b x.memory.status fs x) (each_accesses limits.shell name b v fs)
+  pub Alike-each : (name : Text) (b : State → Answer) (v : State → List Access) → AlwaysDoes b v → KeepsAll limits b → (fs : List Text) → AlwaysDoes (λ x. for_each limits.shell name b x.memory.status fs x) (each_accesses limits.shell name b v fs)
   Alike-each name b v h kb [] known s t near w = normal_alike limits i j k l known s t near
   Alike-each name b v h kb (f ∷ fs) known s t near w =
       let s' : State = begin_turn limits.shell name f s in

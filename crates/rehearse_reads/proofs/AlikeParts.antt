@@ -58,7 +58,7 @@ module _ (limits : Limits) (i j : ℕ) (k l : List LoggedCommand) where
   beyond_later a b e f (inl h) = let g = h.1 in inl (h.0, omega arith)
   beyond_later a b e f (inr h) = let g = h.1 in inr (h.0, let w = log_within b in omega arith)
 
-  normal_later : (u : State) (g : State → Answer) → KeepsAll limits g → IsBeyond limits i j k l (Normal u) → IsBeyond limits i j k l (g u)
+  pub normal_later : (u : State) (g : State → Answer) → KeepsAll limits g → IsBeyond limits i j k l (Normal u) → IsBeyond limits i j k l (g u)
   normal_later u g kept h =
       let to = Track-of limits.device_bound u (g u) (kept u).0 in
       beyond_later (Normal u) (g u) to.steps (let e = to.log in omega arith) h
@@ -72,7 +72,7 @@ module _ (limits : Limits) (i j : ℕ) (k l : List LoggedCommand) where
 
   -- ---- one part after another
 
-  go_on_alike : (known : List Key) (a b : Answer) (g : State → Answer) (v : State → List Access) → AlwaysDoes g v → KeepsAll limits g → ReadsWithin known (behind a v) → Is known a b → Is (known_after known (behind a v)) (go_on a g) (go_on b g)
+  pub go_on_alike : (known : List Key) (a b : Answer) (g : State → Answer) (v : State → List Access) → AlwaysDoes g v → KeepsAll limits g → ReadsWithin known (behind a v) → Is known a b → Is (known_after known (behind a v)) (go_on a g) (go_on b g)
   go_on_alike known (Normal u) b g v does kept w (same h) = subst (λ (x : Answer). Is (known_after known (v u)) (g u) (go_on x g)) (sym h.is) (does known u h.there h.abreast w)
   go_on_alike known (Normal u) b g v does kept w (cut_here h) = absurd h
   go_on_alike known (Normal u) b g v does kept w (beyond h) = beyond (normal_later u g kept h)
@@ -116,7 +116,7 @@ module _ (limits : Limits) (i j : ℕ) (k l : List LoggedCommand) where
   ended_text known u t g v does near w =
       if_alike known (nat_eq u.memory.status 0) (nat_eq t.memory.status 0) (ap (λ (n : ℕ). nat_eq n 0) (near.keys Status w.0)) (g u) (Normal u) (g t) (Normal t) (v u) [] (does known u t near) (λ h. normal_alike known u t near) w.1
 
-  text_end_alike : (known : List Key) (a b : Answer) (g : State → Answer) (v : State → List Access) → AlwaysDoes g v → KeepsAll limits g → ReadsWithin known (behind_text a v) → Is known a b → Is (known_after known (behind_text a v)) (text_end a g) (text_end b g)
+  pub text_end_alike : (known : List Key) (a b : Answer) (g : State → Answer) (v : State → List Access) → AlwaysDoes g v → KeepsAll limits g → ReadsWithin known (behind_text a v) → Is known a b → Is (known_after known (behind_text a v)) (text_end a g) (text_end b g)
   text_end_alike known (Normal u) b g v does kept w (same h) = subst (λ (x : Answer). Is (known_after known (behind_text (Normal u) v)) (text_end (Normal u) g) (text_end x g)) (sym h.is) (ended_text known u h.there g v does h.abreast w)
   text_end_alike known (Normal u) b g v does kept w (cut_here h) = absurd h
   text_end_alike known (Normal u) b g v does kept w (beyond h) = beyond (if_later u u.memory.status g kept h)

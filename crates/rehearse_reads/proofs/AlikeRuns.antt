@@ -15,7 +15,7 @@ use Rattle.rehearse_reads.proofs.AlikeParts.{further_apart}
 use Rattle.rehearse_reads.proofs.AlikeScripts.{Alike-exec, Alike-text}
 
 -- a state is abreast of itself elsewhere
-from_the_start : (limits : Limits) (keys : List Key) (s t : State) → AgreeOn keys s t → t.word ≡ s.word → AreAbreast limits s.steps t.steps s.log t.log keys s t
+pub from_the_start : (limits : Limits) (keys : List Key) (s t : State) → AgreeOn keys s t → t.word ≡ s.word → AreAbreast limits s.steps t.steps s.log t.log keys s t
 from_the_start limits keys s t agree word = record {
   keys = agree;
   word = word;

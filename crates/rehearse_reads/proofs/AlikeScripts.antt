@@ -68,7 +68,7 @@ module _ (limits : Limits) (i j : ℕ) (k l : List LoggedCommand) where
     Alike-named (Some text) name next u h m known s t near w =
         Alike-text_end limits i j k l known s t (started_text limits script name text) next (started_accesses limits script of_script text) u (Alike-started name text known s t) h m near w
 
-    Alike-run : (names : List Text) → AlwaysDoes (run_all limits script names) (run_accesses limits script of_script names)
+    pub Alike-run : (names : List Text) → AlwaysDoes (run_all limits script names) (run_accesses limits script of_script names)
     Alike-run [] known s t near w = normal_alike limits i j k l known s t near
     Alike-run (name ∷ names) known s t near w =
         let next : State → Answer = run_all limits script names in

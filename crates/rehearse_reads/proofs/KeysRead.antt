@@ -1,5 +1,5 @@
 -- The keys that are read before they are written are what has to be known, also of one stretch after another.
-use Rattle.std.proofs.Common.{◌≡◌, ◌∙◌, refl, sym, ap, Bool, true, false, not, ◌&&◌, cond, List, [], ◌∷◌, filter, inl, inr}
+use Rattle.std.proofs.Common.{◌≡◌, ◌∙◌, refl, sym, ap, subst, Bool, true, false, not, ◌&&◌, cond, List, [], ◌∷◌, ◌++◌, filter, inl, inr}
 use Rattle.std.specs.Str.{bytes_eq}
 use Rattle.std.proofs.lemmas.Bool.{and_parts}
 use Rattle.std.proofs.lemmas.Slice.Eq.{bytes_eq-Decides}
@@ -126,3 +126,35 @@ pub more_keys_in_front : MoreKeysInFront
 more_keys_in_front [] later more h = h
 more_keys_in_front (Reads key ∷ front) later more h = (inl refl, with_more (keys_in_front front later) (keys_in_front front more) key (more_keys_in_front front later more h))
 more_keys_in_front (Writes key ∷ front) later more h = filter_among (λ other. not (same_key other key)) (keys_in_front front later) (keys_in_front front more) (more_keys_in_front front later more h)
+
+-- ---- keys among others
+
+among_left : (key : Key) (keys more : List Key) → IsAmong key keys → IsAmong key (keys ++ more)
+among_left key [] more h = absurd h
+among_left key (k ∷ keys) more (inl same) = inl same
+among_left key (k ∷ keys) more (inr h) = inr (among_left key keys more h)
+
+among_right : (key : Key) (keys more : List Key) → IsAmong key more → IsAmong key (keys ++ more)
+among_right key [] more h = h
+among_right key (k ∷ keys) more h = inr (among_right key keys more h)
+
+pub all_left : (some keys more : List Key) → AreAmong some keys → AreAmong some (keys ++ more)
+all_left [] keys more h = tt
+all_left (key ∷ some) keys more h = (among_left key keys more h.0, all_left some keys more h.1)
+
+pub all_right : (some keys more : List Key) → AreAmong some more → AreAmong some (keys ++ more)
+all_right [] keys more h = tt
+all_right (key ∷ some) keys more h = (among_right key keys more h.0, all_right some keys more h.1)
+
+one_of_more : (key : Key) (keys more : List Key) → IsAmong key keys → AreAmong keys more → IsAmong key more
+one_of_more key [] more h all = absurd h
+one_of_more key (k ∷ keys) more (inl same) all = subst (λ (x : Key). IsAmong x more) (sym same) all.0
+one_of_more key (k ∷ keys) more (inr h) all = one_of_more key keys more h all.1
+
+pub all_of_more : (some keys more : List Key) → AreAmong some keys → AreAmong keys more → AreAmong some more
+all_of_more [] keys more h all = tt
+all_of_more (key ∷ some) keys more h all = (one_of_more key keys more h.0 all, all_of_more some keys more h.1 all)
+
+pub all_itself : (keys : List Key) → AreAmong keys keys
+all_itself [] = tt
+all_itself (key ∷ keys) = (inl refl, with_more keys keys key (all_itself keys))

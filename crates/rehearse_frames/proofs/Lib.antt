@@ -1,0 +1,6 @@
+pub mod NoneBegun
+pub mod SameAccesses
+pub mod MoveAccessLemmas
+pub mod FramesAlike
+pub mod EnoughKeys
+mod MoveExamples

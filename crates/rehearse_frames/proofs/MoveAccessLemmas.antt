@@ -1,0 +1,334 @@
+-- What frames read and write is what a move reads and writes, and then what is to come after it.
+use Rattle.std.proofs.Common.{◌≡◌, ◌∙◌, refl, sym, ap, ℕ, zero, suc, ◌≤◌, arith, Bool, true, false, List, [], ◌∷◌, ◌++◌, length, append_assoc, Option, Some, None, nat_lt, nat_le, nat_eq}
+use Rattle.hushlang.specs.Tree as tree
+use Rattle.hushlang.specs.Tree.{Script, AndOr, Joined, Command, Arms, IsProper, IsProperCommand, HoldsCommand}
+use Rattle.hushlang.specs.Expansion.{size, most_bytes}
+use Rattle.hushlang_old.specs.TreesByShell.{tree_in, lacks_end_in}
+use Rattle.hushlang_old.proofs.TreeByShellLemmas.{trees_in_are_proper}
+use Rattle.builtins.specs.Builtins.{Builtin, SetEnv, Run, Test, Echo, True, False, Leave, builtin_of}
+use Rattle.commands.specs.Computed.{Computed}
+use Rattle.commands.specs.BuiltInCommands.{ChangesVariables, carried, deed_of}
+use Rattle.device_list.specs.Called.{BuiltIn, Device, NoCommand, called_by, sets_in}
+use Rattle.device_list.specs.DeviceList.{Effect, effect_of, computed_by}
+use Rattle.rehearse_terms.specs.Outcomes.{OutcomeWord, Outcome, Success, Failure}
+use Rattle.rehearse_terms.specs.State.{Text, get, State}
+use Rattle.rehearse_rules.specs.Parameters.{parameters_in}
+use Rattle.rehearse_rules.specs.ByShell.{unread, leaves_in, status_of_exit, asks_in, truth_in, fields_in, turns_in, skips_rest, status_of_loop, follows, assigned_in}
+use Rattle.rehearse_rules.specs.Execution.{Limits, Answer, Normal, Exit, Ended, Ending, CutDevices, CutSteps, Unknown, Size, Booted, Unsupported, Request, go_on, set_status, status_when, goes, holds, begin, boot, tell_or_take, told, told_again, logged, set_environment, device, text_end, run_all, command, simple, sized, assign, assign_local, turns, for_each, begin_turn, run_text, started_text, request_of, test_request}
+use Rattle.rehearse_rules.proofs.GrowingSteps.{Grew, AtLeast-track, Grew-block}
+use Rattle.rehearse_rules.proofs.TakenOutcomes.{KeepsAll, Keeps-script, Keeps-exec}
+use Rattle.rehearse_machine.specs.Frames.{Frame, Lists, Linked, IfCondition, LoopCondition, LoopBody, ForBody, RunNames, RunText, Next, Go, Ask, Stop, tell_or_ask, boot_next, leave, begin_assign, begin_for, begin_arms, begin_tree, begin_text, begin_names, begin_exit, fitting, ask, begin_called, begin_fields, counted, begin_command, answered, move}
+use Rattle.rehearse_machine.specs.Meaning.{with, full, script, one, joined_of, arms_of, again, resume, AreProperFrames}
+use Rattle.rehearse_machine.proofs.MoveMeaning.{turn_more}
+use Rattle.rehearse_machine.proofs.StepBoundLemmas.{closed_exec}
+use Rattle.rehearse_machine.proofs.BoundLemmas.{Cut-block}
+use Rattle.rehearse_reads.specs.Keys.{Access, Reads, Writes, Environment, Status, all_read}
+use Rattle.rehearse_reads.specs.Accesses.{behind, behind_text, status_written, word_reads, words_reads, sized_accesses, local_accesses, assign_accesses, turns_accesses, turn_accesses, each_accesses, for_accesses, begun_accesses, told_reads, answer_accesses, outcome_accesses, device_accesses, computed_accesses, tree_accesses, text_accesses, started_accesses, builtin_accesses, call_accesses, simple_accesses}
+use Rattle.rehearse_frames.specs.ToCome.{names_read, of_full, of_script, of_one, of_joined, of_arms, of_again, of_condition, of_choice, of_names, of_frames, of_next}
+use Rattle.rehearse_frames.specs.MoveAccesses.{of_leaving, of_exit, of_telling, of_beginning_for, of_beginning_arms, of_beginning_tree, of_beginning_text, of_beginning_names, of_asking, of_builtin, of_call, of_fields, of_command, of_move}
+use Rattle.rehearse_frames.specs.Laws.{MovesComeFirst, OutcomesComeFirst}
+use Rattle.rehearse_frames.proofs.NoneBegun.{nothing_behind, None-block}
+use Rattle.rehearse_frames.proofs.SameAccesses.{either, same_behind, turns_same, closed_accesses}
+
+in_front : (front xs after ys rest : List Access) → xs ++ after ≡ ys ++ rest → (front ++ xs) ++ after ≡ (front ++ ys) ++ rest
+in_front front xs after ys rest e = append_assoc front xs after ∙ ap (λ (l : List Access). front ++ l) e ∙ sym (append_assoc front ys rest)
+
+module _ (limits : Limits) (wanted : List Text) (w : OutcomeWord) where
+  abbrev Rest : List Frame → Answer → List Access
+  Rest fs a = of_frames limits wanted fs a
+
+  abbrev After : Next → List Access
+  After next = of_next limits wanted w next
+
+  -- an ending passes every frame
+  frames_ended : (fs : List Frame) (ending : Ending) (s : State) → Rest fs (Ended ending s) ≡ names_read wanted
+  frames_ended [] ending s = refl
+  frames_ended (Lists lists ∷ fs) ending s = frames_ended fs ending s
+  frames_ended (Linked links ∷ fs) ending s = frames_ended fs ending s
+  frames_ended (IfCondition b arms ∷ fs) ending s = frames_ended fs ending s
+  frames_ended (LoopCondition until c b last ∷ fs) ending s = frames_ended fs ending s
+  frames_ended (LoopBody until c b ∷ fs) ending s = frames_ended fs ending s
+  frames_ended (ForBody name values body ∷ fs) ending s = frames_ended fs ending s
+  frames_ended (RunNames names ∷ fs) ending s = frames_ended fs ending s
+  frames_ended (RunText names ∷ fs) ending s = frames_ended fs ending s
+
+  leave_so : (fs : List Frame) (s : State) → of_leaving fs ++ After (leave fs s) ≡ Rest fs (Exit (with w s))
+  leave_so [] s = refl
+  leave_so (RunNames names ∷ fs) s = refl
+  leave_so (RunText names ∷ fs) s = refl
+  leave_so (Lists ls ∷ fs) s = leave_so fs s
+  leave_so (Linked ls ∷ fs) s = leave_so fs s
+  leave_so (IfCondition b arms ∷ fs) s = leave_so fs s
+  leave_so (LoopCondition until c b last ∷ fs) s = leave_so fs s
+  leave_so (LoopBody until c b ∷ fs) s = leave_so fs s
+  leave_so (ForBody name fields body ∷ fs) s = leave_so fs s
+
+  if_so : (b : Bool) (xs ys : List Access) (x y : Next) (fs : List Frame) (zs ws : List Access) (u v : Answer) → xs ++ After x ≡ zs ++ Rest fs u → ys ++ After y ≡ ws ++ Rest fs v
+      → (elim b [ true ↦ xs | false ↦ ys ]) ++ After (elim b [ true ↦ x | false ↦ y ]) ≡ (elim b [ true ↦ zs | false ↦ ws ]) ++ Rest fs (elim b [ true ↦ u | false ↦ v ])
+  if_so true xs ys x y fs zs ws u v e k = e
+  if_so false xs ys x y fs zs ws u v e k = k
+
+  stops_so : (fs : List Frame) (ending : Ending) (s : State) → names_read wanted ≡ Rest fs (Ended ending (with w s))
+  stops_so fs ending s = sym (frames_ended fs ending (with w s))
+
+  assign_so : (pairs : List (Text × tree.Word)) (fs : List Frame) (s : State) → assign_accesses limits.shell pairs s ++ After (begin_assign limits.shell pairs fs s) ≡ assign_accesses limits.shell pairs (with w s) ++ Rest fs (assign limits.shell pairs (with w s))
+  assign_so [] fs s = refl
+  assign_so (pair ∷ pairs) fs s =
+      let value : Text = assigned_in limits.shell (parameters_in s.memory) pair.1 in
+      let t : State = assign_local limits.shell pair.0 value s in
+      let first : List Access = local_accesses limits.shell pair.0 value in
+      in_front (all_read (word_reads s.memory pair.1)) (elim (nat_le (length value) most_bytes) [ true ↦ first ++ assign_accesses limits.shell pairs t | false ↦ [] ])
+      (After (begin_assign limits.shell (pair ∷ pairs) fs s)) (elim (nat_le (length value) most_bytes) [ true ↦ first ++ assign_accesses limits.shell pairs (with w t) | false ↦ [] ]) (Rest fs (assign limits.shell (pair ∷ pairs) (with w s)))
+      (if_so (nat_le (length value) most_bytes) (first ++ assign_accesses limits.shell pairs t) [] (begin_assign limits.shell pairs fs t) (Stop Size s) fs (first ++ assign_accesses limits.shell pairs (with w t)) [] (assign limits.shell pairs (with w t)) (Ended Size (with w s))
+      (in_front first (assign_accesses limits.shell pairs t) (After (begin_assign limits.shell pairs fs t)) (assign_accesses limits.shell pairs (with w t)) (Rest fs (assign limits.shell pairs (with w t))) (assign_so pairs fs t))
+      (stops_so fs Size s))
+
+  -- ---- texts that `run` starts
+
+  -- a text that is run reads and writes what its script does
+  closed_so : (a : Script) → IsProper a → (names : List Text) (fs : List Frame) (t : State)
+      → of_script limits a t ++ (behind_text (script limits a t) (of_names limits names) ++ Rest fs (text_end (script limits a t) (run_all limits (full limits) names)))
+      ≡ (of_full limits a t ++ behind_text (full limits a t) (of_names limits names)) ++ Rest fs (text_end (full limits a t) (run_all limits (full limits) names))
+  closed_so a p names fs t =
+      let rest : Answer → List Access = λ x. behind_text x (of_names limits names) ++ Rest fs (text_end x (run_all limits (full limits) names)) in
+      sym (append_assoc (of_full limits a t) (behind_text (full limits a t) (of_names limits names)) (Rest fs (text_end (full limits a t) (run_all limits (full limits) names)))
+      ∙ ap (λ (xs : List Access). xs ++ rest (full limits a t)) (closed_accesses limits limits.step_bound a p t (omega arith))
+      ∙ ap (λ (x : Answer). of_script limits a t ++ rest x) (closed_exec limits limits.step_bound a p t (omega arith)))
+
+  tree_so : (o : Option Script) (name : Text) (names : List Text) (fs : List Frame) (s : State) → ((t : Script) → o ≡ Some t → IsProper t)
+      → of_beginning_tree o ++ After (begin_tree limits.shell o name names fs s)
+      ≡ ((elim o [ None ↦ [] | Some a ↦ tree_accesses limits (full limits) (of_full limits) a (with w s) ])
+      ++ behind_text (elim o [ None ↦ Ended (unread limits.shell name) (with w s) | Some a ↦ full limits a (elim a [ tree.Empty ↦ set_status 0 (with w s) | tree.Runs l ls ↦ with w s ]) ]) (of_names limits names))
+      ++ Rest fs (text_end (elim o [ None ↦ Ended (unread limits.shell name) (with w s) | Some a ↦ full limits a (elim a [ tree.Empty ↦ set_status 0 (with w s) | tree.Runs l ls ↦ with w s ]) ]) (run_all limits (full limits) names))
+  tree_so None name names fs s p = stops_so fs (unread limits.shell name) s
+  tree_so (Some tree.Empty) name names fs s p = ap (λ (xs : List Access). Writes Status ∷ xs) (closed_so tree.Empty tt names fs (set_status 0 (with w s)))
+  tree_so (Some (tree.Runs l ls)) name names fs s p = closed_so (tree.Runs l ls) (p (tree.Runs l ls) refl) names fs (with w s)
+
+  started_so : (b : Bool) (v name : Text) (names : List Text) (fs : List Frame) (s : State)
+      → (elim b [ true ↦ Writes Status ∷ Reads Status ∷ [] | false ↦ of_beginning_tree (tree_in limits.shell v) ]) ++ After (elim b [ true ↦ Go fs (set_status 1 s) | false ↦ begin_tree limits.shell (tree_in limits.shell v) name names fs s ])
+      ≡ ((elim b [ true ↦ status_written | false ↦ text_accesses limits (full limits) (of_full limits) v (with w s) ])
+      ++ behind_text (elim b [ true ↦ Normal (set_status 1 (with w s)) | false ↦ run_text limits (full limits) name v (with w s) ]) (of_names limits names))
+      ++ Rest fs (text_end (elim b [ true ↦ Normal (set_status 1 (with w s)) | false ↦ run_text limits (full limits) name v (with w s) ]) (run_all limits (full limits) names))
+  started_so true v name names fs s = refl
+  started_so false v name names fs s = tree_so (tree_in limits.shell v) name names fs s (trees_in_are_proper limits.shell v)
+
+  text_so : (o : Option Text) (name : Text) (names : List Text) (fs : List Frame) (s : State)
+      → of_beginning_text limits.shell o ++ After (begin_text limits.shell o name names fs s)
+      ≡ (elim o [ None ↦ status_written | Some v ↦ started_accesses limits (full limits) (of_full limits) v (with w s) ++ behind_text (started_text limits (full limits) name v (with w s)) (of_names limits names) ])
+      ++ Rest fs (elim o [ None ↦ Normal (set_status 1 (with w s)) | Some v ↦ text_end (started_text limits (full limits) name v (with w s)) (run_all limits (full limits) names) ])
+  text_so None name names fs s = refl
+  text_so (Some v) name names fs s = started_so (lacks_end_in limits.shell v) v name names fs s
+
+  names_so : (names : List Text) (fs : List Frame) (s : State) → of_beginning_names limits.shell names s ++ After (begin_names limits.shell names fs s) ≡ of_names limits names (with w s) ++ Rest fs (run_all limits (full limits) names (with w s))
+  names_so [] fs s = refl
+  names_so (name ∷ names) fs s = ap (λ (xs : List Access). Reads (Environment name) ∷ xs) (text_so (get s.memory.environment name) name names fs s)
+
+  -- ---- commands
+
+  boot_so : (ends : Bool) (name : Text) (fs : List Frame) (s : State) → After (boot_next ends name fs s) ≡ Rest fs (boot ends name (with w s))
+  boot_so true name fs s = stops_so fs (Booted name) s
+  boot_so false name fs s = refl
+
+  tell_so : (o : Option Bool) (request : Request) (fs : List Frame) (s : State) → of_telling o request ++ After (tell_or_ask o request fs s) ≡ answer_accesses o request (with w s) ++ Rest fs (tell_or_take o request (with w s))
+  tell_so None request fs s = refl
+  tell_so (Some true) request fs s =
+      ap (λ (xs : List Access). outcome_accesses Success request ++ xs) (boot_so request.effect.ends request.name fs (set_environment (sets_in request.words request.effect.sets) (logged Success (told_again request) s)))
+  tell_so (Some false) request fs s = refl
+
+  ask_so : (request : Request) (fs : List Frame) (s : State) → of_asking limits request s ++ After (ask limits request fs s) ≡ device_accesses limits request (with w s) ++ Rest fs (device limits request (with w s))
+  ask_so request fs s =
+      let o : Option Bool = told request s.log in
+      let keys : List Access = all_read (told_reads request) in
+      if_so (nat_lt (length s.log) limits.device_bound) (keys ++ of_telling o request) [] (tell_or_ask o request fs s) (Stop CutDevices s) fs (keys ++ answer_accesses o request (with w s)) [] (tell_or_take o request (with w s)) (Ended CutDevices (with w s))
+      (in_front keys (of_telling o request) (After (tell_or_ask o request fs s)) (answer_accesses o request (with w s)) (Rest fs (tell_or_take o request (with w s))) (tell_so o request fs s)) (stops_so fs CutDevices s)
+
+  exit_so : (o : Option ℕ) (other : ℕ) (fs : List Frame) (s : State) → of_exit o fs ++ After (begin_exit o other fs s) ≡ status_written ++ Rest fs (elim o [ Some status ↦ Exit (set_status status (with w s)) | None ↦ Normal (set_status other (with w s)) ])
+  exit_so (Some status) other fs s = ap (λ (xs : List Access). Writes Status ∷ xs) (leave_so fs (set_status status s))
+  exit_so None other fs s = refl
+
+  builtin_so : (b : Builtin) (name : Text) (ws : List Text) (fs : List Frame) (s : State) → of_builtin limits b name ws fs s ++ After (begin_called limits (BuiltIn (deed_of b)) name ws fs s)
+      ≡ builtin_accesses limits (full limits) (of_full limits) b name ws (with w s) ++ Rest fs (command limits (full limits) (BuiltIn (deed_of b)) name ws (with w s))
+  builtin_so SetEnv name ws fs s = refl
+  builtin_so Run name [] fs s = refl
+  builtin_so Run name (v ∷ vs) fs s = refl
+  builtin_so Test name ws fs s =
+      if_so (asks_in limits.shell ws) (of_asking limits (test_request limits name ws) s) status_written (ask limits (test_request limits name ws) fs s) (Go fs (set_status (status_when (truth_in limits.shell ws)) s)) fs (device_accesses limits (test_request limits name ws) (with w s)) status_written (device limits (test_request limits name ws) (with w s)) (Normal (set_status (status_when (truth_in limits.shell ws)) (with w s)))
+      (ask_so (test_request limits name ws) fs s) refl
+  builtin_so Echo name ws fs s = refl
+  builtin_so True name ws fs s = refl
+  builtin_so False name ws fs s = refl
+  builtin_so Leave name ws fs s = exit_so (leaves_in limits.shell ws) (status_of_exit limits.shell ws) fs s
+
+  call_so : (name : Text) (ws : List Text) (fs : List Frame) (s : State) → of_call limits name ws fs s ++ After (begin_called limits (called_by limits.devices name ws) name ws fs s)
+      ≡ call_accesses limits (full limits) (of_full limits) name ws (with w s) ++ Rest fs (command limits (full limits) (called_by limits.devices name ws) name ws (with w s))
+  call_so name ws fs s = by (computed_by limits.devices name ws) (builtin_of name) (effect_of limits.devices name ws)
+    where
+      by : (o : Option Computed) (b : Option Builtin) (f : Option Effect)
+          → (elim o [ Some computed ↦ computed_accesses computed | None ↦ elim b [ Some builtin ↦ of_builtin limits builtin name ws fs s | None ↦ elim f [ Some effect ↦ of_asking limits (request_of name ws effect) s | None ↦ [] ] ] ])
+          ++ After (begin_called limits (elim o [ Some computed ↦ BuiltIn (ChangesVariables (λ vs. carried computed)) | None ↦ elim b [ Some builtin ↦ BuiltIn (deed_of builtin) | None ↦ elim f [ Some effect ↦ Device effect | None ↦ NoCommand ] ] ]) name ws fs s)
+          ≡ (elim o [ Some computed ↦ computed_accesses computed | None ↦ elim b [ Some builtin ↦ builtin_accesses limits (full limits) (of_full limits) builtin name ws (with w s) | None ↦ elim f [ Some effect ↦ device_accesses limits (request_of name ws effect) (with w s) | None ↦ [] ] ] ])
+          ++ Rest fs (command limits (full limits) (elim o [ Some computed ↦ BuiltIn (ChangesVariables (λ vs. carried computed)) | None ↦ elim b [ Some builtin ↦ BuiltIn (deed_of builtin) | None ↦ elim f [ Some effect ↦ Device effect | None ↦ NoCommand ] ] ]) name ws (with w s))
+      by (Some computed) b f = refl
+      by None (Some builtin) f = builtin_so builtin name ws fs s
+      by None None (Some effect) = ask_so (request_of name ws effect) fs s
+      by None None None = stops_so fs (Unknown name) s
+
+  fields_so : (ws : List Text) (fs : List Frame) (s : State) → of_fields limits fs ws s ++ After (begin_fields limits ws fs s) ≡ simple_accesses limits (full limits) (of_full limits) ws (with w s) ++ Rest fs (simple limits (full limits) ws (with w s))
+  fields_so [] fs s = refl
+  fields_so (name ∷ ws) fs s =
+      if_so (follows limits.shell limits.devices name ws) (of_call limits name ws fs s) [] (begin_called limits (called_by limits.devices name ws) name ws fs s) (Stop (Unsupported name) s) fs (call_accesses limits (full limits) (of_full limits) name ws (with w s)) [] (command limits (full limits) (called_by limits.devices name ws) name ws (with w s)) (Ended (Unsupported name) (with w s))
+      (call_so name ws fs s) (stops_so fs (Unsupported name) s)
+
+  counted_so : (f : State → List Access) (next : State → Next) (g : State → List Access) (h : State → Answer) (fs : List Frame) (s : State) → ((t : State) → f t ++ After (next t) ≡ g (with w t) ++ Rest fs (h (with w t)))
+      → begun_accesses limits f s ++ After (counted limits next s) ≡ begun_accesses limits g (with w s) ++ Rest fs (begin limits h (with w s))
+  counted_so f next g h fs s e =
+      let t : State = record s { steps = suc s.steps } in
+      if_so (nat_lt s.steps limits.step_bound) (f t) [] (next t) (Stop CutSteps s) fs (g (with w t)) [] (h (with w t)) (Ended CutSteps (with w s)) (e t) (stops_so fs CutSteps s)
+
+  -- words that are expanded first
+  fitting_so : (keys : List Access) (ws : List Text) (f : List Text → State → List Access) (next : List Text → State → Next) (g : List Text → State → List Access) (h : List Text → State → Answer) (fs : List Frame) (s : State) → f ws s ++ After (next ws s) ≡ g ws (with w s) ++ Rest fs (h ws (with w s))
+      → (keys ++ sized_accesses ws f s) ++ After (fitting ws next s) ≡ (keys ++ sized_accesses ws g (with w s)) ++ Rest fs (sized ws h (with w s))
+  fitting_so keys ws f next g h fs s e =
+      in_front keys (sized_accesses ws f s) (After (fitting ws next s)) (sized_accesses ws g (with w s)) (Rest fs (sized ws h (with w s)))
+      (if_so (nat_le (size ws) most_bytes) (f ws s) [] (next ws s) (Stop Size s) fs (g ws (with w s)) [] (h ws (with w s)) (Ended Size (with w s)) e (stops_so fs Size s))
+
+  for_so : (name : Text) (values : List Text) (body : Script) (fs : List Frame) (s : State) → of_beginning_for values ++ After (begin_for name values body fs s)
+      ≡ for_accesses limits.shell name (script limits body) (of_script limits body) values (with w s) ++ Rest fs (for_each limits.shell name (script limits body) 0 values (with w s))
+  for_so name [] body fs s = refl
+  for_so name (f ∷ values) body fs s = refl
+
+  arms_so : (arms : Arms) (fs : List Frame) (s : State) → of_beginning_arms limits.shell arms ++ After (begin_arms limits.shell arms fs s) ≡ of_arms limits arms (with w s) ++ Rest fs (arms_of limits arms (with w s))
+  arms_so (tree.Arm c b arms) fs s =
+      let t : State = with w s in
+      sym (append_assoc (of_script limits c t) (behind (script limits c t) (of_choice limits b arms)) (Rest fs (resume limits (IfCondition b arms) (script limits c t))))
+  arms_so (tree.Else b) fs s = refl
+  arms_so tree.NoElse fs s = refl
+
+  -- ---- a turn of a loop, with all the steps for the turns after it
+
+  turn_at : (k : ℕ) → limits.step_bound ≡ k → (until : Bool) (c b : Script) → HoldsCommand c → HoldsCommand b → (s : State)
+      → turns_accesses limits.shell k until (script limits c) (script limits b) (of_script limits c) (of_script limits b) s
+      ≡ of_script limits c s ++ behind (script limits c s) (λ t. Reads Status ∷ elim (holds until t.memory.status) [
+        | true ↦ of_script limits b t ++ behind (script limits b t) (λ u. Reads Status ∷ turns_accesses limits.shell k until (script limits c) (script limits b) (of_script limits c) (of_script limits b) u)
+        | false ↦ status_written
+      ])
+  turn_at zero e until c b p q s =
+      sym (nothing_behind (of_script limits c s) (script limits c s) s (λ t. Reads Status ∷ elim (holds until t.memory.status) [
+        | true ↦ of_script limits b t ++ behind (script limits b t) (λ u. Reads Status ∷ turns_accesses limits.shell zero until (script limits c) (script limits b) (of_script limits c) (of_script limits b) u)
+        | false ↦ status_written
+      ]) (None-block limits limits.step_bound (full limits) (of_full limits) c p s (omega arith)) (Cut-block limits limits.step_bound (full limits) c p s (omega arith)))
+  turn_at (suc k) e until c b p q s =
+      let bound : ℕ = limits.step_bound in
+      let kept = Keeps-exec limits bound in
+      let grown : (t : State) → Grew t.steps (script limits c t) = Grew-block limits bound (full limits) kept c p in
+      let body : KeepsAll limits (script limits b) = Keeps-script limits bound (full limits) kept b in
+      let cut : (t : State) → bound ≤ t.steps → (script limits c t ≡ Ended CutSteps t) × (of_script limits c t ≡ []) = λ t r. (Cut-block limits bound (full limits) c p t r, None-block limits bound (full limits) (of_full limits) c p t r) in
+      let fewer : State → List Access = λ u. Reads Status ∷ turns_accesses limits.shell k until (script limits c) (script limits b) (of_script limits c) (of_script limits b) u in
+      let all : State → List Access = λ u. Reads Status ∷ turns_accesses limits.shell (suc k) until (script limits c) (script limits b) (of_script limits c) (of_script limits b) u in
+      let after : State → List Access = λ t. Reads Status ∷ elim (holds until t.memory.status) [ true ↦ of_script limits b t ++ behind (script limits b t) fewer | false ↦ status_written ] in
+      let after' : State → List Access = λ t. Reads Status ∷ elim (holds until t.memory.status) [ true ↦ of_script limits b t ++ behind (script limits b t) all | false ↦ status_written ] in
+      ap (λ (xs : List Access). of_script limits c s ++ xs)
+      (same_behind (suc s.steps) (script limits c s) (script limits c s) after after' (grown s) refl
+      (λ t g. ap (λ (xs : List Access). Reads Status ∷ xs)
+      (either (holds until t.memory.status) (of_script limits b t ++ behind (script limits b t) fewer) status_written (of_script limits b t ++ behind (script limits b t) all) status_written
+      (ap (λ (xs : List Access). of_script limits b t ++ xs)
+      (same_behind t.steps (script limits b t) (script limits b t) fewer all (AtLeast-track limits.device_bound t (script limits b t) (body t).0) refl
+      (λ u r. ap (λ (xs : List Access). Reads Status ∷ xs)
+      (turns_same limits bound bound (omega arith) (full limits) (full limits) (of_full limits) (of_full limits) kept (λ a x y z. refl) (λ a x y z. refl) k (suc k) (omega arith) until
+      (script limits c) (script limits c) (script limits b) (script limits b) (of_script limits c) (of_script limits c) (of_script limits b) (of_script limits b)
+      (λ x y. refl) (λ x y. refl) (λ x y. refl) (λ x y. refl) grown body cut u (omega arith) (omega arith)))))
+      refl)))
+
+  turn_so : (until : Bool) (c b : Script) → HoldsCommand c → HoldsCommand b → (s : State) → turns_accesses limits.shell limits.step_bound until (script limits c) (script limits b) (of_script limits c) (of_script limits b) s ≡ of_script limits c s ++ behind (script limits c s) (of_condition limits until c b)
+  turn_so until c b p q s = turn_at limits.step_bound refl until c b p q s
+
+  -- the frames of a loop whose condition comes next
+  loop_so : (until : Bool) (c b : Script) → HoldsCommand c → HoldsCommand b → (last : ℕ) (fs : List Frame) (t : State)
+      → Rest (Lists c ∷ LoopCondition until c b last ∷ fs) (Normal t)
+      ≡ turns_accesses limits.shell limits.step_bound until (script limits c) (script limits b) (of_script limits c) (of_script limits b) t ++ Rest fs (turns limits.shell limits.step_bound until (script limits c) (script limits b) last t)
+  loop_so until c b p q last fs t =
+      sym (ap (λ (xs : List Access). xs ++ Rest fs (turns limits.shell limits.step_bound until (script limits c) (script limits b) last t)) (turn_so until c b p q t)
+      ∙ ap (λ (a : Answer). (of_script limits c t ++ behind (script limits c t) (of_condition limits until c b)) ++ Rest fs a) (turn_more limits w until c b p q last t)
+      ∙ append_assoc (of_script limits c t) (behind (script limits c t) (of_condition limits until c b)) (Rest fs (resume limits (LoopCondition until c b last) (script limits c t))))
+
+  -- ---- a command, and a move
+
+  command_so : (c : Command) → IsProperCommand c → (fs : List Frame) (s : State) → of_command limits c fs s ++ After (begin_command limits c fs s) ≡ of_one limits c (with w s) ++ Rest fs (one limits c (with w s))
+  command_so (tree.Simple words) p fs s =
+      counted_so (λ t. all_read (words_reads t.memory words) ++ sized_accesses (fields_in limits.shell (parameters_in t.memory) words) (of_fields limits fs) t)
+      (λ t. fitting (fields_in limits.shell (parameters_in t.memory) words) (λ f. begin_fields limits f fs) t)
+      (λ t. all_read (words_reads t.memory words) ++ sized_accesses (fields_in limits.shell (parameters_in t.memory) words) (simple_accesses limits (full limits) (of_full limits)) t)
+      (λ t. sized (fields_in limits.shell (parameters_in t.memory) words) (simple limits (full limits)) t) fs s
+      (λ t. fitting_so (all_read (words_reads t.memory words)) (fields_in limits.shell (parameters_in t.memory) words) (of_fields limits fs) (λ f. begin_fields limits f fs) (simple_accesses limits (full limits) (of_full limits)) (simple limits (full limits)) fs t
+      (fields_so (fields_in limits.shell (parameters_in t.memory) words) fs t))
+  command_so (tree.Assign pairs) p fs s = counted_so (assign_accesses limits.shell pairs) (begin_assign limits.shell pairs fs) (assign_accesses limits.shell pairs) (assign limits.shell pairs) fs s (λ t. assign_so pairs fs t)
+  command_so (tree.If arms) p fs s = arms_so arms fs s
+  command_so (tree.Loop until c b) p fs s = loop_so until c b p.0 p.1 0 fs (with w s)
+  command_so (tree.For name words body) p fs s =
+      counted_so (λ t. all_read (words_reads t.memory words) ++ sized_accesses (turns_in limits.shell (parameters_in t.memory) words) (λ values u. of_beginning_for values) t)
+      (λ t. fitting (turns_in limits.shell (parameters_in t.memory) words) (λ f. begin_for name f body fs) t)
+      (λ t. all_read (words_reads t.memory words) ++ sized_accesses (turns_in limits.shell (parameters_in t.memory) words) (for_accesses limits.shell name (script limits body) (of_script limits body)) t)
+      (λ t. sized (turns_in limits.shell (parameters_in t.memory) words) (for_each limits.shell name (script limits body) 0) t) fs s
+      (λ t. fitting_so (all_read (words_reads t.memory words)) (turns_in limits.shell (parameters_in t.memory) words) (λ values u. of_beginning_for values) (λ f. begin_for name f body fs) (for_accesses limits.shell name (script limits body) (of_script limits body)) (for_each limits.shell name (script limits body) 0) fs t
+      (for_so name (turns_in limits.shell (parameters_in t.memory) words) body fs t))
+
+  skipped_so : (b : Bool) (links : Joined) (fs : List Frame) (s : State) → After (elim b [ true ↦ Go fs s | false ↦ Go (Linked links ∷ fs) s ])
+      ≡ (elim b [ true ↦ [] | false ↦ of_joined limits links (with w s) ]) ++ Rest fs (elim b [ true ↦ Normal (with w s) | false ↦ joined_of limits links (with w s) ])
+  skipped_so true links fs s = refl
+  skipped_so false links fs s = refl
+
+  regrouped : (a b c d : List Access) → a ++ (b ++ (c ++ d)) ≡ ((a ++ b) ++ c) ++ d
+  regrouped a b c d = sym (append_assoc (a ++ b) c d ∙ append_assoc a b (c ++ d))
+
+  -- what a move reads and writes comes first
+  pub move_so : (fs : List Frame) → AreProperFrames fs → (s : State) → of_move limits fs s ++ After (move limits fs s) ≡ Rest fs (Normal (with w s))
+  move_so [] p s = refl
+  move_so (Lists tree.Empty ∷ fs) p s = refl
+  move_so (Lists (tree.Runs (tree.Starts c links) lists) ∷ fs) p s =
+      let a : Answer = one limits c (with w s) in
+      command_so c p.0.0.0 (Linked links ∷ Lists lists ∷ fs) s
+      ∙ regrouped (of_one limits c (with w s)) (behind a (of_joined limits links)) (behind (go_on a (joined_of limits links)) (of_script limits lists)) (Rest fs (go_on (go_on a (joined_of limits links)) (script limits lists)))
+  move_so (Linked tree.Alone ∷ fs) p s = refl
+  move_so (Linked (tree.Joins op c links) ∷ fs) p s =
+      let t : State = with w s in
+      let a : Answer = one limits c t in
+      ap (λ (xs : List Access). Reads Status ∷ xs)
+      (if_so (goes op s.memory.status) (of_command limits c (Linked links ∷ fs) s) [] (begin_command limits c (Linked links ∷ fs) s) (elim (skips_rest limits.shell) [ true ↦ Go fs s | false ↦ Go (Linked links ∷ fs) s ]) fs
+      (of_one limits c t ++ behind a (of_joined limits links)) (elim (skips_rest limits.shell) [ true ↦ [] | false ↦ of_joined limits links t ]) (go_on a (joined_of limits links)) (elim (skips_rest limits.shell) [ true ↦ Normal t | false ↦ joined_of limits links t ])
+      (command_so c p.0.0 (Linked links ∷ fs) s ∙ sym (append_assoc (of_one limits c t) (behind a (of_joined limits links)) (Rest fs (go_on a (joined_of limits links)))))
+      (skipped_so (skips_rest limits.shell) links fs s))
+  move_so (IfCondition b arms ∷ fs) p s =
+      let t : State = with w s in
+      ap (λ (xs : List Access). Reads Status ∷ xs)
+      (if_so (nat_eq s.memory.status 0) [] (of_beginning_arms limits.shell arms) (Go (Lists b ∷ fs) s) (begin_arms limits.shell arms fs s) fs (of_script limits b t) (of_arms limits arms t) (script limits b t) (arms_of limits arms t) refl (arms_so arms fs s))
+  move_so (LoopCondition until c b last ∷ fs) p s =
+      let t : State = with w s in
+      let a : Answer = script limits b t in
+      ap (λ (xs : List Access). Reads Status ∷ xs)
+      (if_so (holds until s.memory.status) [] status_written (Go (Lists b ∷ LoopBody until c b ∷ fs) s) (Go fs (set_status (status_of_loop limits.shell last s.memory.status) s)) fs (of_script limits b t ++ behind a (of_again limits until c b)) status_written (go_on a (again limits until c b)) (Normal (set_status (status_of_loop limits.shell last s.memory.status) t))
+      (sym (append_assoc (of_script limits b t) (behind a (of_again limits until c b)) (Rest fs (go_on a (again limits until c b))))) refl)
+  move_so (LoopBody until c b ∷ fs) p s = ap (λ (xs : List Access). Reads Status ∷ xs) (loop_so until c b p.0.0 p.0.1 s.memory.status fs (with w s))
+  move_so (ForBody name [] body ∷ fs) p s = refl
+  move_so (ForBody name (f ∷ values) body ∷ fs) p s =
+      let t : State = begin_turn limits.shell name f (with w s) in
+      let a : Answer = script limits body t in
+      let next : State → List Access = each_accesses limits.shell name (script limits body) (of_script limits body) values in
+      let rest : List Access = Rest fs (resume limits (ForBody name values body) a) in
+      ap (λ (xs : List Access). turn_accesses limits.shell name ++ xs) (sym (append_assoc (of_script limits body t) (behind a next) rest))
+      ∙ sym (append_assoc (turn_accesses limits.shell name) (of_script limits body t ++ behind a next) rest)
+  move_so (RunNames names ∷ fs) p s = names_so names fs s
+  move_so (RunText names ∷ fs) p s =
+      ap (λ (xs : List Access). Reads Status ∷ xs)
+      (if_so (nat_eq s.memory.status 0) (of_beginning_names limits.shell names s) [] (begin_names limits.shell names fs s) (Go fs s) fs (of_names limits names (with w s)) [] (run_all limits (full limits) names (with w s)) (Normal (with w s)) (names_so names fs s) refl)
+
+  -- an outcome is taken
+  outcome_so : (outcome : Outcome) (request : Request) (fs : List Frame) (s : State) → of_next limits wanted (outcome ∷ w) (Ask request fs s) ≡ outcome_accesses outcome request ++ After (answered outcome request fs s)
+  outcome_so Success request fs s =
+      ap (λ (xs : List Access). outcome_accesses Success request ++ xs) (sym (boot_so request.effect.ends request.name fs (set_environment (sets_in request.words request.effect.sets) (logged Success request s))))
+  outcome_so Failure request fs s = refl
+
+pub moves_come_first : MovesComeFirst
+moves_come_first limits wanted w fs s proper = sym (move_so limits wanted w fs proper s)
+
+pub outcomes_come_first : OutcomesComeFirst
+outcomes_come_first limits wanted outcome w request fs s = outcome_so limits wanted w outcome request fs s

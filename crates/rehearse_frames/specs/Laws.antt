@@ -1,0 +1,79 @@
+-- Laws of what frames still read, over the definitions alone. Ours.
+use Rattle.std.specs.Prelude.{◌≡◌, List, [], ◌∷◌, ◌++◌}
+use Rattle.bootstore_state.specs.Moment.{Moment}
+use Rattle.bootstore_state.specs.StoredState.{state_at}
+use Rattle.rehearse_terms.specs.Outcomes.{Outcome, Success, Failure, OutcomeWord}
+use Rattle.rehearse_terms.specs.State.{Text, State}
+use Rattle.rehearse_rules.specs.Execution.{Limits, Ending, Normal, Request}
+use Rattle.rehearse_machine.specs.Frames.{Frame, Next, Go, Ask, Stop, answered, move}
+use Rattle.rehearse_machine.specs.Machine.{Asking, IsAsking, asked_at}
+use Rattle.rehearse_machine.specs.Places.{frames_of}
+use Rattle.rehearse_machine.specs.Meaning.{with, continue, comes_to, AreProperFrames}
+use Rattle.rehearse_reads.specs.Keys.{Key, AreAmong, AgreeOn, keys_in_front, keys_read}
+use Rattle.rehearse_reads.specs.Accesses.{outcome_accesses}
+use Rattle.rehearse_frames.specs.ToCome.{names_read, of_frames, of_next}
+use Rattle.rehearse_frames.specs.KeysToCome.{AreEnough, AreEnoughAt, AreAtOnePlace}
+use Rattle.rehearse_frames.specs.MoveAccesses.{of_move}
+use Rattle.rehearse_frames.specs.AlikeFutures.{CameAlike}
+
+-- what frames read and write is what one move reads and writes, and then what is to come after it
+abbrev pub MovesComeFirst : Type 0
+MovesComeFirst = (limits : Limits) (wanted : List Text) (w : OutcomeWord) (fs : List Frame) (s : State) → AreProperFrames fs →
+    of_frames limits wanted fs (Normal (with w s)) ≡ of_move limits fs s ++ of_next limits wanted w (move limits fs s)
+
+-- of a device command that asks it is what its outcome writes, and then what is to come after that
+abbrev pub OutcomesComeFirst : Type 0
+OutcomesComeFirst = (limits : Limits) (wanted : List Text) (outcome : Outcome) (w : OutcomeWord) (request : Request) (fs : List Frame) (s : State) →
+    of_next limits wanted (outcome ∷ w) (Ask request fs s)
+    ≡ outcome_accesses outcome request ++ of_next limits wanted w (answered outcome request fs s)
+
+-- From two states that agree on what frames read before they write it, the frames come to the same, as far as the bounds
+-- allow, and to the same values of the variables that are wanted.
+abbrev pub FramesGoAlike : Type 0
+FramesGoAlike = (limits : Limits) (wanted : List Text) (w : OutcomeWord) (fs : List Frame) (keys : List Key) (s t : State) →
+    AreAmong (keys_read (of_frames limits wanted fs (Normal (with w s)))) keys → AgreeOn keys s t →
+    CameAlike limits s.steps t.steps s.log t.log wanted (continue limits fs (Normal (with w s))) (continue limits fs (Normal (with w t)))
+
+-- and so does a device command that asks with the same words
+abbrev pub AskedAlike : Type 0
+AskedAlike = (limits : Limits) (wanted : List Text) (w : OutcomeWord) (request : Request) (fs : List Frame) (keys : List Key) (s t : State) →
+    AreAmong (keys_read (of_next limits wanted w (Ask request fs s))) keys → AgreeOn keys s t →
+    CameAlike limits s.steps t.steps s.log t.log wanted (comes_to limits w (Ask request fs s)) (comes_to limits w (Ask request fs t))
+
+-- ---- keys that are enough: what a search finds of a run, from its ends to its start
+
+-- at an end these are the variables that are wanted
+abbrev pub KeysOfEnds : Type 0
+KeysOfEnds = (limits : Limits) (wanted : List Text) (ending : Ending) (s : State) →
+    AreEnough limits wanted (Stop ending s) (keys_read (names_read wanted))
+
+-- in front of a move, what the move reads, and of what is enough after it, all that it does not write
+abbrev pub KeysOfMoves : Type 0
+KeysOfMoves = (limits : Limits) (wanted : List Text) (fs : List Frame) (s : State) (later : List Key) → AreProperFrames fs →
+    AreEnough limits wanted (move limits fs s) later →
+    AreEnough limits wanted (Go fs s) (keys_in_front (of_move limits fs s) later)
+
+-- where a device command asks, the same of both outcomes
+abbrev pub KeysOfAsking : Type 0
+KeysOfAsking = (limits : Limits) (wanted : List Text) (request : Request) (fs : List Frame) (s : State) (won lost : List Key) →
+    AreEnough limits wanted (answered Success request fs s) won →
+    AreEnough limits wanted (answered Failure request fs s) lost →
+    AreEnough limits wanted (Ask request fs s)
+    (keys_in_front (outcome_accesses Success request) won ++ keys_in_front (outcome_accesses Failure request) lost)
+
+-- further keys do no harm
+abbrev pub MoreKeysAreEnough : Type 0
+MoreKeysAreEnough = (limits : Limits) (wanted : List Text) (next : Next) (keys more : List Key) →
+    AreEnough limits wanted next keys → AreAmong keys more → AreEnough limits wanted next more
+
+-- Two moments at one place that agree on keys which are enough at the first one: the same is to come for every rest of the
+-- word, as far as the bounds allow.
+abbrev pub MomentsGoAlike : Type 0
+MomentsGoAlike = (limits : Limits) (wanted : List Text) (m n : Moment) (keys : List Key) → IsAsking limits m → IsAsking limits n →
+    AreAtOnePlace limits m n → AreEnoughAt limits wanted m keys → AgreeOn keys (state_at m []) (state_at n []) →
+    (w : OutcomeWord) → CameAlike limits m.steps n.steps m.log n.log wanted (asked_at limits m w) (asked_at limits n w)
+
+-- what is enough where the device command of a moment asks is enough at the moment
+abbrev pub KeysOfMoments : Type 0
+KeysOfMoments = (limits : Limits) (wanted : List Text) (m : Moment) (keys : List Key) (asking : Asking limits m) →
+    AreEnough limits wanted (Ask asking.request (frames_of m.frames) (state_at m [])) keys → AreEnoughAt limits wanted m keys

@@ -1,0 +1,5 @@
+pub mod ToCome
+pub mod MoveAccesses
+pub mod AlikeFutures
+pub mod KeysToCome
+pub mod Laws

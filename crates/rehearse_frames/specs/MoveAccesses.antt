@@ -1,0 +1,135 @@
+-- What one move of the machine reads and writes, beside the moves (Frames.antt of rehearse_machine): up to a device command
+-- that asks, and without its outcome. It is the same for every word. Ours.
+use Rattle.std.specs.Prelude.{ℕ, nat_lt, nat_eq, Bool, true, false, List, [], ◌∷◌, ◌++◌, length, Option, Some, None}
+use Rattle.hushlang.specs.Tree as tree
+use Rattle.hushlang.specs.Tree.{Script, Command, Arms}
+use Rattle.hushlang_old.specs.TreesByShell.{tree_in, lacks_end_in}
+use Rattle.builtins.specs.Builtins.{Builtin, SetEnv, Run, Test, Echo, True, False, Leave, builtin_of}
+use Rattle.device_list.specs.DeviceList.{effect_of, computed_by}
+use Rattle.rehearse_terms.specs.State.{Text, get, State}
+use Rattle.rehearse_terms.specs.declared.shell.Shell.{Shell}
+use Rattle.rehearse_rules.specs.Parameters.{parameters_in}
+use Rattle.rehearse_rules.specs.ByShell.{leaves_in, asks_in, fields_in, turns_in, follows}
+use Rattle.rehearse_rules.specs.Execution.{Limits, goes, holds, outcome_when, Request, told, request_of, test_request}
+use Rattle.rehearse_machine.specs.Frames.{Frame, Lists, Linked, IfCondition, LoopCondition, LoopBody, ForBody, RunNames, RunText}
+use Rattle.rehearse_reads.specs.Keys.{Access, Reads, Writes, Environment, Status, all_read}
+use Rattle.rehearse_reads.specs.Accesses.{status_written, words_reads, setenv_accesses, computed_accesses, told_reads, outcome_accesses, sized_accesses, assign_accesses, turn_accesses, nothing_accesses, begun_accesses}
+
+-- `exit` passes the frames up to the `run` of its text. With none it ends the run, whose status is read
+abbrev pub of_leaving : List Frame → List Access
+of_leaving [] = Reads Status ∷ []
+of_leaving (RunNames names ∷ fs) = []
+of_leaving (RunText names ∷ fs) = []
+of_leaving (Lists ls ∷ fs) = of_leaving fs
+of_leaving (Linked ls ∷ fs) = of_leaving fs
+of_leaving (IfCondition b arms ∷ fs) = of_leaving fs
+of_leaving (LoopCondition until c b last ∷ fs) = of_leaving fs
+of_leaving (LoopBody until c b ∷ fs) = of_leaving fs
+of_leaving (ForBody name fields body ∷ fs) = of_leaving fs
+
+abbrev pub of_exit : Option ℕ → List Frame → List Access
+of_exit (Some status) fs = Writes Status ∷ of_leaving fs
+of_exit None fs = status_written
+
+-- a command that is told an answer goes on with it
+abbrev pub of_telling : (told : Option Bool) → Request → List Access
+of_telling (Some success) request = outcome_accesses (outcome_when success) request
+of_telling None request = []
+
+abbrev pub of_beginning_for : List Text → List Access
+of_beginning_for [] = status_written
+of_beginning_for (f ∷ values) = []
+
+abbrev pub of_beginning_arms : Shell → Arms → List Access
+of_beginning_arms shell (tree.Arm c b arms) = []
+of_beginning_arms shell (tree.Else b) = []
+of_beginning_arms shell tree.NoElse = nothing_accesses shell
+
+-- a text without a command sets the status
+abbrev pub of_beginning_tree : Option Script → List Access
+of_beginning_tree None = []
+of_beginning_tree (Some tree.Empty) = status_written
+of_beginning_tree (Some (tree.Runs list more)) = []
+
+-- a text whose end is missing sets the status, and its `run` ends by it
+abbrev pub of_beginning_text : Shell → Option Text → List Access
+of_beginning_text shell None = status_written
+of_beginning_text shell (Some text) =
+    elim (lacks_end_in shell text) [
+      | true ↦ Writes Status ∷ Reads Status ∷ []
+      | false ↦ of_beginning_tree (tree_in shell text)
+    ]
+
+abbrev pub of_beginning_names : Shell → List Text → State → List Access
+of_beginning_names shell [] s = []
+of_beginning_names shell (name ∷ names) s =
+    Reads (Environment name) ∷ of_beginning_text shell (get s.memory.environment name)
+
+module _ (limits : Limits) where
+  abbrev pub of_asking : Request → State → List Access
+  of_asking request s =
+      elim (nat_lt (length s.log) limits.device_bound) [
+        | true ↦ all_read (told_reads request) ++ of_telling (told request s.log) request
+        | false ↦ []
+      ]
+
+  abbrev pub of_builtin : Builtin → (name : Text) → (words : List Text) → List Frame → State → List Access
+  of_builtin SetEnv name words fs s = setenv_accesses words
+  of_builtin Run name [] fs s = status_written
+  of_builtin Run name (w ∷ ws) fs s = []
+  of_builtin Test name words fs s =
+      elim (asks_in limits.shell words) [
+        | true ↦ of_asking (test_request limits name words) s
+        | false ↦ status_written
+      ]
+  of_builtin Echo name words fs s = status_written
+  of_builtin True name words fs s = status_written
+  of_builtin False name words fs s = status_written
+  of_builtin Leave name words fs s = of_exit (leaves_in limits.shell words) fs
+
+  abbrev pub of_call : (name : Text) → (words : List Text) → List Frame → State → List Access
+  of_call name words fs s =
+      elim (computed_by limits.devices name words) [
+        | Some computed ↦ computed_accesses computed
+        | None ↦ elim (builtin_of name) [
+          | Some builtin ↦ of_builtin builtin name words fs s
+          | None ↦ elim (effect_of limits.devices name words) [
+            | Some effect ↦ of_asking (request_of name words effect) s
+            | None ↦ []
+          ]
+        ]
+      ]
+
+  abbrev pub of_fields : List Frame → List Text → State → List Access
+  of_fields fs [] s = nothing_accesses limits.shell
+  of_fields fs (name ∷ words) s =
+      elim (follows limits.shell limits.devices name words) [ true ↦ of_call name words fs s | false ↦ [] ]
+
+  abbrev pub of_command : Command → List Frame → State → List Access
+  of_command (tree.Simple words) fs s =
+      begun_accesses limits (λ t. all_read (words_reads t.memory words)
+      ++ sized_accesses (fields_in limits.shell (parameters_in t.memory) words) (of_fields fs) t) s
+  of_command (tree.Assign pairs) fs s = begun_accesses limits (assign_accesses limits.shell pairs) s
+  of_command (tree.If arms) fs s = of_beginning_arms limits.shell arms
+  of_command (tree.Loop until c b) fs s = []
+  of_command (tree.For name words body) fs s =
+      begun_accesses limits (λ t. all_read (words_reads t.memory words)
+      ++ sized_accesses (turns_in limits.shell (parameters_in t.memory) words) (λ values u. of_beginning_for values) t) s
+
+  abbrev pub of_move : List Frame → State → List Access
+  of_move [] s = Reads Status ∷ []
+  of_move (Lists tree.Empty ∷ fs) s = []
+  of_move (Lists (tree.Runs (tree.Starts c links) lists) ∷ fs) s = of_command c (Linked links ∷ Lists lists ∷ fs) s
+  of_move (Linked tree.Alone ∷ fs) s = []
+  of_move (Linked (tree.Joins op c links) ∷ fs) s =
+      Reads Status ∷ elim (goes op s.memory.status) [ true ↦ of_command c (Linked links ∷ fs) s | false ↦ [] ]
+  of_move (IfCondition b arms ∷ fs) s =
+      Reads Status ∷ elim (nat_eq s.memory.status 0) [ true ↦ [] | false ↦ of_beginning_arms limits.shell arms ]
+  of_move (LoopCondition until c b last ∷ fs) s =
+      Reads Status ∷ elim (holds until s.memory.status) [ true ↦ [] | false ↦ status_written ]
+  of_move (LoopBody until c b ∷ fs) s = Reads Status ∷ []
+  of_move (ForBody name [] body ∷ fs) s = []
+  of_move (ForBody name (f ∷ values) body ∷ fs) s = turn_accesses limits.shell name
+  of_move (RunNames names ∷ fs) s = of_beginning_names limits.shell names s
+  of_move (RunText names ∷ fs) s =
+      Reads Status ∷ elim (nat_eq s.memory.status 0) [ true ↦ of_beginning_names limits.shell names s | false ↦ [] ]

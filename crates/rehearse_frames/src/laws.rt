@@ -1,0 +1,39 @@
+//! Laws of what frames still read. A call of one does nothing: its contract is the law.
+
+ghost use Rattle.rehearse_frames.specs.Laws.{AskedAlike, FramesGoAlike, MovesComeFirst, OutcomesComeFirst};
+ghost use Rattle.rehearse_frames.specs.Laws.{KeysOfAsking, KeysOfEnds, KeysOfMoments, KeysOfMoves, MomentsGoAlike, MoreKeysAreEnough};
+
+/// What frames still read and write is what their next move reads and writes, and then what is to come
+/// after it, whatever outcomes are left. If a device command asks, it is what its outcome writes, and then
+/// what is to come after that.
+#[tactic(auto, using(crate::proofs::MoveAccessLemmas::moves_come_first, crate::proofs::MoveAccessLemmas::outcomes_come_first))]
+pub fn moves_come_first()
+    ensures moves { MovesComeFirst }
+    ensures outcomes { OutcomesComeFirst }
+{}
+
+/// From two states that agree on what frames read before they write it, the frames come to the same as far
+/// as the bounds allow: the word is a run in both cases or in neither, and the runs end alike, with the same
+/// values of the variables that are wanted, after the same further device commands and as many steps. So it
+/// is where a device command asks with the same words.
+#[tactic(auto, using(crate::proofs::FramesAlike::frames_go_alike, crate::proofs::FramesAlike::asked_alike))]
+pub fn frames_go_alike()
+    ensures frames { FramesGoAlike }
+    ensures asked { AskedAlike }
+{}
+
+/// Keys that are enough for what is to come, whatever outcomes are left: at an end, in front of a move,
+/// where a device command asks, and at a moment at which one asks. Further keys do no harm.
+pub fn keys_to_come()
+    ensures ends { KeysOfEnds }
+    ensures moves { KeysOfMoves }
+    ensures asking { KeysOfAsking }
+    ensures moments { KeysOfMoments }
+    ensures more { MoreKeysAreEnough }
+{}
+
+/// Two moments at one place, at which the same device command asks, and which agree on keys that are
+/// enough at the first one: the same is to come at both, as far as the bounds allow.
+pub fn moments_go_alike()
+    ensures { MomentsGoAlike }
+{}
