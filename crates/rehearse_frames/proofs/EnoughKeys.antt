@@ -37,7 +37,7 @@ frames_dry limits wanted (RunText names ∷ fs) s = frames_dry limits wanted fs 
 -- what is enough behind accesses, moved in front of them
 enough_in_front : (whole front behind : List Access) (later : List Key) → whole ≡ front ++ behind → AreAmong (keys_read behind) later → AreAmong (keys_read whole) (keys_in_front front later)
 enough_in_front whole front behind later e h =
-    subst (λ (keys : List Key). AreAmong keys (keys_in_front front later)) (sym (ap keys_read e ∙ stretches_join front behind)) (more_keys_in_front front (keys_read behind) later h)
+    subst (λ (keys : List Key). AreAmong keys (keys_in_front front later)) (sym (ap keys_read e ∙ stretches_join front behind [])) (more_keys_in_front front (keys_read behind) later h)
 
 pub keys_of_ends : KeysOfEnds
 keys_of_ends limits wanted ending s w = all_itself _

@@ -3,4 +3,5 @@ pub mod SameAccesses
 pub mod MoveAccessLemmas
 pub mod FramesAlike
 pub mod EnoughKeys
+pub mod EnoughSteps
 mod MoveExamples

@@ -6,7 +6,9 @@ use Rattle.rehearse_terms.specs.Outcomes.{OutcomeWord}
 use Rattle.rehearse_terms.specs.State.{Text}
 use Rattle.rehearse_rules.specs.Execution.{Limits, Request}
 use Rattle.rehearse_machine.specs.AskingCommand.{found_again}
-use Rattle.rehearse_machine.specs.Frames.{Next}
+use Rattle.rehearse_machine.specs.Frames.{Next, Go}
+use Rattle.rehearse_machine.specs.MovesShown.{next_shown}
+use Rattle.rehearse_machine.specs.declared.ask.Step.{Step}
 use Rattle.rehearse_machine.specs.Places.{PlaceNext, GoOn, AskOn, StopOn, next_of, frames_of}
 use Rattle.rehearse_reads.specs.Keys.{Key, AreAmong, keys_read}
 use Rattle.rehearse_frames.specs.ToCome.{of_next}
@@ -14,6 +16,13 @@ use Rattle.rehearse_frames.specs.ToCome.{of_next}
 -- after a move, with the values of these variables at the end
 abbrev pub AreEnough : Limits → (wanted : List Text) → Next → List Key → Type 0
 AreEnough limits wanted next keys = (w : OutcomeWord) → AreAmong (keys_read (of_next limits wanted w next)) keys
+
+-- at a moment of the machine, and after a step that has led to one
+abbrev pub AreEnoughFrom : Limits → (wanted : List Text) → Moment → List Key → Type 0
+AreEnoughFrom limits wanted m keys = AreEnough limits wanted (Go (frames_of m.frames) (state_at m [])) keys
+
+abbrev pub AreEnoughAfter : Limits → (wanted : List Text) → Step → Moment → List Key → Type 0
+AreEnoughAfter limits wanted step m keys = AreEnough limits wanted (next_of (next_shown step m [])) keys
 
 -- at a moment at which a device command asks
 abbrev pub AreEnoughAt : Limits → (wanted : List Text) → Moment → List Key → Type 0

@@ -7,12 +7,15 @@ use Rattle.rehearse_terms.specs.State.{Text, State}
 use Rattle.rehearse_rules.specs.Execution.{Limits, Ending, Normal, Request}
 use Rattle.rehearse_machine.specs.Frames.{Frame, Next, Go, Ask, Stop, answered, move}
 use Rattle.rehearse_machine.specs.Machine.{Asking, IsAsking, asked_at}
-use Rattle.rehearse_machine.specs.Places.{frames_of}
+use Rattle.rehearse_machine.specs.Places.{frames_of, place_answered, place_move}
+use Rattle.rehearse_machine.specs.MovesShown.{next_shown}
+use Rattle.rehearse_machine.specs.Turning.{IsSound}
+use Rattle.rehearse_machine.specs.declared.ask.Step.{Step}
 use Rattle.rehearse_machine.specs.Meaning.{with, continue, comes_to, AreProperFrames}
-use Rattle.rehearse_reads.specs.Keys.{Key, AreAmong, AgreeOn, keys_in_front, keys_read}
+use Rattle.rehearse_reads.specs.Keys.{Key, Access, AreAmong, AgreeOn, keys_in_front, keys_read, Covers}
 use Rattle.rehearse_reads.specs.Accesses.{outcome_accesses}
 use Rattle.rehearse_frames.specs.ToCome.{names_read, of_frames, of_next}
-use Rattle.rehearse_frames.specs.KeysToCome.{AreEnough, AreEnoughAt, AreAtOnePlace}
+use Rattle.rehearse_frames.specs.KeysToCome.{AreEnough, AreEnoughFrom, AreEnoughAfter, AreEnoughAt, AreAtOnePlace}
 use Rattle.rehearse_frames.specs.MoveAccesses.{of_move}
 use Rattle.rehearse_frames.specs.AlikeFutures.{CameAlike}
 
@@ -77,3 +80,22 @@ MomentsGoAlike = (limits : Limits) (wanted : List Text) (m n : Moment) (keys : L
 abbrev pub KeysOfMoments : Type 0
 KeysOfMoments = (limits : Limits) (wanted : List Text) (m : Moment) (keys : List Key) (asking : Asking limits m) →
     AreEnough limits wanted (Ask asking.request (frames_of m.frames) (state_at m [])) keys → AreEnoughAt limits wanted m keys
+
+-- ---- of a machine that reports what its steps read and write
+
+-- in front of a step, if what is reported of it covers what its move reads and writes
+abbrev pub KeysOfSteps : Type 0
+KeysOfSteps = (limits : Limits) (wanted : List Text) (step : Step) (old new : Moment) (reported : List Access) (later : List Key) →
+    IsSound old → ((w : OutcomeWord) → next_shown step new w ≡ place_move limits old.frames (state_at old w)) →
+    Covers reported (of_move limits (frames_of old.frames) (state_at old [])) → AreEnoughAfter limits wanted step new later →
+    AreEnoughFrom limits wanted old (keys_in_front reported later)
+
+-- at a device command that asks, from what is enough after each of its outcomes
+abbrev pub KeysOfOutcomes : Type 0
+KeysOfOutcomes = (limits : Limits) (wanted : List Text) (m : Moment) (asking : Asking limits m) (won_step lost_step : Step) (won lost : Moment)
+    (after_won after_lost : List Key) →
+    ((w : OutcomeWord) → next_shown won_step won w ≡ place_answered Success asking.request m.frames (state_at m w)) →
+    ((w : OutcomeWord) → next_shown lost_step lost w ≡ place_answered Failure asking.request m.frames (state_at m w)) →
+    AreEnoughAfter limits wanted won_step won after_won → AreEnoughAfter limits wanted lost_step lost after_lost →
+    AreEnoughAt limits wanted m (keys_in_front (outcome_accesses Success asking.request) after_won
+    ++ keys_in_front (outcome_accesses Failure asking.request) after_lost)

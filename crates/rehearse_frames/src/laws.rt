@@ -1,7 +1,7 @@
 //! Laws of what frames still read. A call of one does nothing: its contract is the law.
 
 ghost use Rattle.rehearse_frames.specs.Laws.{AskedAlike, FramesGoAlike, MovesComeFirst, OutcomesComeFirst};
-ghost use Rattle.rehearse_frames.specs.Laws.{KeysOfAsking, KeysOfEnds, KeysOfMoments, KeysOfMoves, MomentsGoAlike, MoreKeysAreEnough};
+ghost use Rattle.rehearse_frames.specs.Laws.{KeysOfAsking, KeysOfEnds, KeysOfMoments, KeysOfMoves, KeysOfOutcomes, KeysOfSteps, MomentsGoAlike, MoreKeysAreEnough};
 
 /// What frames still read and write is what their next move reads and writes, and then what is to come
 /// after it, whatever outcomes are left. If a device command asks, it is what its outcome writes, and then
@@ -30,6 +30,13 @@ pub fn keys_to_come()
     ensures asking { KeysOfAsking }
     ensures moments { KeysOfMoments }
     ensures more { MoreKeysAreEnough }
+{}
+
+/// Keys that are enough before a step of the machine, if what is reported of the step covers what its move
+/// reads and writes; and at a device command that asks, from what is enough after each of its outcomes.
+pub fn keys_of_steps()
+    ensures steps { KeysOfSteps }
+    ensures outcomes { KeysOfOutcomes }
 {}
 
 /// Two moments at one place, at which the same device command asks, and which agree on keys that are

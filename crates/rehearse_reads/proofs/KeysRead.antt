@@ -4,8 +4,8 @@ use Rattle.std.specs.Str.{bytes_eq}
 use Rattle.std.proofs.lemmas.Bool.{and_parts}
 use Rattle.std.proofs.lemmas.Slice.Eq.{bytes_eq-Decides}
 use Rattle.rehearse_terms.specs.State.{Text, same_words}
-use Rattle.rehearse_reads.specs.Keys.{Key, Environment, Local, AnswerTo, Status, Access, Reads, Writes, IsAmong, AreAmong, ReadsWithin, same_key, keys_in_front, keys_read}
-use Rattle.rehearse_reads.specs.Laws.{KeysReadSuffice, StretchesJoin, MoreKeysInFront}
+use Rattle.rehearse_reads.specs.Keys.{Key, Environment, Local, AnswerTo, Status, Access, Reads, Writes, IsAmong, AreAmong, all_read, ReadsWithin, same_key, keys_in_front, keys_read}
+use Rattle.rehearse_reads.specs.Laws.{KeysReadSuffice, StretchesJoin, MoreKeysInFront, CoveringJoins, FurtherReadsCover}
 
 -- words that are found equal are equal
 equal_words : (v w : List Text) → same_words v w ≡ true → v ≡ w
@@ -93,9 +93,9 @@ keys_read_suffice accesses known = (within_reads known accesses, reads_within kn
 -- ---- stretches
 
 pub stretches_join : StretchesJoin
-stretches_join [] behind = refl
-stretches_join (Reads key ∷ front) behind = ap (λ (keys : List Key). key ∷ keys) (stretches_join front behind)
-stretches_join (Writes key ∷ front) behind = ap (λ (keys : List Key). filter (λ other. not (same_key other key)) keys) (stretches_join front behind)
+stretches_join [] behind later = refl
+stretches_join (Reads key ∷ front) behind later = ap (λ (keys : List Key). key ∷ keys) (stretches_join front behind later)
+stretches_join (Writes key ∷ front) behind later = ap (λ (keys : List Key). filter (λ other. not (same_key other key)) keys) (stretches_join front behind later)
 
 kept_among : (p : Key → Bool) (k : Key) (keys : List Key) → p k ≡ true → IsAmong k keys → IsAmong k (filter p keys)
 kept_among p k [] e h = h
@@ -158,3 +158,16 @@ all_of_more (key ∷ some) keys more h all = (one_of_more key keys more h.0 all,
 pub all_itself : (keys : List Key) → AreAmong keys keys
 all_itself [] = tt
 all_itself (key ∷ keys) = (inl refl, with_more keys keys key (all_itself keys))
+
+-- ---- accesses in the place of others
+
+pub covering_joins : CoveringJoins
+covering_joins front behind one other h k later =
+    subst (λ (keys : List Key). AreAmong keys (keys_in_front (one ++ other) later)) (sym (stretches_join front behind later))
+    (subst (λ (keys : List Key). AreAmong (keys_in_front front (keys_in_front behind later)) keys) (sym (stretches_join one other later))
+    (all_of_more (keys_in_front front (keys_in_front behind later)) (keys_in_front one (keys_in_front behind later)) (keys_in_front one (keys_in_front other later))
+    (h (keys_in_front behind later)) (more_keys_in_front one (keys_in_front behind later) (keys_in_front other later) (k later))))
+
+pub further_reads_cover : FurtherReadsCover
+further_reads_cover accesses [] later = all_itself (keys_in_front accesses later)
+further_reads_cover accesses (key ∷ keys) later = with_more (keys_in_front accesses later) (keys_in_front (all_read keys ++ accesses) later) key (further_reads_cover accesses keys later)

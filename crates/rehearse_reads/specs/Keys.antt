@@ -70,3 +70,7 @@ keys_in_front (Writes key ∷ accesses) later = filter (λ other. not (same_key 
 
 abbrev pub keys_read : List Access → List Key
 keys_read accesses = keys_in_front accesses []
+
+-- what has to be known before the accesses has to be known before the others, which may be reported in their place
+abbrev pub Covers : (others accesses : List Access) → Type 0
+Covers others accesses = (later : List Key) → AreAmong (keys_in_front accesses later) (keys_in_front others later)

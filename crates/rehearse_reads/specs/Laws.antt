@@ -3,7 +3,7 @@ use Rattle.std.specs.Prelude.{◌≡◌, ℕ, List, ◌++◌, ◌↔◌}
 use Rattle.hushlang.specs.Tree.{Script}
 use Rattle.rehearse_terms.specs.State.{Text, State}
 use Rattle.rehearse_rules.specs.Execution.{Limits, exec, run_text}
-use Rattle.rehearse_reads.specs.Keys.{Key, Access, AreAmong, AgreeOn, ReadsWithin, keys_in_front, keys_read, known_after}
+use Rattle.rehearse_reads.specs.Keys.{Key, Access, AreAmong, AgreeOn, all_read, ReadsWithin, keys_in_front, keys_read, known_after, Covers}
 use Rattle.rehearse_reads.specs.Accesses.{accesses, run_text_accesses}
 use Rattle.rehearse_reads.specs.Alike.{IsAlike, EndAlike}
 
@@ -16,12 +16,21 @@ KeysReadSuffice = (accesses : List Access) (known : List Key) →
 
 -- of one stretch after another: what the first one reads, and what the second one reads that the first has not written
 abbrev pub StretchesJoin : Type 0
-StretchesJoin = (front behind : List Access) → keys_read (front ++ behind) ≡ keys_in_front front (keys_read behind)
+StretchesJoin = (front behind : List Access) (later : List Key) →
+    keys_in_front (front ++ behind) later ≡ keys_in_front front (keys_in_front behind later)
 
 -- with more keys behind, no fewer have to be known in front
 abbrev pub MoreKeysInFront : Type 0
 MoreKeysInFront = (front : List Access) (later more : List Key) → AreAmong later more →
     AreAmong (keys_in_front front later) (keys_in_front front more)
+
+-- accesses that cover those of one stretch and of the next cover both
+abbrev pub CoveringJoins : Type 0
+CoveringJoins = (front behind one other : List Access) → Covers one front → Covers other behind → Covers (one ++ other) (front ++ behind)
+
+-- a key that is read besides does no harm
+abbrev pub FurtherReadsCover : Type 0
+FurtherReadsCover = (accesses : List Access) (keys : List Key) → Covers (all_read keys ++ accesses) accesses
 
 -- ---- runs
 

@@ -1,6 +1,6 @@
 //! Laws of what runs read. A call of one does nothing: its contract is the law.
 
-ghost use Rattle.rehearse_reads.specs.Laws.{KeysReadSuffice, MoreKeysInFront, RunsEndAlike, StatesGoAlike, StretchesJoin};
+ghost use Rattle.rehearse_reads.specs.Laws.{CoveringJoins, FurtherReadsCover, KeysReadSuffice, MoreKeysInFront, RunsEndAlike, StatesGoAlike, StretchesJoin};
 
 /// The keys that are read before they are written are what has to be known before a stretch of a run,
 /// and no key too many. Of one stretch after another these are what the first reads, and what the second
@@ -10,6 +10,14 @@ pub fn keys_of_stretches()
     ensures suffice { KeysReadSuffice }
     ensures joined { StretchesJoin }
     ensures more { MoreKeysInFront }
+{}
+
+/// Accesses may be reported in the place of those that a stretch makes, if no fewer keys have to be known
+/// before them: they join as stretches do, and a key that is read besides does no harm.
+#[tactic(auto, using(crate::proofs::KeysRead::covering_joins, crate::proofs::KeysRead::further_reads_cover))]
+pub fn reports_cover()
+    ensures joined { CoveringJoins }
+    ensures further { FurtherReadsCover }
 {}
 
 /// From two states that agree on what a script reads before it writes it, and on the outcomes that are
