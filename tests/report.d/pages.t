@@ -148,10 +148,13 @@ no run that does not boot
 
 texts by a name with a variable in it, and what is warned of
   $ cat >board.env <<'EOF'
-  > bootcmd=for t in a b; do run boot_$t; done; run set
+  > bootcmd=for t in a b; do run boot_$t; run "end_${t}"_all; done; run set
   > boot_a=load $x && bootm
   > boot_b=test $y = 1 && bootm
   > boot=fi
+  > end_a_all=true
+  > end_a_al=fi
+  > endless_all=fi
   > set=setenv y 1
   > preboot=usb start
   > EOF
@@ -159,11 +162,14 @@ texts by a name with a variable in it, and what is warned of
   $ by_part board.html check
   The script
   What hushcheck says of the texts that the script runs, or may run. The mark is under the byte that is meant.
-  Well-formed: bootcmd, boot_a, boot_b, set.
+  Well-formed: bootcmd, boot_a, boot_b, end_a_all, set.
   note not followed, since the name holds a variable
   bootcmd:1:22
-  for t in a b; do run boot_$t; done; run set
+  for t in a b; do run boot_$t; run "end_${t}"_all; done; run set
                        ^
+  bootcmd:1:35
+  for t in a b; do run boot_$t; run "end_${t}"_all; done; run set
+                                    ^
   warning test may be true in U-Boot if this leaves words over or too few: quote it
   boot_b:1:6
   test $y = 1 && bootm
@@ -185,6 +191,42 @@ texts by a name with a variable in it, and what is warned of
   The right kernel. A run boots if a command that boots succeeds. Whether a kernel was loaded before it, and which, is to be read in the run.
   More failures at once. Causes are those with at most 2 failures.
   Time and the next boot. A watchdog, a delay, what saveenv stores and what the next boot does with it are not followed.
+
+texts that a script in a file may run, and what it sets for them
+  $ printf 'setenv x 1\nfor t in a; do run boot_$t; done\n' >start.cmd; printf '%s\n' 'boot_a=load $x $y && bootm' 'boot=fi' >board.env
+  $ marked report --text board.env --script start.cmd -d list -o board.html
+  $ by_part board.html check
+  The script
+  What hushcheck says of the texts that the script runs, or may run. The mark is under the byte that is meant.
+  Well-formed: start.cmd, boot_a.
+  note not followed, since the name holds a variable
+  start.cmd:2:20
+  for t in a; do run boot_$t; done
+                     ^
+  warning nothing sets y
+  boot_a:1:9
+  load $x $y && bootm
+          ^
+
+variables that a run changes, sets and deletes
+  $ printf '%s\n' v=1 same=1 gone=1 "bootcmd=setenv v 2; setenv new '<3>'; setenv gone; load a && bootm" >board.env
+  $ marked report --text board.env -d list --failures 0 -o board.html
+  $ by_part board.html causes
+  What has to fail
+  A cause is a set of failures of which none can be left out: with fewer of them, no run ends so. Each has its run, command by command.
+  does not boot Ends at U-Boot's prompt, with status 1 end 1
+  Takes at least 1 failure. With so few, as if these fail:
+  bootm
+  boots Boots by bootm booted bootm
+  Nothing fails.
+  The run, command by command
+   succeeds: load a
+   succeeds: bootm
+  Variables that it leaves changed:
+  new=<3>
+  v=2
+  deleted: gone
+  Ends as booted bootm. Its word is 00.
 
 it starts anew
   $ by_board 'load a && bootm; reset'

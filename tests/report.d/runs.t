@@ -64,3 +64,10 @@ commands that are asked twice, steady and not, and calls that always fail
   $ printf 'bootcmd=probe x || probe x || dhcp a; load a || load a && load b && boot; probe x; dhcp b && boot; load b\n' >asked.env
   $ board=(--text asked.env -d devices --shell profile); ubtool endings "${board[@]}" --flow >flow; by_runs 3
   11
+
+a run in which more fails, before the run of a cause, which ends as it does
+  $ printf 'load\n' >devices
+  $ { printf 'bootcmd=load x || setenv f 1; load y || setenv g 1; load x || setenv h 1; '
+  >     echo 'if test "$f" = 1; then false; elif test "$g$h" = 11; then false; else true; fi'; } >more.env
+  $ board=(--text more.env -d devices --shell profile); ubtool endings "${board[@]}" --flow >flow; by_runs 3
+  2

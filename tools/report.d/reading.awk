@@ -56,14 +56,18 @@ function read_runs(    parts) {
 }
 
 # read_check: a line of hushcheck: of a text that is right, a place with what is said of it, or the two lines that show the place.
+# What nothing sets of texts beside a script, the script itself may set: it is left out if a run has the variable.
 function read_check() {
-    if (left > 0) { shown[findings, 3 - left--] = $0; return }
-    if ($0 ~ /^[^ ]+:[0-9]+:[0-9]+: /) {
+    if (left > 0) {
+        left--
+        if (!is_dropped) shown[findings, 2 - left] = $0
+    } else if ($0 ~ /^[^ ]+:[0-9]+:[0-9]+: /) {
         left = 2
         match($0, /:[0-9]+:[0-9]+: /)
         place[++findings] = substr($0, 1, RSTART + RLENGTH - 3)
         said[findings] = substr($0, RSTART + RLENGTH)
-        if (part == "more" && unset_name(findings) in set_in_runs) findings--
+        is_dropped = part == "more" && unset_name(findings) in set_in_runs
+        findings -= is_dropped
     } else if (sub(/: ok$/, "")) right[++rights] = $0
     else if ($0 != "") { place[++findings] = ""; said[findings] = $0 }
 }
