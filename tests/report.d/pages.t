@@ -146,6 +146,33 @@ no run that does not boot
   load a
   bootm
 
+two in a run before that of one
+  $ by_board 'if load a; then bootm || bootm; else exit 1; fi'
+  Does not always boot: one failure is enough.
+  If nothing fails, the script calls 2 commands that can fail. It does not boot if one of these fails:
+  load a
+  It boots all the same if this fails
+  bootm
+
+a question that is asked twice, and one that is answered as before
+  $ by_board 'load a; load a && bootm'
+  Does not always boot: one failure is enough.
+  If nothing fails, the script calls 3 commands that can fail. It does not boot if one of these fails:
+  load a
+  bootm
+  It boots all the same if this fails
+  load a (asked another time)
+  $ by_part board.html limits | grep -A 1 'both ways'
+  Questions answered both ways. In some run with few failures, one of these is asked again and answered otherwise. If the board cannot do that, say steady of the command in the list, or take --steady.
+  load a
+  $ by_board 'load a; load a && bootm' --steady
+  Does not always boot: one failure is enough.
+  If nothing fails, the script calls 2 commands that can fail. It does not boot if one of these fails:
+  load a
+  bootm
+  $ by_part board.html limits | grep -A 1 'both ways'
+  [1]
+
 texts by a name with a variable in it, and what is warned of
   $ cat >board.env <<'EOF'
   > bootcmd=for t in a b; do run boot_$t; run "end_${t}"_all; done; run set

@@ -54,7 +54,9 @@ function put_single_failures(    i, number, class) {
     print "<ul class=\"words fails\">"
     for (i = causes; i > 0; i--) {
         class = class_of(cause_ending[i])
-        if (failures[i] != 1 || class == "good" || ++number > 12) continue
+        if (failures[i] != 1 || class == "good") continue
+        is_enough[fails[i, 1]]
+        if (++number > 12) continue
         print "<li>" html(fails[i, 1]) (class == "bad" ? "" : " (" name_of[class] ")") "</li>"
     }
     print "</ul>"
@@ -64,7 +66,9 @@ function put_single_failures(    i, number, class) {
 # put_harmless: the failures after which a board that boots by itself boots all the same.
 function put_harmless(    i, number, list) {
     for (i = alone; i > 0; i--) {
-        if (class_of(alone_ending[i]) == "good") { number++; list = list "<li>" html(alone_words[i]) "</li>\n" }
+        if (class_of(alone_ending[i]) != "good") continue
+        number++
+        list = list "<li>" html(alone_words[i]) (alone_words[i] in is_enough ? " (asked another time)" : "") "</li>\n"
     }
     if (!number) return
     print "<details><summary>It boots all the same if " (number == 1 ? "this" : "one of these " number) " fails</summary>"
