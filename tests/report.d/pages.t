@@ -242,7 +242,7 @@ variables that a run changes, sets and deletes
   What has to fail
   A cause is a set of failures of which none can be left out: with fewer of them, no run ends so. Each has its run, command by command.
   does not boot Ends at U-Boot's prompt, with status 1 end 1
-  Takes at least 1 failure. With so few, as if these fail:
+  Takes at least 1 failure, for example this:
   bootm
   boots Boots by bootm booted bootm
   Nothing fails.

@@ -41,7 +41,7 @@ function put_cause(i) {
 function put_far_cause(it,    i) {
     if (!(it in fewest)) return
     print "<div class=\"cause\">"
-    para("Takes at least " many(fewest[it], "failure") ". With so few, as if these fail:")
+    para("Takes at least " many(fewest[it], "failure") ", for example " (fewest[it] == 1 ? "this:" : "these:"))
     print "<ul class=\"words fails\">"
     for (i = 1; i <= fewest_failing[it]; i++) print "<li>" html(fewest_fails[it, i]) "</li>"
     print "</ul>\n</div>"
