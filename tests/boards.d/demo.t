@@ -3,7 +3,7 @@
 The tour of the demo, on this program in the place of the one that it would build.
 
   $ mkdir -p path tour/bin; ln -s "$UBTOOL" path/ubtool; ln -s "$HUSHCHECK" path/hushcheck; ln -s "$UBTOOL" tour/bin/ubtool
-  $ cp -r "$repository/share" "$repository/demo" tour/
+  $ cp -r "$repository/share" "$repository/demo" "$repository/tools" tour/
   $ printf '#!/bin/sh\necho built\n' >tour/build; chmod +x tour/build; cp tour/build path/rt
 
 the tour of the demo

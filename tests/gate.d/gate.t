@@ -5,6 +5,7 @@ The gate itself, in a tree whose suites and tools are stand-ins.
   $ mkdir tools tests bin; cp "$repository/check" .
   $ stand_in() { printf '#!/bin/sh\n%s\n' "$2" >"$1"; chmod +x "$1"; }
   $ for it in $(grep -o 'tools/[a-z_.]*\|tests/[a-z_0-9]*' check | sort -u); do stand_in "$it" 'exit 0'; done
+  $ cp "$repository/tools/lib" tools
   $ stand_in tools/gate_cost 'touch "$1"; shift; exec "$@"'
   $ stand_in bin/rt 'echo "33 passed, 0 failed"'
 
