@@ -35,10 +35,17 @@ bytes '3b 06 98 45 61 3d 31 00 00' >single
 cd ..
 ln -s "$program" fw_setenv
 
+# texts FILE..: the texts of these files, in variables of their names. (There are too many files to start a process for each.)
+texts() {
+    local it
+    # shellcheck disable=SC2094 # it reads the file, and writes the variable
+    for it; do IFS= read -rd '' "$it" <"$it" || true; done
+}
+
 # each_growth NUMBER CALLED INPUT WORD..: the command of the words, called so, with this on its standard input, with
 # each growth refused, in a folder of its own.
 each_growth() {
-    local called=$2 input=$3 words=("${@:4}") number before=2 status
+    local called=$2 input=$3 words=("${@:4}") number before=2 status ample met calls output error
     cp -r given "$1" && cd "$1"
     # fail WHY: tells what is wrong.
     fail() {
@@ -46,29 +53,31 @@ each_growth() {
         exit 1
     }
     "$called" "${words[@]}" <"$input" >ample
-    cp env.img changed
+    texts ample
+    cp env.img changed && cp image env.img && rm -f new.img
     for ((number = 1; ; number++)); do
-        cp image env.img
-        rm -f new.img
         status=0
         REFUSE=$number REFUSE_MET=met TELL_CALLS=calls LD_PRELOAD="../refuse.so ../calls.so" "$called" "${words[@]}" \
             <"$input" >output 2>error || status=$?
-        [ "$(cat met)" != 'not met' ] || break
-        ! sed '1,/^write [1>]/d' calls | grep -q '^read' || fail 'a write before a read'
+        texts met calls output error
+        [[ $met != 'not met'* ]] || break
+        [[ $calls != *$'\nwrite '[1\>]*$'\nread'* ]] || fail 'a write before a read'
         if [ "$status" -eq 0 ]; then
-            cmp -s output ample || fail 'another output'
+            [ "$output" = "$ample" ] || fail 'another output'
             cmp -s env.img changed || fail 'another changed image'
+            cp image env.img
+            rm -f new.img
             continue
         fi
         [ "$status" -le "$before" ] || fail "status $status"
-        [ "$status" -eq 1 ] || [ ! -s output ] || fail 'an output'
-        [[ $(cat error; echo x) == $'ubtool: out of memory\nx' ||
-            "$called $(cat error; echo x)" == $'../fw_setenv fw_setenv: out of memory\nx' ]] || fail "$(cat error)"
+        [ "$status" -eq 1 ] || [ -z "$output" ] || fail 'an output'
+        [[ $error == $'ubtool: out of memory\n' || "$called $error" == $'../fw_setenv fw_setenv: out of memory\n' ]] ||
+            fail "$error"
         cmp -s env.img image || fail 'another image'
         [ ! -e new.img ] || fail 'a new image'
-        head -c "$(wc -c <output)" ample | cmp -s - output || fail 'no front of the output'
+        [[ $ample == "$output"* ]] || fail 'no front of the output'
         [ "${words[0]-}" != rehearse ] || goes_on
-        [[ ${words[0]-} != @(endings|causes) ]] || [ ! -s output ] || fail 'an output'
+        [[ ${words[0]-} != @(endings|causes) ]] || [ -z "$output" ] || fail 'an output'
         before=$status
     done
     [ "$status" -eq 0 ] || fail "status $status without a refusal"
@@ -78,11 +87,18 @@ each_growth() {
 
 # goes_on: the listing that was broken off goes on behind its last record, or anew.
 goes_on() {
-    local after
-    after=$(awk '/^run /{word=$2} /^(end|cut|stop|booted) /{last=word} END{print last}' output)
-    ! tail -n 1 output | grep -qEv '^(end|cut|stop|booted) ' || fail "a record in part: $(tail -n 1 output)"
-    "$program" "${words[@]}" ${after:+--after "$after"} >>output
-    cmp output ample
+    local word line last='' after='' rest
+    while read -r line; do
+        last=$line
+        case $line in
+        'run '*) word=${line#run } ;;
+        'end '* | 'cut '* | 'stop '* | 'booted '*) after=$word ;;
+        esac
+    done <<<"${output%$'\n'}"
+    [[ -z $output || $last =~ ^(end|cut|stop|booted)\  ]] || fail "a record in part: $last"
+    "$program" "${words[@]}" ${after:+--after "$after"} >rest
+    texts rest
+    [ "$output$rest" = "$ample" ] || fail 'another rest of the listing'
 }
 
 # begin WORD..: the same beside the other commands.
