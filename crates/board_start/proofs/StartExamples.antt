@@ -5,7 +5,7 @@ use Rattle.device_list.specs.DeviceList.{Effects, only}
 use Rattle.device_list.specs.DeviceLaws.{quiet}
 use Rattle.device_list.specs.declared.devices_error.DevicesError.TheVariants.{BadLine}
 use Rattle.board_start.specs.StartLines.{Given, Before, Faulty, Other, said, without_start}
-use Rattle.board_start.specs.Start.{Start, no_start, start_of, choices, chosen, place_of, with_all, begun, after_said}
+use Rattle.board_start.specs.Start.{Start, no_start, start_of, choices, chosen, given_line, place_of, with_all, begun, after_said}
 use Rattle.board_start.specs.Boards.{board_of, OfDevices}
 use Rattle.board_start.specs.declared.start_error.StartError.TheVariants.{TooMany, Alternatives, NoAlternative, Name}
 
@@ -164,6 +164,19 @@ third_chosen = refl
 
 last_chosen : chosen of_both 5 ≡ (codes "a", codes "3") ∷ (codes "b", codes "y") ∷ []
 last_chosen = refl
+
+-- an alternative is told by the variables that have several values
+first_line : given_line of_both 0 ≡ codes "given a=1 b=x\n"
+first_line = refl
+
+abbrev of_one : Start
+of_one = record { givens = (codes "a", record { first = codes "1"; others = [] }) ∷ (codes "b c", record { first = codes "x y"; others = [] ∷ [] }) ∷ []; before = [] }
+
+line_of_one : given_line of_one 0 ≡ codes "given b\\x20c=x\\x20y\n"
+line_of_one = refl
+
+line_of_nothing : given_line of_one 1 ≡ codes "given b\\x20c=\n"
+line_of_nothing = refl
 
 -- a list with one alternative needs no name for it
 place_alone : place_of 1 None ≡ Ok 0

@@ -1,9 +1,10 @@
 -- How a board starts: what its environment has before the run, and what runs before the text that is rehearsed. Ours.
-use Rattle.std.specs.Prelude.{ℕ, ◌+◌, ◌-◌, ◌*◌, ◌/◌, ◌%◌, min, nat_lt, nat_le, ◌==◌, ◌||◌, ◌&&◌, not, Bool, true, false, List, [], ◌∷◌, ◌++◌, length, filter, Option, Some, None, is_some, unwrap_or, slice_get, Result, Ok, Err, codes, if◌then◌else◌}
+use Rattle.std.specs.Prelude.{ℕ, ◌+◌, ◌-◌, ◌*◌, ◌/◌, ◌%◌, min, nat_lt, ◌==◌, ◌||◌, ◌&&◌, not, Bool, true, false, List, [], ◌∷◌, ◌++◌, length, filter, Option, Some, None, is_some, unwrap_or, slice_get, Result, Ok, Err, codes, if◌then◌else◌}
 use Rattle.std.specs.Str.{bytes_eq}
 use Rattle.std.specs.List.{list_any, flat_map}
 use Rattle.std.specs.Map.{lookup}
 use Rattle.text.specs.Bytes as ascii
+use Rattle.text.specs.Escapes.{word_escaped}
 use Rattle.text.specs.Lines.{Text, numbered_lines}
 use Rattle.envimage.specs.Data.{Pair}
 use Rattle.envtools.specs.Environment as env
@@ -109,11 +110,24 @@ chosen_from (given ∷ givens) place = onto_chosen given (chosen_from givens pla
 abbrev pub chosen : Start → (place : ℕ) → List (Text × Text)
 chosen start place = (chosen_from start.givens place).0
 
+-- whether a variable has several values
+abbrev pub varies : List (Text × Values) → (name : Text) → Bool
+varies givens name =
+    elim (lookup (bytes_eq name) givens) [ None ↦ false | Some values ↦ nat_lt 0 (length values.others) ]
+
+abbrev pub pair_text : Text × Text → Text
+pair_text given = ascii.space ∷ flat_map word_escaped given.0 ++ ascii.equals ∷ flat_map word_escaped given.1
+
+-- the line that tells an alternative: the variables that have several values
+abbrev pub given_line : Start → (place : ℕ) → Text
+given_line start place =
+    codes "given" ++ flat_map pair_text (filter (λ given. varies start.givens given.0) (chosen start place)) ++ ascii.newline ∷ []
+
 -- The place of the alternative that is named, counted from 1. A list that has several is refused without a name.
 abbrev pub place_of : (count : ℕ) → (alternative : Option ℕ) → Result ℕ StartError
 place_of count None = if count == 1 then Ok 0 else Err (Alternatives count)
 place_of count (Some number) =
-    if not (number == 0) && nat_le number count then Ok (number - 1) else Err (NoAlternative number count)
+    if number == 0 || nat_lt count number then Err (NoAlternative number count) else Ok (number - 1)
 
 -- ---- the environment
 

@@ -26,6 +26,13 @@ IsRead text (Err (error.Start fault)) = start_of text ≡ Err fault
 IsRead text (Err (error.Devices fault)) = ⊥
 IsRead text (Err error.Memory) = Unit {0}
 
+-- the start that a list says, or its fault
+abbrev pub Starts : Result Start StartError → Result Start BoardError → Type 0
+Starts answer (Ok start) = answer ≡ Ok start
+Starts answer (Err (error.Start fault)) = answer ≡ Err fault
+Starts answer (Err (error.Devices fault)) = ⊥
+Starts answer (Err error.Memory) = Unit {0}
+
 -- a text in place of the variable's, or why there is none
 abbrev pub Texts : Result (Option Text) StartError → Result (Option (Vec ℕ Global)) BoardError → Type 0
 Texts answer (Ok text) = answer ≡ Ok (option_map (λ v. v.items) text)

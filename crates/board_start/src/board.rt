@@ -1,10 +1,10 @@
 //! A board, as its device list says.
 ghost use Rattle.std.specs.Prelude.{◌≡◌, ◌++◌, OnOk};
 ghost use Rattle.board_start.specs.StartLines.{front, left_of, line_left, said};
-ghost use Rattle.board_start.specs.Start.{after_said};
+ghost use Rattle.board_start.specs.Start.{after_said, start_of};
 ghost use Rattle.board_start.specs.Boards.{board_of};
 ghost use Rattle.board_start.specs.StartShown.{said_shown};
-ghost use Rattle.board_start.specs.StartAnswers.{Adds, IsBoard, IsRead};
+ghost use Rattle.board_start.specs.StartAnswers.{Adds, IsBoard, IsRead, Starts};
 
 use crate::board_error::BoardError;
 use crate::said::{Said, read_line};
@@ -89,5 +89,13 @@ impl Board {
             Err(DevicesError::Memory) => Err(BoardError::Memory),
             Err(fault) => Err(BoardError::Devices(fault)),
         }
+    }
+
+    /// What a list says of the start alone. Errors: `Start` with `TooMany`, `Memory`.
+    pub fn start(alloc: Global, text: &[u8]) -> Result<Start, BoardError>
+        ensures { Starts (start_of text.now) result }
+    {
+        let (start, _) = read(alloc, text)?;
+        Ok(start)
     }
 }

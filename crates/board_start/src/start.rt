@@ -1,18 +1,21 @@
 //! How a board starts: what its environment has before a run, and what runs first.
-ghost use Rattle.std.specs.Prelude.{◌≡◌, IfOk, OnOk};
-ghost use Rattle.board_start.specs.Start.{with_all, with_given};
-ghost use Rattle.board_start.specs.StartShown.{pairs_shown};
+ghost use Rattle.std.specs.Prelude.{◌≡◌, ◌++◌, IfOk, OnOk, filter};
+ghost use Rattle.std.specs.List.{flat_map};
+ghost use Rattle.text.specs.Escapes.{word_escaped};
+ghost use Rattle.board_start.specs.Start.{pair_text, varies, with_all, with_given};
+ghost use Rattle.board_start.specs.StartShown.{givens_shown, pairs_shown};
 
 use crate::begin_text::text_behind_all;
 use crate::board_error::BoardError;
 use crate::place::place_of;
 use crate::said::Said;
 use crate::start_error::StartError;
-use crate::values::{Givens, add_value, count};
+use crate::values::{Givens, add_value, count, varies};
 use envtools::{Env, EnvError};
 use indexmap::IndexMap;
 use std::alloc::{AllocError, Global};
 use std::marker::Model;
+use text::Escaped;
 
 /// How a board starts.
 #[derive(Drop)]
@@ -63,9 +66,46 @@ fn give_all(env: &mut Env, pairs: &[(&[u8], &[u8])]) -> Result<(), AllocError>
     Ok(())
 }
 
+/// Adds the bytes of a text as they are printed in a word. Errors: memory ran out.
+fn add_escaped(line: &mut Vec<u8>, bytes: &[u8]) -> Result<(), AllocError>
+    ensures { OnOk result (line.new.items ≡ line.old.items ++ flat_map word_escaped bytes.now) }
+{
+    for byte in bytes {
+        line.extend_from_slice(Escaped::in_word(*byte).as_slice())?;
+    }
+    Ok(())
+}
+
+/// Adds a variable and its value, after a space. Errors: memory ran out.
+fn add_pair(line: &mut Vec<u8>, name: &[u8], value: &[u8]) -> Result<(), AllocError>
+    ensures { OnOk result (line.new.items ≡ line.old.items ++ pair_text (name.now, value.now)) }
+{
+    line.push(b' ')?;
+    add_escaped(line, name)?;
+    line.push(b'=')?;
+    add_escaped(line, value)
+}
+
+/// Adds those variables that have several values. Errors: memory ran out.
+fn add_varying(
+    line: &mut Vec<u8>,
+    givens: &Givens,
+    pairs: &[(&[u8], &[u8])],
+) -> Result<(), AllocError>
+    ensures { OnOk result (line.new.items ≡ line.old.items ++ flat_map pair_text
+        (filter (λ p. varies (givens_shown givens.now.entries) p.0) (pairs_shown pairs.now))) }
+{
+    for (name, value) in pairs {
+        if varies(givens, name) {
+            add_pair(line, name, value)?;
+        }
+    }
+    Ok(())
+}
+
 impl Start {
     ghost use Rattle.std.specs.Option.{option_copied};
-    ghost use Rattle.board_start.specs.Start.{after_given, after_said, alternatives, begun, chosen, no_start, with_before};
+    ghost use Rattle.board_start.specs.Start.{after_given, after_said, alternatives, begun, chosen, given_line, no_start, with_before};
     ghost use Rattle.board_start.specs.StartShown.{said_shown};
     ghost use Rattle.board_start.specs.StartAnswers.{Adds, Begins};
 
@@ -113,18 +153,18 @@ impl Start {
 
     /// How many environments a board may start with: each value of a variable with each of the others.
     /// Takes no memory.
-    pub fn alternatives(&self) -> usize
+    pub fn alternatives(&self) -> u32
         ensures { result ≡ alternatives self.now }
     {
         count(&self.givens)
     }
 
     /// The variables of the alternative at this place, from 0 on. Errors: memory ran out.
-    pub fn chosen(&self, place: usize) -> Result<Vec<(&[u8], &[u8])>, AllocError>
+    pub fn chosen(&self, place: u32) -> Result<Vec<(&[u8], &[u8])>, AllocError>
         ensures { IfOk result (λ v. pairs_shown v.items ≡ chosen self.now place) }
     {
         let mut pairs = Vec::new(self.alloc);
-        let mut left = place;
+        let mut left = place as usize;
         let mut at = self.givens.len();
         while at > 0 {
             at -= 1;
@@ -137,23 +177,44 @@ impl Start {
         Ok(pairs)
     }
 
+    /// The line that tells the alternative at this place, from 0 on: `given` and the variables that have
+    /// several values. Errors: memory ran out.
+    pub fn line(&self, place: u32) -> Result<Vec<u8>, AllocError>
+        ensures { IfOk result (λ v. v.items ≡ given_line self.now place) }
+    {
+        let pairs = self.chosen(place)?;
+        let mut line = Vec::from_slice(self.alloc, b"given")?;
+        add_varying(&mut line, &self.givens, &pairs)?;
+        line.push(b'\n')?;
+        Ok(line)
+    }
+
+    /// The environment with the variables of the alternative at this place, from 0 on. Errors: memory
+    /// ran out.
+    pub fn give(&self, env: Env, place: u32) -> Result<Env, AllocError>
+        ensures { IfOk result (λ new. new ≡ with_all env (chosen self.now place)) }
+    {
+        let mut env = env;
+        let pairs = self.chosen(place)?;
+        give_all(&mut env, &pairs)?;
+        Ok(env)
+    }
+
     /// What a rehearsal of a variable, or of a text, begins with: the environment with the variables of
     /// the alternative that is named, counted from 1, and the texts that run first in front. A list
     /// that has more than one is refused if none is named. Errors in order: `Start` with
     /// `Alternatives`, `NoAlternative` and `Name`; `Memory` wherever a growth is made.
     pub fn begin(
         &self,
-        alternative: Option<usize>,
+        alternative: Option<u32>,
         env: Env,
         name: &[u8],
         text: Option<&[u8]>,
     ) -> Result<Begun, BoardError>
         ensures { Begins (begun self.now alternative env name.now (option_copied text.entry)) result }
     {
-        let mut env = env;
         let place = place_of(self.alternatives(), alternative)?;
-        let pairs = self.chosen(place)?;
-        give_all(&mut env, &pairs)?;
+        let env = self.give(env, place)?;
         let text = text_behind_all(self.alloc, &env, &self.before, name, text)?;
         Ok(Begun { env, text })
     }

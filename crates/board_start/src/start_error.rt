@@ -10,10 +10,10 @@ pub enum StartError {
     TooMany(usize),
     /// The list has so many alternatives, and none of them was named.
     #[error("the device list has {0} alternatives: name one by --given")]
-    Alternatives(usize),
+    Alternatives(u32),
     /// The alternative that was named is not one of so many.
-    #[error("the device list has {1} alternatives, and no number {0}")]
-    NoAlternative(usize, usize),
+    #[error("no alternative {0}: the device list has {1}")]
+    NoAlternative(u32, u32),
     /// A text runs before the variable, whose name has another byte than letters, digits, `_`, `-`
     /// and `.`.
     #[error("a text runs before the variable, whose name has other bytes than letters, digits, _, - and .")]

@@ -2,7 +2,7 @@
 ghost use Rattle.std.specs.Prelude.{◌≡◌, ◌+◌, length, not, IfOk, OnOk, Some, min};
 ghost use Rattle.std.specs.List.{list_any};
 ghost use Rattle.std.specs.Str.{bytes_eq};
-ghost use Rattle.board_start.specs.Start.{choices, has_value, is_further, value_at, with_value};
+ghost use Rattle.board_start.specs.Start.{choices, has_value, is_further, value_at, varies, with_value};
 ghost use Rattle.board_start.specs.StartShown.{givens_shown, values_shown};
 ghost use Rattle.device_list.specs.DeviceList.{changed_at};
 
@@ -87,17 +87,27 @@ pub(crate) fn add_value(
 }
 
 /// How many environments there are, or 65 if they are more than 64.
-pub(crate) fn count(givens: &Givens) -> usize
+pub(crate) fn count(givens: &Givens) -> u32
     ensures { result ≡ min (choices (givens_shown givens.now.entries)) 65 }
 {
-    let mut count = 1;
+    let mut count: u32 = 1;
     for at in 0..givens.len() {
         let (_, values) = givens.get_index(at).unwrap();
         let more = values.others.len();
-        if more >= 64 || count * (more + 1) > 64 {
+        if more >= 64 || count * (more as u32 + 1) > 64 {
             return 65;
         }
-        count *= more + 1;
+        count *= more as u32 + 1;
     }
     count
+}
+
+/// Whether a variable has several values.
+pub(crate) fn varies(givens: &Givens, name: &[u8]) -> bool
+    ensures { result ≡ varies (givens_shown givens.now.entries) name.now }
+{
+    match givens.get(name) {
+        Some(values) => 0 < values.others.len(),
+        None => false,
+    }
 }
