@@ -1,15 +1,14 @@
 -- The script of a file that was read.
-use Rattle.std.proofs.Common.{◌≡◌, ℕ, refl, sym, subst, List, Option, Some, Ok, Err}
+use Rattle.std.proofs.Common.{◌≡◌, ℕ, refl, sym, subst, List, Option, Ok, Err}
 use Rattle.std.specs.Prelude.{IsSomeAnd, Result, Vec}
 use Rattle.std.specs.declared.alloc.Global.{Global}
 use Rattle.script_file.specs.ScriptFiles.{script_in}
 use Rattle.tool_files.proofs.OrderLemmas.{OnlyReads-one}
-use Rattle.tool_files.specs.CallOrder.{OnlyReads}
-use Rattle.tool_files.specs.Told.{Told, file_at}
+use Rattle.tool_files.specs.Told.{Told}
 use Rattle.tool_files.specs.declared.files.Action.TheVariants.{ReadAll}
 use Rattle.tool_images.specs.declared.fault.Fault.{Fault}
 use Rattle.tool_images.specs.declared.fault.Fault.TheVariants as fault
-use Rattle.tool_steps.specs.ReadingFiles.{Reads, ReadsText}
+use Rattle.tool_steps.specs.ReadingFiles.{ReadsText}
 use Rattle.tool_steps.specs.Scripts.{MakesScript, ReadsScript}
 
 -- what is made of the bytes that were read is what the file holds

@@ -1,6 +1,6 @@
 -- What a rehearsal is read from: the images, then the device list, and then the script, if one is named.
-use Rattle.std.proofs.Common.{◌≡◌, ◌∙◌, ℕ, refl, sym, subst, List, Option, Some, None, Ok, Err, inl, inr}
-use Rattle.std.specs.Prelude.{Result, Vec, option_map}
+use Rattle.std.proofs.Common.{ℕ, refl, sym, subst, List, Option, Some, None, Ok, Err, inl, inr}
+use Rattle.std.specs.Prelude.{Vec, option_map}
 use Rattle.std.specs.declared.alloc.Global.{Global}
 use Rattle.tool_images.specs.declared.fault.Fault.{Fault}
 use Rattle.tool_files.proofs.OrderLemmas.{OnlyReads-none, OnlyReads-one, OnlyReads-then}

@@ -7,6 +7,7 @@ use Rattle.envtools.specs.Printing.{plain}
 use Rattle.envtools.specs.declared.print_form.PrintForm.{PrintForm}
 use Rattle.tool_words.specs.CommandAnswers.{asked}
 use Rattle.tool_words.specs.Answered.{IsAccepted}
+use Rattle.tool_words.specs.declared.ask.Taking.{Taking}
 use Rattle.tool_words.specs.declared.called.CalledAs.{CalledAs}
 use Rattle.tool_words.specs.declared.called.CalledAs.TheVariants.{Ubtool}
 use Rattle.tool_words.specs.Asked.{Asked, InputsShown, OriginShown, configured}
@@ -20,9 +21,13 @@ AsksForAs called words what = IsAccepted ubtool words × (asked called words ≡
 abbrev pub AsksFor : List Text → Asked → Type 0
 AsksFor words what = AsksForAs Ubtool words what
 
+-- the device list is taken as it is
+abbrev pub as_listed : Taking
+as_listed = record { steady = false; alternative = None }
+
 -- these files are read, and no script
 abbrev pub read_from : OriginShown → (device_list : Text) → InputsShown
-read_from origin device_list = record { origin = origin; device_list = device_list; steady = false; script = None }
+read_from origin device_list = record { origin = origin; device_list = device_list; taking = as_listed; script = None }
 
 -- what a call reads that names the device list d alone
 abbrev pub usual_list : InputsShown

@@ -11,7 +11,7 @@ mod EndingsExamples
 mod CausesExamples
 mod TextExamples
 mod ScriptExamples
-mod SteadyExamples
+mod TakingExamples
 mod ImageExamples
 mod InspectExamples
 pub mod CalledLemmas

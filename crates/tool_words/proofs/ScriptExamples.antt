@@ -4,14 +4,14 @@ use Rattle.clap.proofs.OnLiterals.{clap_on_literals}
 use Rattle.envimage.specs.declared.image.ByteOrder.TheVariants.{Big, Little}
 use Rattle.rehearse_terms.specs.Asking.{Listed, whole_page}
 use Rattle.rehearse_terms.specs.declared.shell.Shell.TheVariants.{Profile}
-use Rattle.tool_words.proofs.CommandLineExamples.{AsksFor, IsRefused}
+use Rattle.tool_words.proofs.CommandLineExamples.{AsksFor, IsRefused, as_listed}
 use Rattle.tool_words.specs.Asked.{InputsShown, OriginShown, causing, configured, ending, misnamed, no_images, rehearsing, texts, whole, word_alone}
 use Rattle.tool_words.specs.CommandLine.{ubtool}
 use Rattle.tool_words.specs.declared.ask.OriginError.TheVariants.{ScriptAndVariable, SecondNeedsImage}
 
 -- the device list d and the script f are read
 abbrev runs_script : OriginShown → InputsShown
-runs_script origin = record { origin = origin; device_list = codes "d"; steady = false; script = Some (codes "f") }
+runs_script origin = record { origin = origin; device_list = codes "d"; taking = as_listed; script = Some (codes "f") }
 
 -- rehearse --script f -d d: the environment is empty
 script_alone : AsksFor (codes "rehearse" ∷ codes "--script" ∷ codes "f" ∷ codes "-d" ∷ codes "d" ∷ [])

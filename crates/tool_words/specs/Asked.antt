@@ -21,7 +21,8 @@ use Rattle.rehearse_terms.specs.declared.shell.Shell.{Shell}
 use Rattle.rehearse_terms.specs.declared.shell.Shell.TheVariants.{Old2023, Old2025, Profile}
 use Rattle.tool_words.specs.Numbers.{any_number, byte_of}
 use Rattle.tool_words.specs.declared.ask.ImageAsk.{ImageAsk}
-use Rattle.tool_words.specs.CommandLine.{most_cause_failures, most_failures, most_records, most_states}
+use Rattle.tool_words.specs.declared.ask.Taking.{Taking}
+use Rattle.tool_words.specs.CommandLine.{most_alternatives, most_cause_failures, most_failures, most_records, most_states}
 
 -- what names the images: a configuration; or files, of which each is one whole copy: a single image, or the two copies
 -- of a pair; or a text of variables, of which an image is made, whose CRC is stored so; or nothing, and the environment
@@ -32,12 +33,11 @@ pub data OriginShown : Type 0 where
   texts : (path : Text) → (order : ByteOrder) → OriginShown
   no_images : (order : ByteOrder) → OriginShown
 
--- what a rehearsal reads: the images, a device list, and a script that runs in place of a variable; and whether each
--- device command and `test -e` is steady, as if each line of the list said so
+-- what a rehearsal reads: the images, a device list and how it is taken, and a script that runs in place of a variable
 pub record InputsShown : Type 0 where
   pub origin : OriginShown
   pub device_list : Text
-  pub steady : Bool
+  pub taking : Taking
   pub script : Option Text
 
 -- what `endings` is asked for
@@ -221,16 +221,27 @@ abbrev pub variable_of : List Row → Text
 variable_of rows = unwrap_or (first_of (codes "script") rows) (variable_named rows)
 
 -- what a rehearsal reads: a script takes no variable beside it
-abbrev pub inputs_with : (device_list : Text) → (steady : Bool) → (script : Option Text) →
+abbrev pub inputs_with : (device_list : Text) → Taking → (script : Option Text) →
     Result OriginShown OriginError → Result InputsShown OriginError
-inputs_with device_list steady script (Err error) = Err error
-inputs_with device_list steady script (Ok origin) =
-    Ok (record { origin = origin; device_list = device_list; steady = steady; script = script })
+inputs_with device_list taking script (Err error) = Err error
+inputs_with device_list taking script (Ok origin) =
+    Ok (record { origin = origin; device_list = device_list; taking = taking; script = script })
 
-abbrev pub inputs_asked : (device_list : Text) → List Row → Result InputsShown OriginError
-inputs_asked device_list rows =
+abbrev pub inputs_asked : (device_list : Text) → Taking → List Row → Result InputsShown OriginError
+inputs_asked device_list taking rows =
     if is_some (first_of (codes "script") rows) && is_some (first_of (codes "variable") rows) then Err ScriptAndVariable
-    else inputs_with device_list (is_set (codes "steady") rows) (first_of (codes "script") rows) (origin_beside rows)
+    else inputs_with device_list taking (first_of (codes "script") rows) (origin_beside rows)
+
+-- how the device list is taken: all of it steady, and one of its alternatives
+abbrev pub taken_so : List Row → (alternative : Option ℕ) → Taking
+taken_so rows alternative = record { steady = is_set (codes "steady") rows; alternative = alternative }
+
+-- the device list, and how it is taken; nothing if the number of the alternative cannot be read
+abbrev pub list_asked : List Row → Option (Text × Taking)
+list_asked rows =
+    option_and_then (λ path. option_map (λ alternative. (path, taken_so rows alternative))
+    (number_within 1 most_alternatives (codes "given") rows))
+    (first_of (codes "device-list") rows)
 
 -- the bounds if none are given
 abbrev pub usual_devices : ℕ
@@ -300,29 +311,29 @@ wanted_asked page failures rows =
     wanted_by (first_of (codes "word") rows) (first_of (codes "after") rows) page failures rows
 
 -- by the rules of this shell
-abbrev pub rehearsal_of : (device_list : Text) → Shell → List Row → WantedAsked → Asked
-rehearsal_of device_list shell rows (Ok within) = of_named (inputs_asked device_list rows) (λ inputs.
+abbrev pub rehearsal_of : (list : Text × Taking) → Shell → List Row → WantedAsked → Asked
+rehearsal_of list shell rows (Ok within) = of_named (inputs_asked list.0 list.1 rows) (λ inputs.
     rehearsing inputs (record {
       variable = variable_of rows;
       bounds = in_shell shell within.0;
       wanted = within.1;
       names = values_of (codes "names") rows;
     }) (order_of rows))
-rehearsal_of device_list shell rows (Err refusal) = refusal
+rehearsal_of list shell rows (Err refusal) = refusal
 
 -- with a device list, a page, a number of failures and bounds that can be read
-abbrev pub rehearsal_with : (device_list : Option Text) → Option Page → (failures : Option (Option ℕ)) → Shell →
+abbrev pub rehearsal_with : (list : Option (Text × Taking)) → Option Page → (failures : Option (Option ℕ)) → Shell →
     List Row → Option Asked
-rehearsal_with (Some device_list) (Some page) (Some failures) shell rows =
-    option_map (rehearsal_of device_list shell rows) (wanted_asked page failures rows)
+rehearsal_with (Some list) (Some page) (Some failures) shell rows =
+    option_map (rehearsal_of list shell rows) (wanted_asked page failures rows)
 rehearsal_with None page failures shell rows = None
-rehearsal_with (Some device_list) None failures shell rows = None
-rehearsal_with (Some device_list) (Some page) None shell rows = None
+rehearsal_with (Some list) None failures shell rows = None
+rehearsal_with (Some list) (Some page) None shell rows = None
 
 -- the failures are at most 32, and the shell is one that has a name
 abbrev pub rehearse_asked : List Row → Option Asked
 rehearse_asked rows =
-    option_and_then (λ shell. rehearsal_with (first_of (codes "device-list") rows) (page_asked rows)
+    option_and_then (λ shell. rehearsal_with (list_asked rows) (page_asked rows)
     (number_within 0 most_failures (codes "failures") rows) shell rows)
     (shell_of rows)
 
@@ -331,9 +342,9 @@ abbrev pub usual_states : ℕ
 usual_states = 1000000
 
 -- with a device list, bounds and a number of states that can be read
-abbrev pub endings_with : Option Text → Option BoundsShown → Option (Option ℕ) → Shell → List Row → Option Asked
-endings_with (Some device_list) (Some bounds) (Some states) shell rows =
-    Some (of_named (inputs_asked device_list rows) (λ inputs. ending inputs (record {
+abbrev pub endings_with : Option (Text × Taking) → Option BoundsShown → Option (Option ℕ) → Shell → List Row → Option Asked
+endings_with (Some list) (Some bounds) (Some states) shell rows =
+    Some (of_named (inputs_asked list.0 list.1 rows) (λ inputs. ending inputs (record {
       variable = variable_of rows;
       bounds = in_shell shell bounds;
       states = unwrap_or states usual_states;
@@ -344,7 +355,7 @@ endings_with _ _ _ shell rows = None
 
 abbrev pub endings_asked : List Row → Option Asked
 endings_asked rows =
-    option_and_then (λ shell. endings_with (first_of (codes "device-list") rows) (run_bounds_asked rows)
+    option_and_then (λ shell. endings_with (list_asked rows) (run_bounds_asked rows)
     (number_within 0 most_states (codes "states") rows) shell rows)
     (shell_of rows)
 
@@ -361,9 +372,9 @@ cause_bounds_asked rows =
     (number_within 0 most_cause_failures (codes "failures") rows)
 
 -- with a device list, and bounds that can be read
-abbrev pub causes_with : Option Text → Option BoundsShown → Shell → List Row → Option Asked
-causes_with (Some device_list) (Some bounds) shell rows =
-    Some (of_named (inputs_asked device_list rows) (λ inputs. causing inputs (record {
+abbrev pub causes_with : Option (Text × Taking) → Option BoundsShown → Shell → List Row → Option Asked
+causes_with (Some list) (Some bounds) shell rows =
+    Some (of_named (inputs_asked list.0 list.1 rows) (λ inputs. causing inputs (record {
       variable = variable_of rows;
       bounds = in_shell shell bounds;
       check = is_set (codes "check") rows;
@@ -372,7 +383,7 @@ causes_with _ _ shell rows = None
 
 abbrev pub causes_asked : List Row → Option Asked
 causes_asked rows =
-    option_and_then (λ shell. causes_with (first_of (codes "device-list") rows) (cause_bounds_asked rows) shell rows)
+    option_and_then (λ shell. causes_with (list_asked rows) (cause_bounds_asked rows) shell rows)
     (shell_of rows)
 
 -- the size of a new image, which each call has; nothing if it is no number

@@ -61,7 +61,7 @@ abbrev pub inputs_shown : Inputs → InputsShown
 inputs_shown inputs = record {
   origin = origin_shown inputs.origin;
   device_list = string_bytes inputs.device_list;
-  steady = inputs.steady;
+  taking = inputs.taking;
   script = option_map string_bytes inputs.script;
 }
 

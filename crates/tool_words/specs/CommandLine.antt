@@ -94,6 +94,13 @@ device_list = record (lettered_option (codes "device-list") (letter (codes "d"))
 abbrev pub steady : Rule
 steady = long_flag (codes "steady")
 
+-- which alternative of the list is taken, and the greatest number of them
+abbrev pub most_alternatives : ℕ
+most_alternatives = 64
+
+abbrev pub given : Rule
+given = number_option (codes "given") 1 most_alternatives
+
 -- `-b NAME`, and the two bounds
 abbrev pub variable : Rule
 variable = lettered_option (codes "variable") (letter (codes "b"))
@@ -124,7 +131,7 @@ limit = number_option (codes "limit") 1 most_records
 
 abbrev pub rehearse : App
 rehearse = command (codes "rehearse")
-    (config ∷ image ∷ second ∷ text_file ∷ big_endian ∷ device_list ∷ steady ∷ variable ∷ script_file ∷ devices ∷ steps ∷ shell ∷ word ∷ failures ∷ after ∷ limit ∷ names ∷ [])
+    (config ∷ image ∷ second ∷ text_file ∷ big_endian ∷ device_list ∷ steady ∷ given ∷ variable ∷ script_file ∷ devices ∷ steps ∷ shell ∷ word ∷ failures ∷ after ∷ limit ∷ names ∷ [])
 
 -- how many states may be searched, and the greatest number of them that can be allowed
 abbrev pub most_states : ℕ
@@ -139,7 +146,7 @@ flow = long_flag (codes "flow")
 
 abbrev pub endings : App
 endings = command (codes "endings")
-    (config ∷ image ∷ second ∷ text_file ∷ big_endian ∷ device_list ∷ steady ∷ variable ∷ script_file ∷ devices ∷ steps ∷ shell ∷ states ∷ flow ∷ names ∷ [])
+    (config ∷ image ∷ second ∷ text_file ∷ big_endian ∷ device_list ∷ steady ∷ given ∷ variable ∷ script_file ∷ devices ∷ steps ∷ shell ∷ states ∷ flow ∷ names ∷ [])
 
 -- how many device commands may fail in a run that `causes` looks at, and the greatest number of them that can be allowed
 abbrev pub most_cause_failures : ℕ
@@ -154,7 +161,7 @@ check = long_flag (codes "check")
 
 abbrev pub causes : App
 causes = command (codes "causes")
-    (config ∷ image ∷ second ∷ text_file ∷ big_endian ∷ device_list ∷ steady ∷ variable ∷ script_file ∷ devices ∷ steps ∷ shell ∷ cause_failures ∷ check ∷ [])
+    (config ∷ image ∷ second ∷ text_file ∷ big_endian ∷ device_list ∷ steady ∷ given ∷ variable ∷ script_file ∷ devices ∷ steps ∷ shell ∷ cause_failures ∷ check ∷ [])
 
 -- `--size N` and `-o FILE`, which each call of `image` needs, and `TEXT`
 abbrev pub size : Rule

@@ -146,6 +146,15 @@ pub enum Origin {
     },
 }
 
+/// How a device list is taken.
+#[derive(Clone, Copy, Debug)]
+pub struct Taking {
+    /// Whether each device command and `test -e` is steady, as if each line of the list said so.
+    pub steady: bool,
+    /// The alternative that is taken, counted from 1, if one is named.
+    pub alternative: Option<u32>,
+}
+
 /// The files that a rehearsal reads, and how it takes the device list.
 #[derive(Debug, Drop)]
 pub struct Inputs {
@@ -153,8 +162,8 @@ pub struct Inputs {
     pub origin: Origin,
     /// The path of the device list.
     pub device_list: String,
-    /// Whether each device command and `test -e` is steady, as if each line of the list said so.
-    pub steady: bool,
+    /// How it is taken.
+    pub taking: Taking,
     /// The path of the script that runs in place of a variable, if one is given.
     pub script: Option<String>,
 }

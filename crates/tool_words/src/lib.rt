@@ -23,11 +23,11 @@ pub use argument::{Argument, Form, with_arguments};
 pub use ask::{
     Ask, CausesAsk, Change, DEFAULT_CAUSE_FAILURES, DEFAULT_CONFIG, DEFAULT_DEVICES,
     DEFAULT_RUN_DEVICES, DEFAULT_RUN_STEPS, DEFAULT_STATES, DEFAULT_STEPS, DEFAULT_VARIABLE,
-    EndingsAsk, ImageAsk, Inputs, Origin, OriginError, PrintAsk, RehearseAsk, UseError,
+    EndingsAsk, ImageAsk, Inputs, Origin, OriginError, PrintAsk, RehearseAsk, Taking, UseError,
 };
 pub use called::{CalledAs, called_as, words_called};
 pub use origin::{images_of, origin_beside, origin_of};
 pub use read::{config_of, is_set, order_of, read_command, read_lock, text_of, texts_of};
 pub use shared::{BIG_ENDIAN, CONFIG, DEVICE_LIST, IMAGE, NAMES, SCRIPT_FILE, SECOND, TEXT};
-pub use tables::{CAUSE_FAILURES_MAX, FAILURES_MAX};
+pub use tables::{ALTERNATIVES_MAX, CAUSE_FAILURES_MAX, FAILURES_MAX};
 pub use version::VERSION;

@@ -118,6 +118,8 @@ A line of the device list is one of these:
   call NAME WORD .. : CLAUSE ..   its calls that fit these words
   absent NAME         one that the board does not have, so it always fails
   known NAME          env, itest or setexpr, computed from the words of a call
+  given VAR=VALUE     a variable of the environment before the run
+  before VAR          the text of VAR runs first, as that of preboot does
 
 They go together as in 'final steady sub NAME WORD VAR=VALUE'. In a sub line,
 @1=VALUE or @last=VALUE sets the variable that a word of the call names. In a
@@ -125,7 +127,9 @@ call line, a word that ends with * is any that starts so, and a last ** any
 number of words; the clauses are final, steady, always 0 (it succeeds), always 1
 (it fails), VAR=VALUE, and VAR=@N for the Nth word. The line 'steady test' is
 about 'test -e'. With --steady each command and 'test -e' is steady, whatever
-the list says. Lines that begin with # are skipped.
+the list says. Lines given of one VAR with other values are alternatives, each
+with each of another VAR, and --given K is the Kth. Lines that begin with # are
+skipped.
 
 Examples:
   ubtool rehearse -d devices.txt
@@ -133,6 +137,7 @@ Examples:
   ubtool rehearse -d devices.txt --limit 20 --after 0110
   ubtool rehearse -d devices.txt --word 0110 bootargs
   ubtool rehearse -d devices.txt --steady --failures 1
+  ubtool rehearse -d devices.txt --given 2
   ubtool rehearse --text env.txt -d devices.txt
   ubtool rehearse --script boot.scr --text env.txt -d devices.txt
 ";
@@ -165,7 +170,9 @@ Numbers count from 1, where a run begins, and a word leads from line to line:
   NUMBER ask WORDS success NUMBER failure NUMBER
   NUMBER ends ENDING
 
-The image is read and never written.
+If lines given of the device list have several values for a variable, the report
+has the lines of each alternative, behind a line given NAME=VALUE ..; --given K
+takes one. The image is read and never written.
 
 Examples:
   ubtool endings -d devices.txt
@@ -194,8 +201,10 @@ too, cut devices or cut steps.
 
 With --check the endings that boot are left out, and the status is 1 if another
 is left. Status 0 says: whatever N answers are failures, this board boots. With
---steady it says: whatever N facts of the board are not so, it boots. The image
-is read and never written.
+--steady it says: whatever N facts of the board are not so, it boots. If lines
+given of the device list have several values for a variable, the report has the
+lines of each alternative, behind a line given NAME=VALUE ..; --given K takes
+one. The image is read and never written.
 
 Examples:
   ubtool causes -d devices.txt

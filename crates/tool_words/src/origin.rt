@@ -4,7 +4,7 @@ ghost use Rattle.clap.specs.Words.{found_of, rows_of};
 ghost use Rattle.tool_words.specs.Asked.{images_asked, inputs_asked, named_beside, named_by, named_in, origin_asked, origin_beside};
 ghost use Rattle.tool_words.specs.CommandAnswers.{SaysInputs, SaysOrigin};
 
-use crate::ask::{DEFAULT_CONFIG, Inputs, Origin, OriginError, UseError};
+use crate::ask::{DEFAULT_CONFIG, Inputs, Origin, OriginError, Taking, UseError};
 use crate::read::{is_set, order_of, text_of};
 use clap::ArgMatches;
 use envimage::ByteOrder;
@@ -133,14 +133,15 @@ pub fn origin_beside(alloc: Global, matches: &ArgMatches<'_>) -> Result<Origin, 
     )
 }
 
-/// What a rehearsal reads, with this device list. Errors: `ScriptAndVariable`, and those of `origin_beside`, each a
+/// What a rehearsal reads, with this device list, which is taken so. Errors: `ScriptAndVariable`, and those of `origin_beside`, each a
 /// `Misnamed`; `Memory`.
 pub(crate) fn inputs_of(
     alloc: Global,
     matches: &ArgMatches<'_>,
     device_list: String,
+    taking: Taking,
 ) -> Result<Inputs, UseError>
-    ensures { SaysInputs (inputs_asked (string_bytes device_list) (rows_of (found_of matches.now)))
+    ensures { SaysInputs (inputs_asked (string_bytes device_list) taking (rows_of (found_of matches.now)))
         result }
 {
     let script = text_of(alloc, matches, "script")?;
@@ -151,7 +152,7 @@ pub(crate) fn inputs_of(
     Ok(Inputs {
         origin: origin_beside(alloc, matches)?,
         device_list,
-        steady: is_set(matches, "steady"),
+        taking,
         script,
     })
 }

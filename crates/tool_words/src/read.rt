@@ -4,7 +4,7 @@ ghost use Rattle.rehearse_terms.specs.Asking.{page_of};
 ghost use Rattle.rehearse_terms.specs.Asking.{HasRoom};
 ghost use Rattle.clap.specs.Words.{Text, first_of, found_of, rows_of, subcommand_rows_of};
 ghost use Rattle.envimage.specs.declared.image.ByteOrder.{ByteOrder as Order};
-ghost use Rattle.tool_words.specs.Asked.{OriginShown, asked_of, bounds_or, cause_bounds_asked, causes_asked, config_of, endings_asked, fill_of, has_no_folder, image_asked, inspect_asked, is_set, lock_of, number_given, number_of, number_within, order_of, page_asked, print_asked, rehearse_asked, script_asked, set_asked, size_of, values_of, variable_named, variable_of, wanted_asked, wanted_by};
+ghost use Rattle.tool_words.specs.Asked.{OriginShown, asked_of, bounds_or, cause_bounds_asked, causes_asked, config_of, endings_asked, fill_of, has_no_folder, image_asked, inspect_asked, is_set, list_asked, lock_of, number_given, number_of, number_within, order_of, page_asked, print_asked, rehearse_asked, script_asked, set_asked, size_of, values_of, variable_named, variable_of, wanted_asked, wanted_by};
 ghost use Rattle.rehearse_terms.specs.WantedShown.{wanted_strings};
 ghost use Rattle.tool_words.specs.declared.ask.UseError.TheVariants.{Memory};
 ghost use Rattle.tool_words.specs.CommandAnswers.{Answers, IsUnread, NamesLock, Says, SaysWanted, change_of};
@@ -13,14 +13,14 @@ use crate::answer::{Answer, parse};
 use crate::ask::{
     Ask, CausesAsk, Change, DEFAULT_CAUSE_FAILURES, DEFAULT_CONFIG, DEFAULT_DEVICES,
     DEFAULT_RUN_DEVICES, DEFAULT_RUN_STEPS, DEFAULT_STATES, DEFAULT_STEPS, DEFAULT_VARIABLE,
-    EndingsAsk, ImageAsk, PrintAsk, RehearseAsk, UseError,
+    EndingsAsk, ImageAsk, PrintAsk, RehearseAsk, Taking, UseError,
 };
 use crate::called::CalledAs;
 use crate::command::ubtool_for;
 use crate::number::{any_number, byte_of};
 use crate::origin::{images_of, inputs_of, origin_of};
 use crate::shell::{shell_of, unnamed, wanted_in_shell};
-use crate::{CAUSE_FAILURES_MAX, FAILURES_MAX};
+use crate::{ALTERNATIVES_MAX, CAUSE_FAILURES_MAX, FAILURES_MAX};
 use clap::ArgMatches;
 use clap::error::ErrorKind;
 use envimage::ByteOrder;
@@ -340,16 +340,39 @@ fn wanted(
     }
 }
 
+/// The path of the device list, and how it is taken; `None` if the number of the alternative is not one
+/// of 1 to 64. Errors: memory ran out.
+fn list_asked(
+    alloc: Global,
+    matches: &ArgMatches<'_>,
+) -> Result<Option<(String, Taking)>, AllocError>
+    ensures { IfOk result (λ list. option_map (λ l. (string_bytes l.0, l.1)) list
+        ≡ list_asked (rows_of (found_of matches.now))) }
+{
+    let Some(path) = text_of(alloc, matches, "device-list")? else {
+        return Ok(None);
+    };
+    let Some(alternative) = number_within(matches, "given", 1, ALTERNATIVES_MAX) else {
+        return Ok(None);
+    };
+    let steady = is_set(matches, "steady");
+    let taking = Taking {
+        steady,
+        alternative,
+    };
+    Ok(Some((path, taking)))
+}
+
 fn rehearse_ask(alloc: Global, matches: &ArgMatches<'_>) -> Result<Ask, UseError>
     ensures { Says (rehearse_asked (rows_of (found_of matches.now))) result }
 {
     let Some(shell) = shell_of(matches) else {
         return Err(unnamed(alloc, matches));
     };
-    let list = text_of(alloc, matches, "device-list")?;
+    let list = list_asked(alloc, matches)?;
     let page = page_asked(matches);
     let failures = number_within(matches, "failures", 0, FAILURES_MAX);
-    let (Some(devices_file), Some(page), Some(failures)) = (list, page, failures) else {
+    let (Some((path, taking)), Some(page), Some(failures)) = (list, page, failures) else {
         return Err(unread(alloc));
     };
     let wanted = match wanted(alloc, matches, page, failures) {
@@ -357,7 +380,7 @@ fn rehearse_ask(alloc: Global, matches: &ArgMatches<'_>) -> Result<Ask, UseError
         Err(error) => return Err(error),
     };
     Ok(Ask::Rehearse {
-        inputs: inputs_of(alloc, matches, devices_file)?,
+        inputs: inputs_of(alloc, matches, path, taking)?,
         what: RehearseAsk {
             name: variable_of(alloc, matches)?,
             wanted: wanted_in_shell(wanted, shell),
@@ -373,14 +396,14 @@ fn endings_ask(alloc: Global, matches: &ArgMatches<'_>) -> Result<Ask, UseError>
     let Some(shell) = shell_of(matches) else {
         return Err(unnamed(alloc, matches));
     };
-    let list = text_of(alloc, matches, "device-list")?;
+    let list = list_asked(alloc, matches)?;
     let bounds = bounds_or(matches, DEFAULT_RUN_DEVICES, DEFAULT_RUN_STEPS);
     let states = number_within(matches, "states", 0, u32::MAX);
-    let (Some(devices_file), Some(bounds), Some(states)) = (list, bounds, states) else {
+    let (Some((path, taking)), Some(bounds), Some(states)) = (list, bounds, states) else {
         return Err(unread(alloc));
     };
     Ok(Ask::Endings {
-        inputs: inputs_of(alloc, matches, devices_file)?,
+        inputs: inputs_of(alloc, matches, path, taking)?,
         what: EndingsAsk {
             name: variable_of(alloc, matches)?,
             bounds: bounds.in_shell(shell),
@@ -408,12 +431,12 @@ fn causes_ask(alloc: Global, matches: &ArgMatches<'_>) -> Result<Ask, UseError>
     let Some(shell) = shell_of(matches) else {
         return Err(unnamed(alloc, matches));
     };
-    let list = text_of(alloc, matches, "device-list")?;
-    let (Some(devices_file), Some(bounds)) = (list, cause_bounds(matches)) else {
+    let list = list_asked(alloc, matches)?;
+    let (Some((path, taking)), Some(bounds)) = (list, cause_bounds(matches)) else {
         return Err(unread(alloc));
     };
     Ok(Ask::Causes {
-        inputs: inputs_of(alloc, matches, devices_file)?,
+        inputs: inputs_of(alloc, matches, path, taking)?,
         what: CausesAsk {
             name: variable_of(alloc, matches)?,
             bounds: bounds.in_shell(shell),

@@ -15,6 +15,9 @@ pub const FAILURES_MAX: u32 = 32;
 /// The most device commands that may fail in a run that `causes` looks at.
 pub const CAUSE_FAILURES_MAX: u32 = 3;
 
+/// The greatest number of alternatives that a device list may have.
+pub const ALTERNATIVES_MAX: u32 = 64;
+
 /// The option that names the folder of the lock, as `printenv` has it.
 const LOCK: Argument<'static> = Argument {
     id: "lock",
@@ -143,6 +146,17 @@ const STEADY: Argument<'static> = Argument {
     help: "Each question has one answer in a run, as if each line said steady [default: as the list says]",
 };
 
+/// The alternative of a device list.
+const GIVEN: Argument<'static> = Argument {
+    id: "given",
+    form: Form::Number(1, ALTERNATIVES_MAX),
+    letter: None,
+    alias: None,
+    required: false,
+    value: "K",
+    help: "The Kth alternative of the list's given lines, 1 to 64 [default: a list has one]",
+};
+
 const VARIABLE: Argument<'static> = Argument {
     id: "variable",
     form: Form::Value,
@@ -225,7 +239,7 @@ const LIMIT: Argument<'static> = Argument {
     help: "At most N records, 1 to 4294967295 [default: all]",
 };
 
-const REHEARSE: [Argument<'static>; 17] = [
+const REHEARSE: [Argument<'static>; 18] = [
     CONFIG,
     IMAGE,
     SECOND,
@@ -233,6 +247,7 @@ const REHEARSE: [Argument<'static>; 17] = [
     BIG_ENDIAN,
     DEVICE_LIST,
     STEADY,
+    GIVEN,
     VARIABLE,
     SCRIPT_FILE,
     DEVICES,
@@ -268,7 +283,7 @@ const FLOW: Argument<'static> = Argument {
     help: "Write the states as a graph, a line each",
 };
 
-const ENDINGS: [Argument<'static>; 15] = [
+const ENDINGS: [Argument<'static>; 16] = [
     CONFIG,
     IMAGE,
     SECOND,
@@ -276,6 +291,7 @@ const ENDINGS: [Argument<'static>; 15] = [
     BIG_ENDIAN,
     DEVICE_LIST,
     STEADY,
+    GIVEN,
     VARIABLE,
     SCRIPT_FILE,
     Argument {
@@ -305,7 +321,7 @@ const CHECK: Argument<'static> = Argument {
     help: "Only what does not boot; status 1 if there is any",
 };
 
-const CAUSES: [Argument<'static>; 14] = [
+const CAUSES: [Argument<'static>; 15] = [
     CONFIG,
     IMAGE,
     SECOND,
@@ -313,6 +329,7 @@ const CAUSES: [Argument<'static>; 14] = [
     BIG_ENDIAN,
     DEVICE_LIST,
     STEADY,
+    GIVEN,
     VARIABLE,
     SCRIPT_FILE,
     Argument {
