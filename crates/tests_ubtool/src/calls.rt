@@ -15,7 +15,7 @@ use tool_files::MemoryFiles;
 use tool_images::{Edit, PrintAsk, ToolError, print_bytes, run_input, set_bytes};
 use tool_steps::Build;
 use tool_words::CalledAs;
-use ubtool::{DeviceText, RehearsalError, rehearse_bytes, run_tool};
+use ubtool::{DeviceText, RehearsalError, Taking, rehearse_bytes, run_tool};
 
 pub(crate) fn crc(bytes: &[u8]) -> u32 {
     crc32(bytes)
@@ -113,7 +113,10 @@ pub(crate) fn rehearse(
     let second = case.second.as_ref().map(|bytes| bytes.as_slice());
     let list = DeviceText {
         text: b"load",
-        steady: false,
+        taking: Taking {
+            steady: false,
+            alternative: None,
+        },
     };
     Ok(rehearse_bytes(case.alloc, &case.first, second, case.order, list, &ask, out))
 }

@@ -11,7 +11,8 @@ use Rattle.rehearse_terms.specs.Bounds.{BoundsShown, bounds_of, in_shell}
 use Rattle.rehearse_terms.specs.declared.shell.Shell.{Shell}
 use Rattle.tool_words.specs.CommandAnswers.{Answers, asked, meaning_of}
 use Rattle.tool_words.specs.Called.{is_tool}
-use Rattle.tool_words.specs.Asked.{Asked, asked_of, bounds_asked, cause_bounds_asked, causes_asked, causes_with, causing, change_asked, ending, endings_asked, endings_with, fill_of, has_no_folder, header_needs_one, image_asked, image_with, images_asked, input_scripted, inputs_asked, inspect_asked, inspecting, is_set, listing_asked, lock_needs_folder, making_asked, number_within, of_named, one_copy, order_of, origin_asked, page_asked, print_asked, print_form, printing, printing_asked, rehearsal_of, rehearsal_with, rehearse_asked, rehearsing, run_bounds_asked, script_asked, scripted, set_asked, setting, shell_of, size_of, too_many_devices, usual_states, values_of, variable_of, wanted_by, word_alone, word_asked}
+use Rattle.tool_words.specs.declared.ask.Taking.{Taking}
+use Rattle.tool_words.specs.Asked.{Asked, asked_of, bounds_asked, cause_bounds_asked, causes_asked, causes_with, causing, change_asked, ending, endings_asked, endings_with, fill_of, has_no_folder, header_needs_one, image_asked, image_with, images_asked, input_scripted, inputs_asked, inspect_asked, inspecting, is_set, list_asked, listing_asked, lock_needs_folder, making_asked, number_within, of_named, one_copy, order_of, origin_asked, page_asked, print_asked, print_form, printing, printing_asked, rehearsal_of, rehearsal_with, rehearse_asked, rehearsing, run_bounds_asked, script_asked, scripted, set_asked, setting, shell_of, size_of, too_many_devices, usual_states, values_of, variable_of, wanted_by, word_alone, word_asked}
 use Rattle.tool_words.specs.CommandLine.{most_failures, most_states, ubtool}
 use Rattle.tool_words.specs.declared.ask.OriginError.{OriginError}
 use Rattle.tool_words.specs.declared.called.CalledAs.{CalledAs}
@@ -56,43 +57,43 @@ set-fit called None (Some name) rows =
     named-fit (images_asked rows) (λ origin. setting origin name (values_of (codes "values") rows) (order_of rows) (one_copy rows)) (λ origin. tt)
 set-fit called None None rows = tt
 
-rehearsal-fit : (list : Text) (shell : Shell) (rows : List Row) (within : BoundsShown × Wanted) → IsFit (Some (rehearsal_of list shell rows (Ok within)))
-rehearsal-fit list shell rows within = named-fit (inputs_asked list rows) (λ inputs. rehearsing inputs (record {
+rehearsal-fit : (list : Text × Taking) (shell : Shell) (rows : List Row) (within : BoundsShown × Wanted) → IsFit (Some (rehearsal_of list shell rows (Ok within)))
+rehearsal-fit list shell rows within = named-fit (inputs_asked list.0 list.1 rows) (λ inputs. rehearsing inputs (record {
   variable = variable_of rows;
   bounds = in_shell shell within.0;
   wanted = within.1;
   names = values_of (codes "names") rows;
 }) (order_of rows)) (λ inputs. tt)
 
-listing-fit : (list : Text) (shell : Shell) (rows : List Row) (after : Option Text) (page : Page) (narrow : Option BoundsShown)
+listing-fit : (list : Text × Taking) (shell : Shell) (rows : List Row) (after : Option Text) (page : Page) (narrow : Option BoundsShown)
     → IsFit (Some (rehearsal_of list shell rows (elim narrow [ Some within ↦ Ok (within, Listed after page) | None ↦ Err too_many_devices ])))
 listing-fit list shell rows after page (Some within) = rehearsal-fit list shell rows (within, Listed after page)
 listing-fit list shell rows after page None = tt
 
-narrow-fit : (list : Text) (shell : Shell) (rows : List Row) (after : Option Text) (page : Page) (failures : Option ℕ) (bounds : Option BoundsShown) → IsFit (option_map (rehearsal_of list shell rows) (option_map (listing_asked after page failures) bounds))
+narrow-fit : (list : Text × Taking) (shell : Shell) (rows : List Row) (after : Option Text) (page : Page) (failures : Option ℕ) (bounds : Option BoundsShown) → IsFit (option_map (rehearsal_of list shell rows) (option_map (listing_asked after page failures) bounds))
 narrow-fit list shell rows after page failures (Some bounds) = listing-fit list shell rows after page (bounds_of bounds.devices bounds.steps failures)
 narrow-fit list shell rows after page failures None = tt
 
-word-fit : (list : Text) (shell : Shell) (rows : List Row) (word : Text) (bounds : BoundsShown) (beside : Bool) → IsFit (Some (rehearsal_of list shell rows (if beside then Err word_alone else Ok (bounds, Alone word))))
+word-fit : (list : Text × Taking) (shell : Shell) (rows : List Row) (word : Text) (bounds : BoundsShown) (beside : Bool) → IsFit (Some (rehearsal_of list shell rows (if beside then Err word_alone else Ok (bounds, Alone word))))
 word-fit list shell rows word bounds true = tt
 word-fit list shell rows word bounds false = rehearsal-fit list shell rows (bounds, Alone word)
 
-wide-fit : (list : Text) (shell : Shell) (rows : List Row) (word : Text) (after : Option Text) (page : Page) (failures : Option ℕ) (bounds : Option BoundsShown) → IsFit (option_map (rehearsal_of list shell rows) (option_map (word_asked word after page failures) bounds))
+wide-fit : (list : Text × Taking) (shell : Shell) (rows : List Row) (word : Text) (after : Option Text) (page : Page) (failures : Option ℕ) (bounds : Option BoundsShown) → IsFit (option_map (rehearsal_of list shell rows) (option_map (word_asked word after page failures) bounds))
 wide-fit list shell rows word after page failures (Some bounds) = word-fit list shell rows word bounds (is_some after || is_some page.limit || is_some failures)
 wide-fit list shell rows word after page failures None = tt
 
-wanted-fit : (list : Text) (shell : Shell) (word after : Option Text) (page : Page) (failures : Option ℕ) (rows : List Row) → IsFit (option_map (rehearsal_of list shell rows) (wanted_by word after page failures rows))
+wanted-fit : (list : Text × Taking) (shell : Shell) (word after : Option Text) (page : Page) (failures : Option ℕ) (rows : List Row) → IsFit (option_map (rehearsal_of list shell rows) (wanted_by word after page failures rows))
 wanted-fit list shell None after page failures rows = narrow-fit list shell rows after page failures (bounds_asked rows)
 wanted-fit list shell (Some word) after page failures rows = wide-fit list shell rows word after page failures (run_bounds_asked rows)
 
-rehearse-fit : (list : Option Text) (page : Option Page) (failures : Option (Option ℕ)) (shell : Shell) (rows : List Row) → IsFit (rehearsal_with list page failures shell rows)
+rehearse-fit : (list : Option (Text × Taking)) (page : Option Page) (failures : Option (Option ℕ)) (shell : Shell) (rows : List Row) → IsFit (rehearsal_with list page failures shell rows)
 rehearse-fit (Some list) (Some page) (Some failures) shell rows = wanted-fit list shell (first_of (codes "word") rows) (first_of (codes "after") rows) page failures rows
 rehearse-fit None page failures shell rows = tt
 rehearse-fit (Some list) None failures shell rows = tt
 rehearse-fit (Some list) (Some page) None shell rows = tt
 
-endings-fit : (list : Option Text) (bounds : Option BoundsShown) (states : Option (Option ℕ)) (shell : Shell) (rows : List Row) → IsFit (endings_with list bounds states shell rows)
-endings-fit (Some list) (Some bounds) (Some states) shell rows = named-fit (inputs_asked list rows) (λ inputs. ending inputs (record {
+endings-fit : (list : Option (Text × Taking)) (bounds : Option BoundsShown) (states : Option (Option ℕ)) (shell : Shell) (rows : List Row) → IsFit (endings_with list bounds states shell rows)
+endings-fit (Some list) (Some bounds) (Some states) shell rows = named-fit (inputs_asked list.0 list.1 rows) (λ inputs. ending inputs (record {
   variable = variable_of rows;
   bounds = in_shell shell bounds;
   states = unwrap_or states usual_states;
@@ -103,8 +104,8 @@ endings-fit None bounds states shell rows = tt
 endings-fit (Some list) None states shell rows = tt
 endings-fit (Some list) (Some bounds) None shell rows = tt
 
-causes-fit : (list : Option Text) (bounds : Option BoundsShown) (shell : Shell) (rows : List Row) → IsFit (causes_with list bounds shell rows)
-causes-fit (Some list) (Some bounds) shell rows = named-fit (inputs_asked list rows) (λ inputs. causing inputs (record {
+causes-fit : (list : Option (Text × Taking)) (bounds : Option BoundsShown) (shell : Shell) (rows : List Row) → IsFit (causes_with list bounds shell rows)
+causes-fit (Some list) (Some bounds) shell rows = named-fit (inputs_asked list.0 list.1 rows) (λ inputs. causing inputs (record {
   variable = variable_of rows;
   bounds = in_shell shell bounds;
   check = is_set (codes "check") rows;
@@ -135,7 +136,7 @@ asked-fit called words = found-fit (subcommand_of ubtool words) (λ s. asked_of 
         (λ is. named-fit (origin_asked rows) (λ origin. printing origin (print_form rows) names (order_of rows) (one_copy rows)) (λ origin h. let none : ⊥ = cc in absurd none))) in
         let set = either-asked (has_no_folder rows) lock_needs_folder (change_asked called (first_of (codes "script") rows) (first_of (codes "name") rows) rows) tt
         (set-fit called (first_of (codes "script") rows) (first_of (codes "name") rows) rows) in
-        let list = first_of (codes "device-list") rows in
+        let list = list_asked rows in
         let failures = number_within 0 most_failures (codes "failures") rows in
         let states = number_within 0 most_states (codes "states") rows in
         let rehearsed = found-fit (shell_of rows) (λ shell. rehearsal_with list (page_asked rows) failures shell rows)

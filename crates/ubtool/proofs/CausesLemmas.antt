@@ -1,5 +1,5 @@
 -- Reporting what has to fail for the endings of what was read.
-use Rattle.std.proofs.Common.{Bool, refl, IfOk, IfErr, Ok, Err}
+use Rattle.std.proofs.Common.{Bool, refl, ap, IfOk, IfErr, Ok, Err}
 use Rattle.std.specs.Prelude.{Result}
 use Rattle.output.specs.Sink.{Sink}
 use Rattle.envimage.specs.declared.image.ByteOrder.{ByteOrder}
@@ -10,6 +10,8 @@ use Rattle.ubtool.specs.Given.{FromFiles, Given, given_by, script_of}
 use Rattle.ubtool.specs.declared.rehearsal_error.RehearsalError.{RehearsalError}
 use Rattle.rehearse_rules.specs.declared.rehearse_error.RehearseError.TheVariants as rehearsal
 use Rattle.ubtool.specs.declared.rehearsal_error.RehearsalError.TheVariants as refused
+use Rattle.ubtool.proofs.CausesTurnLemmas.{broken-counted, image-untouched, never, rehearsal-untouched, start-untouched, untouched}
+use Rattle.ubtool.specs.RehearsingFiles.{LeavesOutput}
 use Rattle.tool_files.specs.Told.{Told}
 use Rattle.tool_steps.proofs.SourceLemmas.{only-read, so-of-sources}
 use Rattle.ubtool.specs.CausesOfFiles.{TellsCausesFrom, TellsCausesOfCopies, causes_refusal, runs_asked}
@@ -24,23 +26,24 @@ use Rattle.tool_steps.specs.declared.sources.Sources.{Sources}
 -- ---- the causes of what was read
 
 module _ (order : ByteOrder) (inputs : InputsShown) (what : CausesAsk) (out out' : Sink) (sources : Sources) (x z : Told) (read : ReadsSources inputs x z (Ok sources)) where
-  from-files : (IsSo : Given → Type 0) → IsSo (given_by order (copies sources.images) sources.device_list.items inputs.steady (script_of sources) (runs_asked what)) → FromFiles order inputs (runs_asked what) x z IsSo
-  from-files IsSo so = so-of-sources inputs sources x z (λ copies bytes script. IsSo (given_by order copies bytes inputs.steady script (runs_asked what))) read so
+  from-files : (IsSo : Given → Type 0) → IsSo (given_by order (copies sources.images) sources.device_list.items inputs.taking (script_of sources) (runs_asked what)) → FromFiles order inputs (runs_asked what) x z IsSo
+  from-files IsSo so = so-of-sources inputs sources x z (λ copies bytes script. IsSo (given_by order copies bytes inputs.taking script (runs_asked what))) read so
 
-  pub causes-found : (fine : Bool) → TellsCausesOfCopies (given_by order (copies sources.images) sources.device_list.items inputs.steady (script_of sources) (runs_asked what)) what.check out out' (Ok fine)
+  pub causes-found : (fine : Bool) → TellsCausesOfCopies (given_by order (copies sources.images) sources.device_list.items inputs.taking (script_of sources) (runs_asked what)) what.check out out' (Ok fine)
       → TellsCausesFrom order inputs what out out' x z (Ok fine)
   causes-found fine h = from-files (λ g. TellsCauses g what.check out out' fine) h
 
-  pub causes-refused : (error : RehearsalError) → TellsCausesOfCopies (given_by order (copies sources.images) sources.device_list.items inputs.steady (script_of sources) (runs_asked what)) what.check out out' (Err error)
+  pub causes-refused : (error : RehearsalError) → TellsCausesOfCopies (given_by order (copies sources.images) sources.device_list.items inputs.taking (script_of sources) (runs_asked what)) what.check out out' (Err error)
       → TellsCausesFrom order inputs what out out' x z (Err (causes_refusal what error))
   causes-refused (refused.Image error) h = from-files (λ g. RefusesCauses g what.check out out' (refused.Image error)) h
   causes-refused (refused.Rehearsal (rehearsal.DeviceList error)) h = from-files (λ g. RefusesCauses g what.check out out' (refused.Rehearsal (rehearsal.DeviceList error))) h
   causes-refused (refused.Rehearsal rehearsal.NoSuchVariable) h = (refl, from-files (λ g. RefusesCauses g what.check out out' (refused.Rehearsal rehearsal.NoSuchVariable)) h)
-  causes-refused (refused.Rehearsal rehearsal.NotARun) h = absurd h
-  causes-refused (refused.Rehearsal rehearsal.Write) h = absurd h
-  causes-refused (refused.Rehearsal rehearsal.Memory) h = absurd h
-  causes-refused (refused.Rehearsal rehearsal.Failed) h = absurd h
-  causes-refused (refused.Rehearsal rehearsal.States) h = absurd h
+  causes-refused (refused.Rehearsal rehearsal.NotARun) h = absurd (never (given_by order (copies sources.images) sources.device_list.items inputs.taking (script_of sources) (runs_asked what)) what.check out out' rehearsal.NotARun (λ g no. no) h)
+  causes-refused (refused.Rehearsal rehearsal.Write) h = absurd (never (given_by order (copies sources.images) sources.device_list.items inputs.taking (script_of sources) (runs_asked what)) what.check out out' rehearsal.Write (λ g no. no) h)
+  causes-refused (refused.Rehearsal rehearsal.Memory) h = absurd (never (given_by order (copies sources.images) sources.device_list.items inputs.taking (script_of sources) (runs_asked what)) what.check out out' rehearsal.Memory (λ g no. no) h)
+  causes-refused (refused.Rehearsal rehearsal.Failed) h = absurd (never (given_by order (copies sources.images) sources.device_list.items inputs.taking (script_of sources) (runs_asked what)) what.check out out' rehearsal.Failed (λ g no. no) h)
+  causes-refused (refused.Rehearsal rehearsal.States) h = absurd (never (given_by order (copies sources.images) sources.device_list.items inputs.taking (script_of sources) (runs_asked what)) what.check out out' rehearsal.States (λ g no. no) h)
+  causes-refused (refused.Start error) h = from-files (λ g. RefusesCauses g what.check out out' (refused.Start error)) h
   causes-refused refused.Write h = from-files (λ g. RefusesCauses g what.check out out' refused.Write) h
   causes-refused refused.Memory h = (only-read inputs sources x z read, h)
 
@@ -50,8 +53,23 @@ pub causes-told : (g : Given) (check : Bool) (out out' : Sink) (r : Result Bool 
 causes-told g check out out' (Ok fine) ok err = ok
 causes-told g check out out' (Err (refused.Image error)) ok err = err
 causes-told g check out out' (Err (refused.Rehearsal error)) ok err = err
+causes-told g check out out' (Err (refused.Start error)) ok err = err
 causes-told g check out out' (Err refused.Write) ok err = err
-causes-told g check out out' (Err refused.Memory) ok err = err.1
+causes-told g check out out' (Err refused.Memory) ok err = untouched g check out out' err
+
+-- what it leaves of the output
+pub leaves-refused : (g : Given) (what : CausesAsk) (out out' : Sink) (error : RehearsalError) → TellsCausesOfCopies g what.check out out' (Err error) → LeavesOutput (Err (causes_refusal what error)) out out'
+leaves-refused g what out out' (refused.Image error) h = image-untouched g what.check out out' error h
+leaves-refused g what out out' (refused.Rehearsal (rehearsal.DeviceList error)) h = rehearsal-untouched g what.check out out' (rehearsal.DeviceList error) h
+leaves-refused g what out out' (refused.Rehearsal rehearsal.NotARun) h = rehearsal-untouched g what.check out out' rehearsal.NotARun h
+leaves-refused g what out out' (refused.Rehearsal rehearsal.Write) h = rehearsal-untouched g what.check out out' rehearsal.Write h
+leaves-refused g what out out' (refused.Rehearsal rehearsal.Memory) h = rehearsal-untouched g what.check out out' rehearsal.Memory h
+leaves-refused g what out out' (refused.Rehearsal rehearsal.Failed) h = rehearsal-untouched g what.check out out' rehearsal.Failed h
+leaves-refused g what out out' (refused.Rehearsal rehearsal.States) h = rehearsal-untouched g what.check out out' rehearsal.States h
+leaves-refused g what out out' (refused.Rehearsal rehearsal.NoSuchVariable) h = rehearsal-untouched g what.check out out' rehearsal.NoSuchVariable h
+leaves-refused g what out out' (refused.Start error) h = start-untouched g what.check out out' error h
+leaves-refused g what out out' refused.Write h = broken-counted g what.check out out' h
+leaves-refused g what out out' refused.Memory h = ap (λ (s : Sink). s.failures) h
 
 -- ---- a read is refused
 

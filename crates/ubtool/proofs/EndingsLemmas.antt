@@ -1,5 +1,5 @@
 -- Reporting how the runs of what was read end.
-use Rattle.std.proofs.Common.{◌≡◌, ℕ, Bool, refl, List, IfOk, IfErr, Ok, Err}
+use Rattle.std.proofs.Common.{◌≡◌, ℕ, Bool, refl, ap, List, IfOk, IfErr, Ok, Err}
 use Rattle.std.specs.Prelude.{Result}
 use Rattle.output.specs.Sink.{Sink}
 use Rattle.envimage.specs.declared.image.ByteOrder.{ByteOrder}
@@ -11,6 +11,8 @@ use Rattle.ubtool.specs.Given.{FromFiles, Given, all_runs, given_by, script_of}
 use Rattle.ubtool.specs.declared.rehearsal_error.RehearsalError.{RehearsalError}
 use Rattle.rehearse_rules.specs.declared.rehearse_error.RehearseError.TheVariants as rehearsal
 use Rattle.ubtool.specs.declared.rehearsal_error.RehearsalError.TheVariants as refused
+use Rattle.ubtool.proofs.EndingsTurnLemmas.{broken-counted, image-untouched, never, rehearsal-untouched, start-untouched, untouched}
+use Rattle.ubtool.specs.RehearsingFiles.{LeavesOutput}
 use Rattle.tool_files.specs.Told.{Told}
 use Rattle.tool_steps.proofs.SourceLemmas.{only-read, so-of-sources}
 use Rattle.ubtool.specs.EndingsOfFiles.{TellsCopies, TellsFrom, all_asked, endings_refusal}
@@ -25,19 +27,20 @@ use Rattle.tool_steps.specs.declared.sources.Sources.{Sources}
 -- ---- the endings of what was read
 
 module _ (order : ByteOrder) (inputs : InputsShown) (what : EndingsAsk) (out out' : Sink) (sources : Sources) (x z : Told) (read : ReadsSources inputs x z (Ok sources)) where
-  from-files : (IsSo : Given → Type 0) → IsSo (given_by order (copies sources.images) sources.device_list.items inputs.steady (script_of sources) (all_asked what)) → FromFiles order inputs (all_asked what) x z IsSo
-  from-files IsSo so = so-of-sources inputs sources x z (λ copies bytes script. IsSo (given_by order copies bytes inputs.steady script (all_asked what))) read so
+  from-files : (IsSo : Given → Type 0) → IsSo (given_by order (copies sources.images) sources.device_list.items inputs.taking (script_of sources) (all_asked what)) → FromFiles order inputs (all_asked what) x z IsSo
+  from-files IsSo so = so-of-sources inputs sources x z (λ copies bytes script. IsSo (given_by order copies bytes inputs.taking script (all_asked what))) read so
 
-  pub tells-refused : (error : RehearsalError) → TellsCopies (given_by order (copies sources.images) sources.device_list.items inputs.steady (script_of sources) (all_asked what)) what.flow what.states out out' (Err error)
+  pub tells-refused : (error : RehearsalError) → TellsCopies (given_by order (copies sources.images) sources.device_list.items inputs.taking (script_of sources) (all_asked what)) what.flow what.states out out' (Err error)
       → TellsFrom order inputs what out out' x z (Err (endings_refusal what error))
   tells-refused (refused.Image error) h = from-files (λ g. RefusesEndings g what.flow what.states out out' (refused.Image error)) h
   tells-refused (refused.Rehearsal (rehearsal.DeviceList error)) h = from-files (λ g. RefusesEndings g what.flow what.states out out' (refused.Rehearsal (rehearsal.DeviceList error))) h
   tells-refused (refused.Rehearsal rehearsal.NoSuchVariable) h = (refl, from-files (λ g. RefusesEndings g what.flow what.states out out' (refused.Rehearsal rehearsal.NoSuchVariable)) h)
-  tells-refused (refused.Rehearsal rehearsal.NotARun) h = absurd h
-  tells-refused (refused.Rehearsal rehearsal.Write) h = absurd h
-  tells-refused (refused.Rehearsal rehearsal.Memory) h = absurd h
-  tells-refused (refused.Rehearsal rehearsal.Failed) h = absurd h
+  tells-refused (refused.Rehearsal rehearsal.NotARun) h = absurd (never (given_by order (copies sources.images) sources.device_list.items inputs.taking (script_of sources) (all_asked what)) what.flow what.states out out' rehearsal.NotARun (λ g no. no) h)
+  tells-refused (refused.Rehearsal rehearsal.Write) h = absurd (never (given_by order (copies sources.images) sources.device_list.items inputs.taking (script_of sources) (all_asked what)) what.flow what.states out out' rehearsal.Write (λ g no. no) h)
+  tells-refused (refused.Rehearsal rehearsal.Memory) h = absurd (never (given_by order (copies sources.images) sources.device_list.items inputs.taking (script_of sources) (all_asked what)) what.flow what.states out out' rehearsal.Memory (λ g no. no) h)
+  tells-refused (refused.Rehearsal rehearsal.Failed) h = absurd (never (given_by order (copies sources.images) sources.device_list.items inputs.taking (script_of sources) (all_asked what)) what.flow what.states out out' rehearsal.Failed (λ g no. no) h)
   tells-refused (refused.Rehearsal rehearsal.States) h = from-files (λ g. RefusesEndings g what.flow what.states out out' (refused.Rehearsal rehearsal.States)) h
+  tells-refused (refused.Start error) h = from-files (λ g. RefusesEndings g what.flow what.states out out' (refused.Start error)) h
   tells-refused refused.Write h = from-files (λ g. RefusesEndings g what.flow what.states out out' refused.Write) h
   tells-refused refused.Memory h = (only-read inputs sources x z read, h)
 
@@ -47,8 +50,23 @@ pub copies-told : (g : Given) (flow : Bool) (states : ℕ) (out out' : Sink) (r 
 copies-told g flow states out out' (Ok done) ok err = ok
 copies-told g flow states out out' (Err (refused.Image error)) ok err = err
 copies-told g flow states out out' (Err (refused.Rehearsal error)) ok err = err
+copies-told g flow states out out' (Err (refused.Start error)) ok err = err
 copies-told g flow states out out' (Err refused.Write) ok err = err
-copies-told g flow states out out' (Err refused.Memory) ok err = err.1
+copies-told g flow states out out' (Err refused.Memory) ok err = untouched g flow states out out' err
+
+-- what it leaves of the output
+pub leaves-refused : (g : Given) (what : EndingsAsk) (out out' : Sink) (error : RehearsalError) → TellsCopies g what.flow what.states out out' (Err error) → LeavesOutput (Err (endings_refusal what error)) out out'
+leaves-refused g what out out' (refused.Image error) h = image-untouched g what.flow what.states out out' error h
+leaves-refused g what out out' (refused.Rehearsal (rehearsal.DeviceList error)) h = rehearsal-untouched g what.flow what.states out out' (rehearsal.DeviceList error) h
+leaves-refused g what out out' (refused.Rehearsal rehearsal.NoSuchVariable) h = rehearsal-untouched g what.flow what.states out out' rehearsal.NoSuchVariable h
+leaves-refused g what out out' (refused.Rehearsal rehearsal.NotARun) h = rehearsal-untouched g what.flow what.states out out' rehearsal.NotARun h
+leaves-refused g what out out' (refused.Rehearsal rehearsal.Write) h = rehearsal-untouched g what.flow what.states out out' rehearsal.Write h
+leaves-refused g what out out' (refused.Rehearsal rehearsal.Memory) h = rehearsal-untouched g what.flow what.states out out' rehearsal.Memory h
+leaves-refused g what out out' (refused.Rehearsal rehearsal.Failed) h = rehearsal-untouched g what.flow what.states out out' rehearsal.Failed h
+leaves-refused g what out out' (refused.Rehearsal rehearsal.States) h = rehearsal-untouched g what.flow what.states out out' rehearsal.States h
+leaves-refused g what out out' (refused.Start error) h = start-untouched g what.flow what.states out out' error h
+leaves-refused g what out out' refused.Write h = broken-counted g what.flow what.states out out' h
+leaves-refused g what out out' refused.Memory h = ap (λ (s : Sink). s.failures) h
 
 -- what is asked, from its parts
 pub same-runs : (variable variable' : List ℕ) (bounds : BoundsShown) (names names' : List (List ℕ)) → variable ≡ variable' → names ≡ names' → all_runs variable bounds names ≡ all_runs variable' bounds names'

@@ -1,7 +1,10 @@
 pub mod ImageRehearsalLemmas
 pub mod InspectLemmas
 pub mod GivenLemmas
-pub mod DeviceLemmas
+pub mod BeginningLemmas
+pub mod TurnLemmas
+pub mod EndingsTurnLemmas
+pub mod CausesTurnLemmas
 pub mod ImageEndingsLemmas
 pub mod ImageCausesLemmas
 pub mod AskLemmas

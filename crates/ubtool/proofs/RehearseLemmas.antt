@@ -35,10 +35,10 @@ asking_made variable bounds wanted names = record { variable = variable; bounds 
 -- ---- the rehearsal of what was read
 
 module _ (order : ByteOrder) (inputs : InputsShown) (what : RehearseAsk) (out out' : Sink) (sources : Sources) (x z : Told) (read : ReadsSources inputs x z (Ok sources)) where
-  from-files : (IsSo : Given → Type 0) → IsSo (given_by order (copies sources.images) sources.device_list.items inputs.steady (script_of sources) (asking_of what)) → FromFiles order inputs (asking_of what) x z IsSo
-  from-files IsSo so = so-of-sources inputs sources x z (λ copies bytes script. IsSo (given_by order copies bytes inputs.steady script (asking_of what))) read so
+  from-files : (IsSo : Given → Type 0) → IsSo (given_by order (copies sources.images) sources.device_list.items inputs.taking (script_of sources) (asking_of what)) → FromFiles order inputs (asking_of what) x z IsSo
+  from-files IsSo so = so-of-sources inputs sources x z (λ copies bytes script. IsSo (given_by order copies bytes inputs.taking script (asking_of what))) read so
 
-  pub rehearses-found : (finish : Finish) → RehearsesCopies (given_by order (copies sources.images) sources.device_list.items inputs.steady (script_of sources) (asking_of what)) out out' (Ok finish) → RehearsesFrom order inputs what out out' x z (Ok true)
+  pub rehearses-found : (finish : Finish) → RehearsesCopies (given_by order (copies sources.images) sources.device_list.items inputs.taking (script_of sources) (asking_of what)) out out' (Ok finish) → RehearsesFrom order inputs what out out' x z (Ok true)
   rehearses-found finish h = (refl, from-files (λ g. (f : Finish) × Rehearses g out out' f) (finish, h))
 
   no-run : (given : Option (String Global)) → wanted_word what.wanted ≡ given
@@ -46,7 +46,7 @@ module _ (order : ByteOrder) (inputs : InputsShown) (what : RehearseAsk) (out ou
   no-run None is h = h
   no-run (Some word) is h = (ap (option_map path_form) (sym is), h)
 
-  pub rehearses-refused : (error : RehearsalError) → RehearsesCopies (given_by order (copies sources.images) sources.device_list.items inputs.steady (script_of sources) (asking_of what)) out out' (Err error)
+  pub rehearses-refused : (error : RehearsalError) → RehearsesCopies (given_by order (copies sources.images) sources.device_list.items inputs.taking (script_of sources) (asking_of what)) out out' (Err error)
       → RehearsesFrom order inputs what out out' x z (Err (refusal_of what error))
   rehearses-refused (refused.Image error) h = from-files (λ g. Refuses g out out' (refused.Image error)) h
   rehearses-refused (refused.Rehearsal (rehearsal.DeviceList error)) h = from-files (λ g. Refuses g out out' (refused.Rehearsal (rehearsal.DeviceList error))) h
@@ -56,6 +56,7 @@ module _ (order : ByteOrder) (inputs : InputsShown) (what : RehearseAsk) (out ou
   rehearses-refused (refused.Rehearsal rehearsal.Memory) h = absurd h
   rehearses-refused (refused.Rehearsal rehearsal.Failed) h = absurd h
   rehearses-refused (refused.Rehearsal rehearsal.NotARun) h = no-run (wanted_word what.wanted) refl (from-files (λ g. Refuses g out out' (refused.Rehearsal rehearsal.NotARun)) h)
+  rehearses-refused (refused.Start error) h = from-files (λ g. Refuses g out out' (refused.Start error)) h
   rehearses-refused refused.Write h = from-files (λ g. Refuses g out out' refused.Write) h
   rehearses-refused refused.Memory h = inr (from-files (λ g. RunsOut g out out') h)
 
@@ -70,6 +71,7 @@ pub copies-rehearsed : (g : Given) (out out' : Sink) (r : Result Finish Rehearsa
 copies-rehearsed g out out' (Ok finish) ok err = ok
 copies-rehearsed g out out' (Err (refused.Image error)) ok err = err
 copies-rehearsed g out out' (Err (refused.Rehearsal error)) ok err = err
+copies-rehearsed g out out' (Err (refused.Start error)) ok err = err
 copies-rehearsed g out out' (Err refused.Write) ok err = err
 copies-rehearsed g out out' (Err refused.Memory) ok (inl same) = inl same.1
 copies-rehearsed g out out' (Err refused.Memory) ok (inr h) = inr h

@@ -57,6 +57,8 @@ TellsFrom order inputs what out out' old new (Err (NoSuchVariable name)) =
     (name ≡ path_form what.name) × FromFiles order inputs (all_asked what) old new (λ g.
     RefusesEndings g what.flow what.states out out' (refused.Rehearsal rehearsal.NoSuchVariable))
 TellsFrom order inputs what out out' old new (Err (program.NotARun word)) = ⊥
+TellsFrom order inputs what out out' old new (Err (program.Start error)) =
+    FromFiles order inputs (all_asked what) old new (λ g. RefusesEndings g what.flow what.states out out' (refused.Start error))
 TellsFrom order inputs what out out' old new (Err (program.Rehearsal error)) =
     FromFiles order inputs (all_asked what) old new (λ g.
     RefusesEndings g what.flow what.states out out' (refused.Rehearsal error))

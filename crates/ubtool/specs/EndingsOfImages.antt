@@ -1,43 +1,106 @@
--- How all runs of an image's variable or of a given text end, from the bytes of an image to the lines, and why this is refused. The
--- refusals come in the order of a rehearsal, and nothing is written before the lines. Ours.
-use Rattle.std.specs.Prelude.{◌≡◌, ℕ, Bool, List, Option, None, Err}
+-- How all runs of an image's variable or of a given text end, from the bytes of an image to the lines, and why this is
+-- refused. The refusals come in the order of a rehearsal, and nothing is written before the lines. If the device list has
+-- several alternatives and none is named, the lines are those of each in turn, each behind a line that tells it, and what
+-- refuses one of them refuses all. Ours.
+use Rattle.std.specs.Prelude.{◌≡◌, ◌<◌, ◌+◌, ℕ, Bool, List, length, Option, Some, None, Err}
 use Rattle.output.specs.Sink.{Sink, Wrote, BrokeOff}
 use Rattle.envimage.specs.declared.image.ByteOrder.{ByteOrder}
-use Rattle.device_list.specs.DeviceList.{listed}
+use Rattle.board_start.specs.Boards.{OfDevices, OfStart}
+use Rattle.ubtool.specs.Beginning.{OfBoard, OfImage, beginning_of}
+use Rattle.rehearse_terms.specs.Asking.{Asking}
 use Rattle.rehearse_terms.specs.State.{Text}
 use Rattle.rehearse_endings.specs.TellingEndings.{AreLines, HasMoreStates, names_of, source_of}
 use Rattle.rehearse_endings.specs.declared.telling.EndingsAsk.{EndingsAsk}
 use Rattle.rehearse_rules.specs.declared.rehearse_error.RehearseError.TheVariants.{DeviceList, NoSuchVariable, States}
+use Rattle.tool_words.specs.declared.ask.Taking.{Taking}
 use Rattle.ubtool.specs.Given.{Given, all_runs, given}
-use Rattle.tool_images.specs.PrintingImages.{environment_in}
-use Rattle.ubtool.specs.Headline.{HasDevices}
+use Rattle.ubtool.specs.Headline.{HasBoard}
 use Rattle.ubtool.specs.Refusing.{HasImage}
+use Rattle.ubtool.specs.Turns.{AreInTurn, named, turns_of}
 use Rattle.ubtool.specs.declared.rehearsal_error.RehearsalError.{RehearsalError}
-use Rattle.ubtool.specs.declared.rehearsal_error.RehearsalError.TheVariants.{Image, Rehearsal, Write, Memory}
+use Rattle.ubtool.specs.declared.rehearsal_error.RehearsalError.TheVariants.{Image, Rehearsal, Start, Write, Memory}
 
 -- what is given: the text, if there is one, all runs of it or of the variable that is asked for, within the bounds, and
 -- the variables whose values are told apart
-abbrev pub endings_given : ByteOrder → List ℕ → Option (List ℕ) → Text → (steady : Bool) → EndingsAsk → Given
-endings_given order first second device_list steady ask =
-    given order first second device_list steady (source_of ask).given (all_runs ask.name.now ask.bounds (names_of ask))
+abbrev pub runs_by : EndingsAsk → Asking
+runs_by ask = all_runs ask.name.now ask.bounds (names_of ask)
 
--- the lines, or the lines of the flow, are written, with at most this many states
+abbrev pub endings_given : ByteOrder → List ℕ → Option (List ℕ) → Text → (taking : Taking) → EndingsAsk → Given
+endings_given order first second device_list taking ask =
+    given order first second device_list taking (source_of ask).given (runs_by ask)
+
+-- ---- one alternative
+
+-- these are the lines, or the lines of the flow, with at most this many states
+abbrev pub AreLinesOf : (flow : Bool) → (states : ℕ) → Given → Text → Type 0
+AreLinesOf flow states g text = HasBoard g (λ found. AreLines g.asking.names flow states found text)
+
+-- the lines were written
+abbrev pub TellsOne : Given → (flow : Bool) → (states : ℕ) → (old new : Sink) → Type 0
+TellsOne g flow states old new = (text : Text) × AreLinesOf flow states g text × Wrote old new text
+
+-- why there are none
+abbrev pub WhyNoLines : (states : ℕ) → Given → RehearsalError → Type 0
+WhyNoLines states g (Image fault) = beginning_of g ≡ Err (OfImage fault)
+WhyNoLines states g (Rehearsal (DeviceList fault)) = beginning_of g ≡ Err (OfBoard (OfDevices fault))
+WhyNoLines states g (Start fault) = beginning_of g ≡ Err (OfBoard (OfStart fault))
+WhyNoLines states g (Rehearsal NoSuchVariable) = HasBoard g (λ found. found ≡ None)
+WhyNoLines states g (Rehearsal States) = HasBoard g (HasMoreStates states)
+WhyNoLines states g _ = ⊥
+
+abbrev pub RefusesOne : Given → (flow : Bool) → (states : ℕ) → (old new : Sink) → RehearsalError → Type 0
+RefusesOne g flow states old new Write = (text : Text) × AreLinesOf flow states g text × BrokeOff old new text
+RefusesOne g flow states old new Memory = HasImage g × (new ≡ old)
+RefusesOne g flow states old new error = WhyNoLines states g error × (new ≡ old)
+
+-- the same without an output; memory may run out before that is known
+abbrev pub LacksLines : (states : ℕ) → Given → RehearsalError → Type 0
+LacksLines states g Memory = Unit {0}
+LacksLines states g error = WhyNoLines states g error
+
+-- ---- so many alternatives
+
+abbrev pub AreInOrder : Given → (flow : Bool) → (states count : ℕ) → (parts : List Text) → Text → Type 0
+AreInOrder g flow states count parts text = AreInTurn (AreLinesOf flow states) (λ part. part) g count parts text
+
+-- the lines of each
+abbrev pub AreAllLines : Given → (flow : Bool) → (states count : ℕ) → Text → Type 0
+AreAllLines g flow states count text = (parts : List Text) × AreInOrder g flow states count parts text
+
+-- one of them has none, and those before it have these
+pub record LacksTurn (g : Given) (flow : Bool) (states count : ℕ) (error : RehearsalError) : Type 0 where
+  pub parts : List Text
+  pub text : Text
+  pub before : AreInOrder g flow states (length parts) parts text
+  pub within : length parts < count
+  pub lacks : WhyNoLines states (named g (length parts + 1)) error
+
+abbrev pub RefusesTurn : Given → (flow : Bool) → (states count : ℕ) → RehearsalError → Type 0
+RefusesTurn g flow states count Memory = Unit {0}
+RefusesTurn g flow states count error = LacksTurn g flow states count error
+
+abbrev pub TellsTurns : Given → (flow : Bool) → (states count : ℕ) → (old new : Sink) → Type 0
+TellsTurns g flow states count old new = (text : Text) × AreAllLines g flow states count text × Wrote old new text
+
+abbrev pub RefusesTurns : Given → (flow : Bool) → (states count : ℕ) → (old new : Sink) → RehearsalError → Type 0
+RefusesTurns g flow states count old new Write =
+    (text : Text) × AreAllLines g flow states count text × BrokeOff old new text
+RefusesTurns g flow states count old new Memory = HasImage g × (new ≡ old)
+RefusesTurns g flow states count old new error = LacksTurn g flow states count error × (new ≡ old)
+
+-- ---- all that is given
+
+abbrev pub TellsBy : Given → (flow : Bool) → (states : ℕ) → (turns : Option ℕ) → (old new : Sink) → Type 0
+TellsBy g flow states None old new = TellsOne g flow states old new
+TellsBy g flow states (Some count) old new = TellsTurns g flow states count old new
+
+abbrev pub RefusesBy : Given → (flow : Bool) → (states : ℕ) → (turns : Option ℕ) → (old new : Sink) → RehearsalError → Type 0
+RefusesBy g flow states None old new error = RefusesOne g flow states old new error
+RefusesBy g flow states (Some count) old new error = RefusesTurns g flow states count old new error
+
+-- the lines were written
 abbrev pub TellsEndings : Given → (flow : Bool) → (states : ℕ) → (old new : Sink) → Type 0
-TellsEndings g flow states old new =
-    HasDevices g (λ found. (text : Text) × AreLines g.asking.names flow states found text × Wrote old new text)
-
--- the output failed inside the lines
-abbrev pub BreaksOff : Given → (flow : Bool) → (states : ℕ) → (old new : Sink) → Type 0
-BreaksOff g flow states old new =
-    HasDevices g (λ found. (text : Text) × AreLines g.asking.names flow states found text × BrokeOff old new text)
+TellsEndings g flow states old new = TellsBy g flow states (turns_of (beginning_of g)) old new
 
 abbrev pub RefusesEndings : Given → (flow : Bool) → (states : ℕ) → (old new : Sink) → RehearsalError → Type 0
-RefusesEndings g flow states old new (Image fault) = (environment_in g.order g.first g.second ≡ Err fault) × (new ≡ old)
-RefusesEndings g flow states old new (Rehearsal (DeviceList fault)) =
-    HasImage g × (listed g.device_list ≡ Err fault) × (new ≡ old)
-RefusesEndings g flow states old new (Rehearsal NoSuchVariable) = HasDevices g (λ found. found ≡ None) × (new ≡ old)
-RefusesEndings g flow states old new (Rehearsal States) =
-    HasDevices g (HasMoreStates states) × (new ≡ old)
-RefusesEndings g flow states old new Write = BreaksOff g flow states old new
-RefusesEndings g flow states old new Memory = HasImage g × (new ≡ old)
-RefusesEndings g flow states old new _ = ⊥
+RefusesEndings g flow states old new error = RefusesBy g flow states (turns_of (beginning_of g)) old new error

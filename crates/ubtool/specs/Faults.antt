@@ -1,6 +1,8 @@
 -- What a refusal of a part is for a rehearsal, and how it is reported. Running out of memory is one refusal, wherever it
 -- comes from. Ours.
 use Rattle.std.specs.Prelude.{◌≡◌, ℕ, Bool, Result, Ok, Err}
+use Rattle.board_start.specs.declared.board_error.BoardError.{BoardError}
+use Rattle.board_start.specs.declared.board_error.BoardError.TheVariants as board
 use Rattle.envimage.specs.declared.image.ImageError.{ImageError}
 use Rattle.envimage.specs.declared.image.ImageError.TheVariants as image
 use Rattle.rehearse_rules.specs.declared.rehearse_error.RehearseError.{RehearseError}
@@ -13,7 +15,7 @@ use Rattle.ubtool.specs.declared.fault.ProgramFault.{ProgramFault}
 use Rattle.ubtool.specs.declared.fault.ProgramFault.TheVariants as program
 use Rattle.ubtool.specs.declared.fault.ProgramFault.TheVariants.{Shared}
 use Rattle.ubtool.specs.declared.rehearsal_error.RehearsalError.{RehearsalError}
-use Rattle.ubtool.specs.declared.rehearsal_error.RehearsalError.TheVariants.{Image, Memory, Rehearsal, Write}
+use Rattle.ubtool.specs.declared.rehearsal_error.RehearsalError.TheVariants.{Image, Memory, Rehearsal, Start, Write}
 
 abbrev pub image_error : ImageError → RehearsalError
 image_error image.Memory = Memory
@@ -24,10 +26,16 @@ rehearse_error rehearsal.Write = Write
 rehearse_error rehearsal.Memory = Memory
 rehearse_error error = Rehearsal error
 
+abbrev pub board_error : BoardError → RehearsalError
+board_error (board.Start fault) = Start fault
+board_error (board.Devices fault) = Rehearsal (rehearsal.DeviceList fault)
+board_error board.Memory = Memory
+
 -- what the program reports of it, where it names no word of the call
 abbrev pub reported : RehearsalError → ProgramFault
 reported (Image error) = Shared (told.Tool (tool.Image error))
 reported (Rehearsal error) = program.Rehearsal error
+reported (Start error) = program.Start error
 reported Write = Shared (told.Tool tool.Write)
 reported Memory = Shared told.Memory
 

@@ -1,5 +1,5 @@
 -- What a rehearsal is given. Ours.
-use Rattle.std.specs.Prelude.{ℕ, Bool, List, Option, None, option_map}
+use Rattle.std.specs.Prelude.{ℕ, List, Option, None, option_map}
 use Rattle.envimage.specs.declared.image.ByteOrder.{ByteOrder}
 use Rattle.rehearse_terms.specs.Asking.{Asking, Listed, whole_page}
 use Rattle.rehearse_terms.specs.Bounds.{BoundsShown}
@@ -10,28 +10,29 @@ use Rattle.tool_steps.specs.PrintingFiles.{first_bytes, second_bytes}
 use Rattle.tool_steps.specs.Sources.{AreRead}
 use Rattle.tool_steps.specs.declared.sources.Sources.{Sources}
 use Rattle.tool_words.specs.Asked.{InputsShown}
+use Rattle.tool_words.specs.declared.ask.Taking.{Taking}
 
 pub record Given : Type 0 where
   -- the bytes of a single image, or of the copies of a pair, and how their checksum is stored
   pub order : ByteOrder
   pub first : List ℕ
   pub second : Option (List ℕ)
-  -- the text of the device list, and whether each device command and `test -e` is steady, as if each line said so
+  -- the text of the device list, and how it is taken
   pub device_list : Text
-  pub steady : Bool
+  pub taking : Taking
   -- a text that is rehearsed in place of a variable's
   pub text : Option Text
   -- the variable, or what the text is called, the bounds, and the runs that are wanted
   pub asking : Asking
 
-abbrev pub given : ByteOrder → List ℕ → Option (List ℕ) → (device_list : Text) → (steady : Bool) →
+abbrev pub given : ByteOrder → List ℕ → Option (List ℕ) → (device_list : Text) → (taking : Taking) →
     (text : Option Text) → Asking → Given
-given order first second device_list steady text asking = record {
+given order first second device_list taking text asking = record {
   order = order;
   first = first;
   second = second;
   device_list = device_list;
-  steady = steady;
+  taking = taking;
   text = text;
   asking = asking;
 }
@@ -45,10 +46,10 @@ all_runs variable bounds names =
 
 -- the bytes of these copies, the text of the device list and how it is taken, the text that is rehearsed, and what the
 -- words ask for
-abbrev pub given_by : ByteOrder → List Copy → (device_list : Text) → (steady : Bool) → (text : Option Text) → Asking →
+abbrev pub given_by : ByteOrder → List Copy → (device_list : Text) → (taking : Taking) → (text : Option Text) → Asking →
     Given
-given_by order found device_list steady text asking =
-    given order (first_bytes found) (second_bytes found) device_list steady text asking
+given_by order found device_list taking text asking =
+    given order (first_bytes found) (second_bytes found) device_list taking text asking
 
 -- the script that was read, if one was
 abbrev pub script_of : Sources → Option Text
@@ -57,4 +58,4 @@ script_of sources = option_map (λ v. v.items) sources.script
 -- the images, the device list, and the script that may be named were read, and this holds of what they give
 abbrev pub FromFiles : ByteOrder → InputsShown → Asking → (old new : Told) → (Given → Type 0) → Type 0
 FromFiles order inputs asking old new IsSo =
-    AreRead inputs old new (λ found listed script. IsSo (given_by order found listed inputs.steady script asking))
+    AreRead inputs old new (λ found listed script. IsSo (given_by order found listed inputs.taking script asking))

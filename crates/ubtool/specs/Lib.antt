@@ -1,9 +1,10 @@
 pub mod Faults
 pub mod Given
 pub mod BoardEnvironment
-pub mod BoardDevices
+pub mod Beginning
 pub mod Headline
 pub mod Refusing
+pub mod Turns
 pub mod EndingsOfImages
 pub mod CausesOfImages
 pub mod Performing

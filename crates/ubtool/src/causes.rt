@@ -8,7 +8,7 @@ ghost use Rattle.tool_steps.specs.Images.{copies};
 ghost use Rattle.ubtool.specs.RehearsingFiles.{LeavesOutput};
 ghost use Rattle.tool_words.specs.CommandAnswers.{inputs_shown};
 
-use crate::board_devices::DeviceText;
+use crate::beginning::DeviceText;
 use crate::fault::ProgramFault;
 use crate::image_causes::causes_bytes;
 use crate::rehearsal_error::RehearsalError;
@@ -20,7 +20,7 @@ use std::alloc::Global;
 use tool_files::Files;
 use tool_images::WordForm;
 use tool_steps::{Sources, read_sources};
-use tool_words::{CausesAsk, Inputs};
+use tool_words::{CausesAsk, Inputs, Taking};
 
 /// How a refusal of the causes is reported.
 fn refusal_of(error: RehearsalError, what: CausesAsk) -> ProgramFault
@@ -38,19 +38,19 @@ fn refusal_of(error: RehearsalError, what: CausesAsk) -> ProgramFault
 fn causes_of_sources<O: Out>(
     alloc: Global,
     sources: &Sources,
-    steady: bool,
+    taking: Taking,
     order: ByteOrder,
     what: &CausesAsk,
     out: &mut O,
 ) -> Result<bool, RehearsalError>
     ensures { TellsCausesOfCopies (given_by order (copies sources.now.images)
-        sources.now.device_list.items steady (script_of sources.now) (runs_asked what.now)) what.now.check
+        sources.now.device_list.items taking (script_of sources.now) (runs_asked what.now)) what.now.check
         (O.sink out.old) (O.sink out.new) result }
 {
     let bytes = bytes_of(sources);
     let list = DeviceText {
         text: bytes.device_list,
-        steady,
+        taking,
     };
     let ask = rehearse_causes::CausesAsk {
         name: what.name.as_bytes(),
@@ -78,9 +78,9 @@ pub fn causes<F: Files, O: Out>(
         (O.sink out.old) (O.sink out.new) old new result) }
     ensures output { LeavesOutput result (O.sink out.old) (O.sink out.new) }
 {
-    let steady = inputs.steady;
+    let taking = inputs.taking;
     let sources = read_sources(alloc, files, inputs)?;
-    match causes_of_sources(alloc, &sources, steady, order, &what, out) {
+    match causes_of_sources(alloc, &sources, taking, order, &what, out) {
         Ok(fine) => Ok(fine),
         Err(error) => Err(refusal_of(error, what)),
     }

@@ -8,7 +8,7 @@ ghost use Rattle.tool_steps.specs.Images.{copies};
 ghost use Rattle.ubtool.specs.RehearsingFiles.{LeavesOutput};
 ghost use Rattle.tool_words.specs.CommandAnswers.{inputs_shown};
 
-use crate::board_devices::DeviceText;
+use crate::beginning::DeviceText;
 use crate::fault::ProgramFault;
 use crate::image_endings::endings_bytes;
 use crate::rehearsal_error::RehearsalError;
@@ -20,7 +20,7 @@ use std::alloc::Global;
 use tool_files::Files;
 use tool_images::WordForm;
 use tool_steps::{Sources, read_sources, slices_of};
-use tool_words::{EndingsAsk, Inputs};
+use tool_words::{EndingsAsk, Inputs, Taking};
 
 /// How a refusal of the endings is reported.
 fn refusal_of(error: RehearsalError, what: EndingsAsk) -> ProgramFault
@@ -38,13 +38,13 @@ fn refusal_of(error: RehearsalError, what: EndingsAsk) -> ProgramFault
 fn endings_of_sources<O: Out>(
     alloc: Global,
     sources: &Sources,
-    steady: bool,
+    taking: Taking,
     order: ByteOrder,
     what: &EndingsAsk,
     out: &mut O,
 ) -> Result<(), RehearsalError>
     ensures { TellsCopies (given_by order (copies sources.now.images)
-        sources.now.device_list.items steady (script_of sources.now) (all_asked what.now)) what.now.flow what.now.states
+        sources.now.device_list.items taking (script_of sources.now) (all_asked what.now)) what.now.flow what.now.states
         (O.sink out.old) (O.sink out.new) result }
 {
     let Ok(names) = slices_of(alloc, &what.names) else {
@@ -53,7 +53,7 @@ fn endings_of_sources<O: Out>(
     let bytes = bytes_of(sources);
     let list = DeviceText {
         text: bytes.device_list,
-        steady,
+        taking,
     };
     let ask = rehearse_endings::EndingsAsk {
         name: what.name.as_bytes(),
@@ -83,9 +83,9 @@ pub fn endings<F: Files, O: Out>(
         (O.sink out.new) old new result) }
     ensures output { LeavesOutput result (O.sink out.old) (O.sink out.new) }
 {
-    let steady = inputs.steady;
+    let taking = inputs.taking;
     let sources = read_sources(alloc, files, inputs)?;
-    match endings_of_sources(alloc, &sources, steady, order, &what, out) {
+    match endings_of_sources(alloc, &sources, taking, order, &what, out) {
         Ok(()) => Ok(true),
         Err(error) => Err(refusal_of(error, what)),
     }

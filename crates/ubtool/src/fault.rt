@@ -1,6 +1,7 @@
 //! The faults that the program reports, each in one line.
 
 use crate::rehearsal_error::RehearsalError;
+use board_start::StartError;
 use rehearse_rules::RehearseError;
 use thiserror::Error;
 use tool_files::LockFault;
@@ -21,6 +22,9 @@ pub enum ProgramFault {
     /// The rehearsal is refused for another reason.
     #[error("{0}")]
     Rehearsal(RehearseError),
+    /// The rehearsal cannot start as the device list says.
+    #[error("{0}")]
+    Start(StartError),
 }
 
 impl From<Fault> for ProgramFault {
@@ -58,6 +62,7 @@ impl From<RehearsalError> for ProgramFault {
                 ProgramFault::Shared(Fault::Tool(ToolError::Image(error)))
             }
             RehearsalError::Rehearsal(error) => ProgramFault::Rehearsal(error),
+            RehearsalError::Start(error) => ProgramFault::Start(error),
             RehearsalError::Write => ProgramFault::Shared(Fault::Tool(ToolError::Write)),
             RehearsalError::Memory => ProgramFault::Shared(Fault::Memory),
         }

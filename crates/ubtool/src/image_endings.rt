@@ -1,27 +1,121 @@
 //! How all runs of an image's variable or of a given text end, from the bytes of the image to the lines.
-ghost use Rattle.std.specs.Prelude.{IfOk, IfErr};
+ghost use Rattle.std.specs.Prelude.{◌≡◌, IfOk, IfErr};
 ghost use Rattle.std.specs.Option.{option_copied};
-ghost use Rattle.ubtool.specs.EndingsOfImages.{RefusesEndings, TellsEndings, endings_given};
+ghost use Rattle.ubtool.specs.EndingsOfImages.{AreAllLines, AreLinesOf, LacksLines, RefusesEndings, RefusesOne, RefusesTurn, TellsEndings, TellsOne, endings_given};
+ghost use Rattle.text.specs.TextsShown.{option_bytes, option_items};
 
-use crate::board_devices::{DeviceText, devices_of};
-use crate::board_environment::env_of_board;
+use crate::beginning::{Beginning, DeviceText, begin};
+use crate::in_turn::{add_headed, named, start_of, turns_told};
 use crate::rehearsal_error::RehearsalError;
 use bootstore_trail::Trail;
 use envimage::ByteOrder;
-use output::Out;
+use output::{Out, Over, write_all};
 use rehearse_endings::{EndingsAsk, endings_env};
 use std::alloc::Global;
+
+/// The text that is rehearsed in place of the variable's.
+fn text_of(beginning: &Beginning) -> Option<&[u8]>
+    ensures { option_bytes result ≡ option_items beginning.now.text }
+{
+    beginning.text.as_deref()
+}
+
+/// Writes the lines of one alternative: that which is named, or that of a list which has no other.
+/// Errors: those of `endings_bytes`, and `Start` with `Alternatives`.
+fn endings_of_one<O: Out>(
+    alloc: Global,
+    first: &[u8],
+    second: Option<&[u8]>,
+    order: ByteOrder,
+    list: DeviceText<'_>,
+    ask: &EndingsAsk<'_>,
+    out: &mut O,
+) -> Result<(), RehearsalError>
+    ensures ok { IfOk result (λ _. TellsOne
+        (endings_given order first.now (option_copied second.entry) list.entry.text.now list.entry.taking ask.now)
+        ask.now.flow ask.now.states (O.sink out.old) (O.sink out.new)) }
+    ensures err { IfErr result
+        (λ e. RefusesOne (endings_given order first.now (option_copied second.entry)
+        list.entry.text.now list.entry.taking ask.now) ask.now.flow ask.now.states (O.sink out.old) (O.sink out.new) e) }
+{
+    let shell = ask.bounds.shell();
+    let beginning = begin(alloc, first, second, order, shell, list, ask.name, ask.text)?;
+    let text = text_of(&beginning);
+    let ask = EndingsAsk {
+        name: ask.name,
+        text,
+        bounds: ask.bounds,
+        states: ask.states,
+        names: ask.names,
+        flow: ask.flow,
+    };
+    endings_env::<Trail, O>(alloc, &beginning.env, &beginning.devices, &ask, out)?;
+    Ok(())
+}
+
+/// The lines of one alternative. Errors: those of `endings_of_one`, without `Write`.
+fn lines_of_one(
+    alloc: Global,
+    first: &[u8],
+    second: Option<&[u8]>,
+    order: ByteOrder,
+    list: DeviceText<'_>,
+    ask: &EndingsAsk<'_>,
+) -> Result<Vec<u8>, RehearsalError>
+    ensures ok { IfOk result (λ v. AreLinesOf ask.now.flow ask.now.states
+        (endings_given order first.now (option_copied second.entry) list.entry.text.now list.entry.taking ask.now) v.items) }
+    ensures err { IfErr result (λ e. LacksLines ask.now.states
+        (endings_given order first.now (option_copied second.entry) list.entry.text.now list.entry.taking ask.now) e) }
+{
+    let mut lines = Over::new(Vec::new(alloc));
+    match endings_of_one(alloc, first, second, order, list, ask, &mut lines) {
+        Ok(()) => Ok(lines.into_writer()),
+        Err(RehearsalError::Write) => Err(RehearsalError::Memory),
+        Err(error) => Err(error),
+    }
+}
+
+/// The lines of so many alternatives. Errors: those of the first that is refused; `Memory`.
+fn lines_in_turn(
+    alloc: Global,
+    first: &[u8],
+    second: Option<&[u8]>,
+    order: ByteOrder,
+    list: DeviceText<'_>,
+    ask: &EndingsAsk<'_>,
+    count: u32,
+) -> Result<Vec<u8>, RehearsalError>
+    ensures ok { IfOk result (λ v. AreAllLines
+        (endings_given order first.now (option_copied second.entry) list.entry.text.now list.entry.taking ask.now)
+        ask.now.flow ask.now.states count v.items) }
+    ensures err { IfErr result (λ e. RefusesTurn
+        (endings_given order first.now (option_copied second.entry) list.entry.text.now list.entry.taking ask.now)
+        ask.now.flow ask.now.states count e) }
+{
+    let start = start_of(alloc, list)?;
+    let mut text = Vec::new(alloc);
+    for place in 0..count {
+        let list = named(list, place + 1);
+        let lines = match lines_of_one(alloc, first, second, order, list, ask) {
+            Ok(lines) => lines,
+            Err(error) => return Err(error),
+        };
+        add_headed(&mut text, &start, place, &lines)?;
+    }
+    Ok(text)
+}
 
 /// Writes how all runs of a variable of an image, or of the current copy of a pair, end, or those of
 /// a given text in its environment: for each ending a line, the values that are left of the named
 /// variables, and the device commands that fail in the run with the fewest failures; then a line for
 /// all runs. For the flow, writes a line for
 /// each state in which a device command asks and for each way to end. In a shell of U-Boot, the
-/// variables are those that U-Boot reads from the image.
+/// variables are those that U-Boot reads from the image. If the device list has several alternatives
+/// and none is named, writes the lines of each, in order, each behind a line that tells it.
 ///
-/// Refusals in order: the image, the device list, `NoSuchVariable`, `States` and `Memory`, with
-/// nothing written; then `Write` if the output fails, with a prefix of the lines written. `Memory`
-/// comes wherever a growth is made.
+/// Refusals in order: the image, the device list, `Start`, `NoSuchVariable`, `States` and `Memory`,
+/// with nothing written; then `Write` if the output fails, with a prefix of the lines written. What
+/// refuses one alternative refuses all. `Memory` comes wherever a growth is made.
 pub fn endings_bytes<O: Out>(
     alloc: Global,
     first: &[u8],
@@ -32,14 +126,22 @@ pub fn endings_bytes<O: Out>(
     out: &mut O,
 ) -> Result<(), RehearsalError>
     ensures ok { IfOk result (λ _. TellsEndings
-        (endings_given order first.now (option_copied second.entry) list.entry.text.now list.entry.steady ask.now)
+        (endings_given order first.now (option_copied second.entry) list.entry.text.now list.entry.taking ask.now)
         ask.now.flow ask.now.states (O.sink out.old) (O.sink out.new)) }
     ensures err { IfErr result
         (λ e. RefusesEndings (endings_given order first.now (option_copied second.entry)
-        list.entry.text.now list.entry.steady ask.now) ask.now.flow ask.now.states (O.sink out.old) (O.sink out.new) e) }
+        list.entry.text.now list.entry.taking ask.now) ask.now.flow ask.now.states (O.sink out.old) (O.sink out.new) e) }
 {
-    let env = env_of_board(alloc, first, second, order, ask.bounds.shell())?;
-    let devices = devices_of(alloc, list)?;
-    endings_env::<Trail, O>(alloc, &env, &devices, ask, out)?;
-    Ok(())
+    let error = match endings_of_one(alloc, first, second, order, list, ask, out) {
+        Ok(()) => return Ok(()),
+        Err(error) => error,
+    };
+    let Some(count) = turns_told(error) else {
+        return Err(error);
+    };
+    let text = lines_in_turn(alloc, first, second, order, list, ask, count)?;
+    match write_all(out, &text) {
+        Ok(()) => Ok(()),
+        Err(_) => Err(RehearsalError::Write),
+    }
 }

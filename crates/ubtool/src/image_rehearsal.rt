@@ -4,17 +4,19 @@ ghost use Rattle.std.specs.Option.{option_copied};
 ghost use Rattle.rehearse_terms.specs.Asking.{page_of};
 ghost use Rattle.rehearse_terms.specs.Asking.{HasRoom};
 ghost use Rattle.rehearse_terms.specs.WantedShown.{wanted_slices};
+ghost use Rattle.rehearse_runs.specs.RehearsedEnvironment as below;
 ghost use Rattle.rehearse_runs.specs.AskShown.{asking_of, text_given};
+ghost use Rattle.text.specs.TextsShown.{option_items};
 ghost use Rattle.ubtool.specs.Given.{given};
 ghost use Rattle.ubtool.specs.Headline.{Rehearses};
 ghost use Rattle.ubtool.specs.Refusing.{Refuses};
 
-use crate::board_devices::{DeviceText, devices_of};
-use crate::board_environment::env_of_board;
+use crate::beginning::{Beginning, DeviceText, begin};
 use crate::rehearsal_error::RehearsalError;
 use bootstore_trail::Trail;
 use envimage::ByteOrder;
 use output::Out;
+use rehearse_rules::RehearseError;
 use rehearse_runs::{Ask, Finish, rehearse_env};
 use rehearse_terms::{Shell, Wanted};
 use std::alloc::Global;
@@ -25,8 +27,8 @@ use std::alloc::Global;
 /// out at the end, else `Done`. In a shell of U-Boot, the variables are those that U-Boot reads from
 /// the image.
 ///
-/// Refusals in order: the image, the device list, `NoSuchVariable`, `NotARun`, with nothing
-/// written; then `Write` during the listing, and `Memory` wherever a growth is made. After these
+/// Refusals in order: the image, the device list, `Start`, `NoSuchVariable`, `NotARun`, with
+/// nothing written; then `Write` during the listing, and `Memory` wherever a growth is made. After these
 /// two, a prefix of the listing has been written; after `Memory` it is whole records.
 pub fn rehearse_bytes<O: Out>(
     alloc: Global,
@@ -39,10 +41,10 @@ pub fn rehearse_bytes<O: Out>(
 ) -> Result<Finish, RehearsalError>
     requires { HasRoom (page_of (wanted_slices ask.now.wanted)) }
     ensures ok { IfOk result (λ finish. Rehearses
-        (given order first.now (option_copied second.entry) list.entry.text.now list.entry.steady (text_given ask.now)
+        (given order first.now (option_copied second.entry) list.entry.text.now list.entry.taking (text_given ask.now)
         (asking_of ask.now)) (O.sink out.old) (O.sink out.new) finish) }
     ensures err { IfErr result
-        (λ e. Refuses (given order first.now (option_copied second.entry) list.entry.text.now list.entry.steady
+        (λ e. Refuses (given order first.now (option_copied second.entry) list.entry.text.now list.entry.taking
         (text_given ask.now) (asking_of ask.now)) (O.sink out.old) (O.sink out.new) e) }
 {
     let shell = match ask.wanted {
@@ -50,6 +52,46 @@ pub fn rehearse_bytes<O: Out>(
         Wanted::Word { bounds, .. } => bounds.shell(),
     };
     rehearse_in(alloc, first, second, order, shell, list, ask, out)
+}
+
+/// The runs that are wanted.
+fn wanted_of<'x>(ask: &Ask<'x>) -> Wanted<&'x [u8]>
+    ensures { result ≡ ask.now.wanted }
+{
+    match ask.wanted {
+        Wanted::Listing {
+            bounds,
+            after,
+            page,
+        } => Wanted::Listing {
+            bounds,
+            after,
+            page,
+        },
+        Wanted::Word { bounds, word } => Wanted::Word { bounds, word },
+    }
+}
+
+/// Writes the listing of what a rehearsal begins with.
+fn rehearse_begun<'x, O: Out>(
+    alloc: Global,
+    beginning: &'x Beginning,
+    ask: &Ask<'x>,
+    out: &mut O,
+) -> Result<Finish, RehearseError>
+    requires { HasRoom (page_of (wanted_slices ask.now.wanted)) }
+    ensures ok { IfOk result (λ finish. below.Rehearses (below.task_asked beginning.now.env beginning.now.devices
+        (option_items beginning.now.text) (asking_of ask.now)) (asking_of ask.now) (O.sink out.old) (O.sink out.new) finish) }
+    ensures err { IfErr result (λ e. below.Refuses (below.task_asked beginning.now.env beginning.now.devices
+        (option_items beginning.now.text) (asking_of ask.now)) (asking_of ask.now) (O.sink out.old) (O.sink out.new) e) }
+{
+    let ask = Ask {
+        name: ask.name,
+        text: beginning.text.as_deref(),
+        wanted: wanted_of(ask),
+        names: ask.names,
+    };
+    rehearse_env::<Trail, O>(alloc, &beginning.env, &beginning.devices, &ask, out)
 }
 
 /// The same in this shell, which is that of the bounds.
@@ -66,13 +108,12 @@ fn rehearse_in<O: Out>(
     requires room { HasRoom (page_of (wanted_slices ask.now.wanted)) }
     requires shell { shell ≡ (asking_of ask.now).bounds.shell }
     ensures ok { IfOk result (λ finish. Rehearses
-        (given order first.now (option_copied second.entry) list.entry.text.now list.entry.steady (text_given ask.now)
+        (given order first.now (option_copied second.entry) list.entry.text.now list.entry.taking (text_given ask.now)
         (asking_of ask.now)) (O.sink out.old) (O.sink out.new) finish) }
     ensures err { IfErr result
-        (λ e. Refuses (given order first.now (option_copied second.entry) list.entry.text.now list.entry.steady
+        (λ e. Refuses (given order first.now (option_copied second.entry) list.entry.text.now list.entry.taking
         (text_given ask.now) (asking_of ask.now)) (O.sink out.old) (O.sink out.new) e) }
 {
-    let env = env_of_board(alloc, first, second, order, shell)?;
-    let devices = devices_of(alloc, list)?;
-    Ok(rehearse_env::<Trail, O>(alloc, &env, &devices, ask, out)?)
+    let beginning = begin(alloc, first, second, order, shell, list, ask.name, ask.text)?;
+    Ok(rehearse_begun(alloc, &beginning, ask, out)?)
 }

@@ -1,7 +1,7 @@
 //! The program from its words to its status, over any files and outputs, and what it does with the bytes of images.
 #![tactic(auto)]
 
-mod board_devices;
+mod beginning;
 mod board_environment;
 mod causes;
 mod endings;
@@ -9,6 +9,7 @@ mod fault;
 mod image_causes;
 mod image_endings;
 mod image_rehearsal;
+mod in_turn;
 mod inspection;
 mod perform;
 mod rehearsal_error;
@@ -16,7 +17,8 @@ mod rehearsing;
 mod source_bytes;
 mod tool;
 
-pub use board_devices::DeviceText;
+pub use beginning::DeviceText;
+pub use board_start::StartError;
 pub use envimage::{ByteOrder, Which};
 pub use envtools::PrintForm;
 pub use fault::ProgramFault;
@@ -32,5 +34,5 @@ pub use tool_images as images;
 pub use tool_images::{Edit, ToolError, print_bytes, set_bytes};
 pub use tool_words::{
     Ask, CausesAsk, Change, EndingsAsk, ImageAsk, Inputs, Origin, OriginError, PrintAsk,
-    RehearseAsk, UseError, read_command,
+    RehearseAsk, Taking, UseError, read_command,
 };

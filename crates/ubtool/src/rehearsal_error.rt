@@ -1,5 +1,6 @@
 //! Why a rehearsal from bytes to bytes is refused.
 
+use board_start::{BoardError, StartError};
 use envimage::ImageError;
 use rehearse_rules::RehearseError;
 use thiserror::Error;
@@ -13,6 +14,9 @@ pub enum RehearsalError {
     /// The rehearsal, for a reason other than memory and the output.
     #[error("{0}")]
     Rehearsal(RehearseError),
+    /// It cannot start as the device list says.
+    #[error("{0}")]
+    Start(StartError),
     /// The output failed.
     #[error("output failed")]
     Write,
@@ -46,6 +50,23 @@ impl From<RehearseError> for RehearsalError {
             RehearseError::Write => RehearsalError::Write,
             RehearseError::Memory => RehearsalError::Memory,
             error => RehearsalError::Rehearsal(error),
+        }
+    }
+}
+
+impl From<BoardError> for RehearsalError {
+    ghost use Rattle.std.specs.Prelude.{◌≡◌};
+    ghost use Rattle.ubtool.specs.Faults.{board_error};
+
+    ghost from_gives = { λ error e. e ≡ board_error error };
+
+    fn from(error: BoardError) -> RehearsalError {
+        match error {
+            BoardError::Start(fault) => RehearsalError::Start(fault),
+            BoardError::Devices(fault) => {
+                RehearsalError::Rehearsal(RehearseError::DeviceList(fault))
+            }
+            BoardError::Memory => RehearsalError::Memory,
         }
     }
 }

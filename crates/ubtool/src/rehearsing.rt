@@ -7,7 +7,7 @@ ghost use Rattle.ubtool.specs.RehearsingFiles.{LeavesOutput, RehearsesCopies, Re
 ghost use Rattle.ubtool.specs.Given.{given_by, script_of};
 ghost use Rattle.tool_words.specs.CommandAnswers.{asking_of, inputs_shown};
 
-use crate::board_devices::DeviceText;
+use crate::beginning::DeviceText;
 use crate::fault::ProgramFault;
 use crate::image_rehearsal::rehearse_bytes;
 use crate::rehearsal_error::RehearsalError;
@@ -20,7 +20,7 @@ use std::alloc::Global;
 use tool_files::Files;
 use tool_images::WordForm;
 use tool_steps::{Sources, read_sources, slices_of};
-use tool_words::{Inputs, RehearseAsk};
+use tool_words::{Inputs, RehearseAsk, Taking};
 
 /// How a refusal of a rehearsal is reported.
 fn refusal_of(error: RehearsalError, what: RehearseAsk) -> ProgramFault
@@ -41,13 +41,13 @@ fn refusal_of(error: RehearsalError, what: RehearseAsk) -> ProgramFault
 fn rehearse_sources<O: Out>(
     alloc: Global,
     sources: &Sources,
-    steady: bool,
+    taking: Taking,
     order: ByteOrder,
     what: &RehearseAsk,
     out: &mut O,
 ) -> Result<Finish, RehearsalError>
     ensures { RehearsesCopies (given_by order (copies sources.now.images)
-        sources.now.device_list.items steady (script_of sources.now) (asking_of what.now)) (O.sink out.old) (O.sink out.new)
+        sources.now.device_list.items taking (script_of sources.now) (asking_of what.now)) (O.sink out.old) (O.sink out.new)
         result }
 {
     let Ok(names) = slices_of(alloc, &what.names) else {
@@ -56,7 +56,7 @@ fn rehearse_sources<O: Out>(
     let bytes = bytes_of(sources);
     let list = DeviceText {
         text: bytes.device_list,
-        steady,
+        taking,
     };
     let ask = rehearse_runs::Ask {
         name: what.name.as_bytes(),
@@ -84,9 +84,9 @@ pub fn rehearse<F: Files, O: Out>(
         (O.sink out.new) old new result) }
     ensures output { LeavesOutput result (O.sink out.old) (O.sink out.new) }
 {
-    let steady = inputs.steady;
+    let taking = inputs.taking;
     let sources = read_sources(alloc, files, inputs)?;
-    match rehearse_sources(alloc, &sources, steady, order, &what, out) {
+    match rehearse_sources(alloc, &sources, taking, order, &what, out) {
         Ok(_) => Ok(true),
         Err(error) => Err(refusal_of(error, what)),
     }

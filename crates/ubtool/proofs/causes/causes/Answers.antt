@@ -5,7 +5,12 @@ use Rattle.ubtool.specs.declared.fault.ProgramFault.{ProgramFault}
 use Rattle.ubtool.specs.declared.fault.ProgramFault.TheVariants.{Shared}
 use Rattle.ubtool.specs.CausesOfFiles.{TellsCausesFrom}
 use Rattle.tool_words.specs.CommandAnswers.{inputs_shown}
-use Rattle.ubtool.proofs.CausesLemmas.{causes-found, causes-refused, unread}
+use Rattle.tool_steps.specs.Images.{copies}
+use Rattle.ubtool.specs.CausesOfFiles.{runs_asked}
+use Rattle.ubtool.specs.Given.{given_by, script_of}
+use Rattle.ubtool.specs.RehearsingFiles.{LeavesOutput}
+use Rattle.ubtool.proofs.CausesTurnLemmas.{told-sound}
+use Rattle.ubtool.proofs.CausesLemmas.{causes-found, causes-refused, unread, leaves-refused}
 use Rattle.tool_steps.proofs.SourceLemmas.{IfTold-weaker}
 use Rattle.ubtool.proofs.causes.causes.Goals as goal
 
@@ -42,3 +47,17 @@ returns-in-Ok-clause-told g c =
     let out' = g.O.Out.sink c.causes_of_sources.new.out in
     let sources = c.in_ok-sources.sources in
     IfTold-weaker a b (λ x z read. causes-found c.args.order (inputs_shown c.args.inputs) c.args.what out out' sources x z read c.in-Ok.fine c.in-Ok.ensures) c.in_ok-sources.ensures.told
+
+pub returns-in-Ok-clause-output : goal.returns-in-Ok-clause-output
+returns-in-Ok-clause-output g c =
+    let what = c.args.what in
+    told-sound (given_by c.args.order (copies c.in_ok-sources.sources.images) c.in_ok-sources.sources.device_list.items c.args.inputs.taking (script_of c.in_ok-sources.sources) (runs_asked what)) what.check (g.O.Out.sink c.args.out.now) (g.O.Out.sink c.causes_of_sources.new.out) c.in-Ok.fine c.in-Ok.ensures
+
+pub returns-in-Err-clause-output : goal.returns-in-Err-clause-output
+returns-in-Err-clause-output g c =
+    let what = c.args.what in
+    let out = g.O.Out.sink c.args.out.now in
+    let out' = g.O.Out.sink c.causes_of_sources.new.out in
+    let P : ProgramFault → Type 0 = λ f. LeavesOutput (Err f) out out' in
+    subst P (sym c.refusal_of.ensures)
+    (leaves-refused (given_by c.args.order (copies c.in_ok-sources.sources.images) c.in_ok-sources.sources.device_list.items c.args.inputs.taking (script_of c.in_ok-sources.sources) (runs_asked what)) what out out' c.in-Err.error c.in-Err.ensures)

@@ -5,7 +5,12 @@ use Rattle.ubtool.specs.declared.fault.ProgramFault.{ProgramFault}
 use Rattle.ubtool.specs.declared.fault.ProgramFault.TheVariants.{Shared}
 use Rattle.ubtool.specs.EndingsOfFiles.{TellsFrom}
 use Rattle.tool_words.specs.CommandAnswers.{inputs_shown}
-use Rattle.ubtool.proofs.EndingsLemmas.{tells-refused, unread}
+use Rattle.tool_steps.specs.Images.{copies}
+use Rattle.ubtool.specs.EndingsOfFiles.{all_asked}
+use Rattle.ubtool.specs.Given.{given_by, script_of}
+use Rattle.ubtool.specs.RehearsingFiles.{LeavesOutput}
+use Rattle.ubtool.proofs.EndingsTurnLemmas.{told-sound}
+use Rattle.ubtool.proofs.EndingsLemmas.{leaves-refused, tells-refused, unread}
 use Rattle.tool_steps.proofs.SourceLemmas.{IfTold-weaker}
 use Rattle.ubtool.proofs.endings.endings.Goals as goal
 
@@ -33,3 +38,17 @@ returns-in-Err-clause-told g c =
     let P : ProgramFault → Type 0 = λ f. IfTold a b (λ old new. TellsFrom c.args.order inputs c.args.what out out' old new (Err f)) in
     subst P (sym c.refusal_of.ensures)
     (IfTold-weaker a b (λ x z read. tells-refused c.args.order inputs c.args.what out out' sources x z read c.in-Err.error c.in-Err.ensures) c.in_ok-sources.ensures.told)
+
+pub returns-in-Ok-clause-output : goal.returns-in-Ok-clause-output
+returns-in-Ok-clause-output g c =
+    let what = c.args.what in
+    told-sound (given_by c.args.order (copies c.in_ok-sources.sources.images) c.in_ok-sources.sources.device_list.items c.args.inputs.taking (script_of c.in_ok-sources.sources) (all_asked what)) what.flow what.states (g.O.Out.sink c.args.out.now) (g.O.Out.sink c.endings_of_sources.new.out) c.in-Ok.ensures
+
+pub returns-in-Err-clause-output : goal.returns-in-Err-clause-output
+returns-in-Err-clause-output g c =
+    let what = c.args.what in
+    let out = g.O.Out.sink c.args.out.now in
+    let out' = g.O.Out.sink c.endings_of_sources.new.out in
+    let P : ProgramFault → Type 0 = λ f. LeavesOutput (Err f) out out' in
+    subst P (sym c.refusal_of.ensures)
+    (leaves-refused (given_by c.args.order (copies c.in_ok-sources.sources.images) c.in_ok-sources.sources.device_list.items c.args.inputs.taking (script_of c.in_ok-sources.sources) (all_asked what)) what out out' c.in-Err.error c.in-Err.ensures)

@@ -1,7 +1,8 @@
 use Rattle.std.proofs.Common.{◌≡◌, ◌∙◌, ap, subst, map, string_bytes, List, ℕ}
 use Rattle.std.specs.Borrow.{Bor}
 use Rattle.std.specs.Option.{option_copied}
-use Rattle.ubtool.specs.Given.{Given}
+use Rattle.text.specs.TextsShown.{option_bytes}
+use Rattle.ubtool.specs.Given.{Given, all_runs, given}
 use Rattle.ubtool.specs.EndingsOfFiles.{TellsCopies}
 use Rattle.ubtool.proofs.EndingsLemmas.{copies-told, same-runs}
 use Rattle.ubtool.proofs.GivenLemmas.{given-same}
@@ -17,5 +18,6 @@ returns g c =
     let names : shown ≡ map string_bytes what.names.items =
     ap (map (λ (n : Bor (List ℕ)). n.now)) c.deref-2.ensures.value ∙ c.in-Ok.ensures.slices ∙ ap (map string_bytes) c.deref.ensures.value in
     let asking = same-runs _ _ what.bounds _ _ c.as_bytes.ensures.value names in
-    let same = given-same c.args.order read.first.now _ (option_copied read.second) _ read.device_list.now _ c.args.steady _ _ _ _ c.bytes_of-bytes.ensures.first c.bytes_of-bytes.ensures.second c.bytes_of-bytes.ensures.device_list c.bytes_of-bytes.ensures.script asking in
-    subst (λ (x : Given). TellsCopies x what.flow what.states out out' c.endings_bytes.result) same (copies-told _ what.flow what.states out out' c.endings_bytes.result c.endings_bytes.ensures.ok c.endings_bytes.ensures.err)
+    let same = given-same c.args.order read.first.now _ (option_copied read.second) _ read.device_list.now _ c.args.taking _ _ _ _ c.bytes_of-bytes.ensures.first c.bytes_of-bytes.ensures.second c.bytes_of-bytes.ensures.device_list c.bytes_of-bytes.ensures.script asking in
+    let all : Given = given c.args.order read.first.now (option_copied read.second) read.device_list.now c.args.taking (option_bytes read.script) (all_runs c.as_bytes.result.now what.bounds shown) in
+    subst (λ (x : Given). TellsCopies x what.flow what.states out out' c.endings_bytes.result) same (copies-told all what.flow what.states out out' c.endings_bytes.result c.endings_bytes.ensures.ok c.endings_bytes.ensures.err)

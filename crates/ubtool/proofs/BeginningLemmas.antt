@@ -1,0 +1,82 @@
+-- What a rehearsal begins with, and why there is nothing to begin with.
+use Rattle.std.proofs.Common.{◌≡◌, ◌∙◌, refl, sym, ap, subst, List, Option, Result, Ok, Err}
+use Rattle.envimage.specs.Data.{Pair}
+use Rattle.envimage.specs.declared.image.ImageError.{ImageError}
+use Rattle.board_start.specs.Boards.{Board, Fault, OfDevices, OfStart, board_of}
+use Rattle.board_start.specs.Start.{begun}
+use Rattle.board_start.specs.StartAnswers.{Begins as StartBegins}
+use Rattle.board_start.specs.declared.board_error.BoardError.{BoardError}
+use Rattle.board_start.specs.declared.board_error.BoardError.TheVariants as faulty
+use Rattle.board_start.specs.declared.start_error.StartError.{StartError}
+use Rattle.device_list.specs.declared.devices_error.DevicesError.{DevicesError}
+use Rattle.rehearse_rules.specs.declared.rehearse_error.RehearseError.TheVariants as rehearsal
+use Rattle.rehearse_rules.specs.Runs.{Task}
+use Rattle.rehearse_runs.specs.RehearsedEnvironment.{task_asked}
+use Rattle.rehearse_terms.specs.State.{Text}
+use Rattle.rehearse_terms.specs.declared.shell.Shell.{Shell}
+use Rattle.tool_images.specs.PrintingImages.{environment_in}
+use Rattle.tool_words.specs.declared.ask.Taking.{Taking}
+use Rattle.ubtool.specs.Beginning.{Beginning, NoBeginning, OfBoard, OfImage, Begins, beginning_of, begun_with, with_board, with_image}
+use Rattle.device_list.specs.DeviceList.{steady_if}
+use Rattle.ubtool.specs.BoardEnvironment.{on_board as on_board_of}
+use Rattle.ubtool.specs.Faults.{board_error}
+use Rattle.ubtool.specs.Given.{Given}
+use Rattle.ubtool.specs.Headline.{HasBoard}
+use Rattle.ubtool.specs.Refusing.{HasImage}
+use Rattle.ubtool.specs.declared.rehearsal_error.RehearsalError.{RehearsalError}
+use Rattle.ubtool.specs.declared.rehearsal_error.RehearsalError.TheVariants as refused
+
+-- what holds of the refusals of an image and of a device list, and if memory runs out, holds of each
+pub not_begun : (image : Result (List Pair) ImageError) (answer : Result Beginning NoBeginning) (IsSo : RehearsalError → Type 0)
+    → ((fault : ImageError) → answer ≡ Err (OfImage fault) → IsSo (refused.Image fault))
+    → ((fault : DevicesError) → answer ≡ Err (OfBoard (OfDevices fault)) → IsSo (refused.Rehearsal (rehearsal.DeviceList fault)))
+    → ((fault : StartError) → answer ≡ Err (OfBoard (OfStart fault)) → IsSo (refused.Start fault))
+    → ((environment : List Pair) → image ≡ Ok environment → IsSo refused.Memory)
+    → (error : RehearsalError) → Begins image answer (Err error) → IsSo error
+not_begun image answer IsSo told listed starts memory (refused.Image fault) h = told fault h
+not_begun image answer IsSo told listed starts memory (refused.Rehearsal (rehearsal.DeviceList fault)) h = listed fault h
+not_begun image answer IsSo told listed starts memory (refused.Rehearsal rehearsal.NoSuchVariable) h = absurd h
+not_begun image answer IsSo told listed starts memory (refused.Rehearsal rehearsal.NotARun) h = absurd h
+not_begun image answer IsSo told listed starts memory (refused.Rehearsal rehearsal.States) h = absurd h
+not_begun image answer IsSo told listed starts memory (refused.Rehearsal rehearsal.Write) h = absurd h
+not_begun image answer IsSo told listed starts memory (refused.Rehearsal rehearsal.Memory) h = absurd h
+not_begun image answer IsSo told listed starts memory (refused.Rehearsal rehearsal.Failed) h = absurd h
+not_begun image answer IsSo told listed starts memory (refused.Start fault) h = starts fault h
+not_begun image answer IsSo told listed starts memory refused.Write h = absurd h
+not_begun image answer IsSo told listed starts memory refused.Memory h = memory h.0 h.1
+
+-- where the list is right, and a rehearsal cannot start as it says
+pub not_started : (image : Result (List Pair) ImageError) (environment found : List Pair) (shell : Shell) (list : Result Board Fault) (board : Board) (taking : Taking) (name : Text) (text : Option Text) → image ≡ Ok environment → found ≡ on_board_of shell environment → list ≡ Ok board
+    → (error : BoardError) → StartBegins (begun board.start taking.alternative found name text) (Err error) → Begins image (with_image image shell list taking name text) (Err (board_error error))
+not_started image environment found shell list board taking name text is same listed (faulty.Start fault) h =
+    ap (λ i. with_image i shell list taking name text) is
+    ∙ ap (λ b. with_board b taking (on_board_of shell environment) name text) listed
+    ∙ ap (λ e. begun_with (steady_if taking.steady board.devices) (begun board.start taking.alternative e name text)) (sym same)
+    ∙ ap (begun_with (steady_if taking.steady board.devices)) h
+not_started image environment found shell list board taking name text is same listed (faulty.Devices fault) h = absurd h
+not_started image environment found shell list board taking name text is same listed faulty.Memory h = (environment, is)
+
+-- where there is something to begin with, the image is right
+pub has-image : (g : Given) (beginning : Beginning) → beginning_of g ≡ Ok beginning → HasImage g
+has-image g beginning found = by (environment_in g.order g.first g.second) refl found
+  where
+    by : (image : Result (List Pair) ImageError) → environment_in g.order g.first g.second ≡ image → with_image image g.asking.bounds.shell (board_of g.device_list) g.taking g.asking.variable g.text ≡ Ok beginning → HasImage g
+    by (Ok environment) is f = record { environment = environment; image = is }
+    by (Err fault) is f = absurd (let e : ◌≡◌ {A = Result Beginning NoBeginning} (Err (OfImage fault)) (Ok beginning) = f in cc)
+
+-- and where the list says of the start what cannot be
+pub image-of-start : (g : Given) (fault : StartError) → beginning_of g ≡ Err (OfBoard (OfStart fault)) → HasImage g
+image-of-start g fault found = by (environment_in g.order g.first g.second) refl found
+  where
+    by : (image : Result (List Pair) ImageError) → environment_in g.order g.first g.second ≡ image → with_image image g.asking.bounds.shell (board_of g.device_list) g.taking g.asking.variable g.text ≡ Err (OfBoard (OfStart fault)) → HasImage g
+    by (Ok environment) is f = record { environment = environment; image = is }
+    by (Err other) is f = absurd (let e : ◌≡◌ {A = Result Beginning NoBeginning} (Err (OfImage other)) (Err (OfBoard (OfStart fault))) = f in cc)
+
+-- what holds of the rehearsal of what it begins with holds of what it was read from
+pub on_board : (g : Given) (beginning : Beginning) → beginning_of g ≡ Ok beginning → (text : Option Text) → text ≡ beginning.text → (IsSo : Option Task → Type 0)
+    → IsSo (task_asked beginning.environment beginning.devices text g.asking) → HasBoard g IsSo
+on_board g beginning found text same IsSo h = record {
+  beginning = beginning;
+  found = found;
+  so = subst (λ (t : Option Text). IsSo (task_asked beginning.environment beginning.devices t g.asking)) same h;
+}

@@ -1,0 +1,9 @@
+use Rattle.std.proofs.Common.{List}
+use Rattle.std.specs.Option.{option_copied}
+use Rattle.rehearse_terms.specs.State.{Text}
+use Rattle.ubtool.specs.EndingsOfImages.{AreInOrder, endings_given}
+use Rattle.ubtool.proofs.image_endings.lines_in_turn.Given as goal
+
+-- the lines of the alternatives so far
+abbrev pub invariant-loop-place : goal.invariant-loop-place
+invariant-loop-place l = (parts : List Text) × AreInOrder (endings_given l.fn.order l.fn.first (option_copied l.fn.second) l.fn.list.text.now l.fn.list.taking l.fn.ask) l.fn.ask.flow l.fn.ask.states l.place parts l.text.items

@@ -1,0 +1,69 @@
+-- What a rehearsal begins with: the environment that the board has, its device list as it is taken, and the text that is
+-- rehearsed in place of the variable's, if there is one. Ours.
+use Rattle.std.specs.Prelude.{◌≡◌, List, Option, Result, Ok, Err}
+use Rattle.envimage.specs.Data.{Pair}
+use Rattle.envimage.specs.declared.image.ImageError.{ImageError}
+use Rattle.board_start.specs.Boards.{Board, Fault, OfDevices, OfStart, board_of}
+use Rattle.board_start.specs.Start.{Begun, begun}
+use Rattle.board_start.specs.declared.start_error.StartError.{StartError}
+use Rattle.device_list.specs.DeviceList.{Devices, steady_if}
+use Rattle.rehearse_rules.specs.declared.rehearse_error.RehearseError.TheVariants.{DeviceList}
+use Rattle.rehearse_terms.specs.State.{Text}
+use Rattle.rehearse_terms.specs.declared.shell.Shell.{Shell}
+use Rattle.text.specs.TextsShown.{option_items}
+use Rattle.tool_images.specs.PrintingImages.{environment_in}
+use Rattle.tool_words.specs.declared.ask.Taking.{Taking}
+use Rattle.ubtool.specs.BoardEnvironment.{on_board}
+use Rattle.ubtool.specs.Given.{Given}
+use Rattle.ubtool.specs.declared.beginning.Beginning.{Beginning as BeginningRead}
+use Rattle.ubtool.specs.declared.rehearsal_error.RehearsalError.{RehearsalError}
+use Rattle.ubtool.specs.declared.rehearsal_error.RehearsalError.TheVariants.{Image, Memory, Rehearsal, Start}
+
+pub record Beginning : Type 0 where
+  pub environment : List Pair
+  pub devices : Devices
+  -- a text that is rehearsed in place of the variable's
+  pub text : Option Text
+
+-- why there is none: the image is faulty, or the list of the board is, or a rehearsal cannot start as it says
+pub data NoBeginning : Type 0 where
+  OfImage : ImageError → NoBeginning
+  OfBoard : Fault → NoBeginning
+
+abbrev pub begun_with : Devices → Result Begun StartError → Result Beginning NoBeginning
+begun_with devices (Ok begun) = Ok (record { environment = begun.environment; devices = devices; text = begun.text })
+begun_with devices (Err fault) = Err (OfBoard (OfStart fault))
+
+-- All of the list is steady if that is asked, and what the list gives is in the environment.
+abbrev pub with_board : Result Board Fault → Taking → List Pair → (variable : Text) → (text : Option Text) →
+    Result Beginning NoBeginning
+with_board (Ok board) taking environment variable text =
+    begun_with (steady_if taking.steady board.devices) (begun board.start taking.alternative environment variable text)
+with_board (Err fault) taking environment variable text = Err (OfBoard fault)
+
+-- The environment is that of the image, as a board with this shell has it.
+abbrev pub with_image : Result (List Pair) ImageError → Shell → Result Board Fault → Taking → (variable : Text) →
+    (text : Option Text) → Result Beginning NoBeginning
+with_image (Ok environment) shell board taking variable text =
+    with_board board taking (on_board shell environment) variable text
+with_image (Err fault) shell board taking variable text = Err (OfImage fault)
+
+-- what all that is given begins with
+abbrev pub beginning_of : Given → Result Beginning NoBeginning
+beginning_of g =
+    with_image (environment_in g.order g.first g.second) g.asking.bounds.shell (board_of g.device_list) g.taking
+    g.asking.variable g.text
+
+-- what the program begins with, seen as the definitions have it
+abbrev pub beginning_shown : BeginningRead → Beginning
+beginning_shown b = record { environment = b.env; devices = b.devices; text = option_items b.text }
+
+-- what is found, or why there is nothing; memory may run out if the image is right
+abbrev pub Begins : (image : Result (List Pair) ImageError) → Result Beginning NoBeginning →
+    Result BeginningRead RehearsalError → Type 0
+Begins image answer (Ok beginning) = answer ≡ Ok (beginning_shown beginning)
+Begins image answer (Err (Image fault)) = answer ≡ Err (OfImage fault)
+Begins image answer (Err (Rehearsal (DeviceList fault))) = answer ≡ Err (OfBoard (OfDevices fault))
+Begins image answer (Err (Start fault)) = answer ≡ Err (OfBoard (OfStart fault))
+Begins image answer (Err Memory) = (environment : List Pair) × (image ≡ Ok environment)
+Begins image answer (Err error) = ⊥

@@ -1,0 +1,72 @@
+//! What a rehearsal begins with.
+ghost use Rattle.std.specs.Prelude.{◌≡◌};
+ghost use Rattle.std.specs.Option.{option_copied};
+ghost use Rattle.board_start.specs.Boards.{board_of};
+ghost use Rattle.device_list.specs.DeviceList.{steady_if};
+ghost use Rattle.text.specs.TextsShown.{option_bytes};
+ghost use Rattle.tool_images.specs.PrintingImages.{environment_in};
+ghost use Rattle.ubtool.specs.Beginning.{Begins, with_image};
+
+use crate::board_environment::env_of_board;
+use crate::rehearsal_error::RehearsalError;
+use board_start::{Begun, Board};
+use device_list::Devices;
+use envimage::ByteOrder;
+use envtools::Env;
+use rehearse_terms::Shell;
+use std::alloc::Global;
+use tool_words::Taking;
+
+/// The text of a device list, and how it is taken.
+#[derive(Clone, Copy)]
+pub struct DeviceText<'a> {
+    /// The text.
+    pub text: &'a [u8],
+    /// How it is taken.
+    pub taking: Taking,
+}
+
+/// What a rehearsal begins with.
+#[derive(Drop)]
+pub(crate) struct Beginning {
+    /// The environment that the board has.
+    pub(crate) env: Env,
+    /// Its device commands.
+    pub(crate) devices: Devices,
+    /// The text that is rehearsed in place of the variable's, if there is one.
+    pub(crate) text: Option<Vec<u8>>,
+}
+
+/// The device list, all of it steady if that is asked.
+fn taken(devices: Devices, steady: bool) -> Devices
+    ensures { result ≡ steady_if steady devices }
+{
+    if steady { devices.steady() } else { devices }
+}
+
+/// What a rehearsal of a variable of an image, or of a text in its environment, begins with, on a board
+/// of this shell. Errors in order: the image; `Start` with `TooMany`; `Rehearsal` with the first fault of
+/// the device list; `Start` for another reason; `Memory` wherever a growth is made.
+pub(crate) fn begin(
+    alloc: Global,
+    first: &[u8],
+    second: Option<&[u8]>,
+    order: ByteOrder,
+    shell: Shell,
+    list: DeviceText<'_>,
+    name: &[u8],
+    text: Option<&[u8]>,
+) -> Result<Beginning, RehearsalError>
+    ensures { Begins (environment_in order first.now (option_copied second.entry))
+        (with_image (environment_in order first.now (option_copied second.entry)) shell
+        (board_of list.entry.text.now) list.entry.taking name.now (option_bytes text.entry)) result }
+{
+    let env = env_of_board(alloc, first, second, order, shell)?;
+    let Board { start, devices } = Board::parse(alloc, list.text)?;
+    let Begun { env, text } = start.begin(list.taking.alternative, env, name, text)?;
+    Ok(Beginning {
+        env,
+        devices: taken(devices, list.taking.steady),
+        text,
+    })
+}
