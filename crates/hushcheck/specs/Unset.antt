@@ -43,8 +43,8 @@ used_by rules env name = used_by_value rules name (value_of env name)
 
 -- ---- what is set
 
--- The variables that the board's own code sets before a script runs, as far as the device list says it. No line of a list
--- says it.
+-- The variables that the board's own code sets before a script runs, beside those of the environment. There are none: what
+-- lines `given` of a list say is in the environment that is checked.
 abbrev pub given_names : Option Devices → List Text
 given_names devices = []
 

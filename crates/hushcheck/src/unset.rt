@@ -56,8 +56,8 @@ pub(crate) fn add_used<'a>(
     Ok(())
 }
 
-/// Adds the variables that the board's own code sets before a script runs, as far as the device list says it. No
-/// line of a list says it, so none is added. Errors: memory ran out.
+/// Adds the variables that the board's own code sets before a script runs, beside those of the environment.
+/// There are none: what lines `given` of a list say is in the environment. Errors: memory ran out.
 fn add_given(names: &mut Names, devices: Option<&Devices>) -> Result<(), AllocError>
     ensures { OnOk result (names.new ≡ with_names names.old
         (spec.given_names (option_map (λ d. d.now) devices.entry))) }

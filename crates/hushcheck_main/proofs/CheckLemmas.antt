@@ -8,11 +8,13 @@ use Rattle.envimage.specs.declared.image.ImageError.{ImageError}
 use Rattle.envimage.specs.declared.image.ImageError.TheVariants as image
 use Rattle.output.specs.Sink.{Sink}
 use Rattle.hushcheck_main.specs.Asked.{Asked}
-use Rattle.hushcheck_main.specs.Checking.{AreListed, ChecksFrom, ChecksText, FromFiles, Given, HasReadList, IsListless, IsUnread, LeavesOutput, Lists, Named, ReadsList, given, given_by, under, TellsAll, IsBadList, BreaksOff, WritesFront}
+use Rattle.hushcheck_main.specs.Checking.{AreListed, AreTexts, BeginTexts, BeginsAll, ChecksAll, ChecksBy, ChecksFrom, ChecksText, FromFiles, Given, HasReadList, IsListless, IsUnread, LeavesOutput, Lists, Named, ReadsList, env_on, given, given_by, rules_in, under, TellsAll, IsBadList, BreaksOff, WritesFront}
 use Rattle.hushcheck.specs.Names.{Text}
-use Rattle.device_list.specs.DeviceList.{Devices}
+use Rattle.hushcheck.specs.Report.{asked_names}
+use Rattle.hushcheck.specs.Rules.{Rules}
 use Rattle.rehearse_terms.specs.declared.shell.Shell.{Shell}
-use Rattle.device_list.specs.declared.devices_error.DevicesError.{DevicesError}
+use Rattle.board_start.specs.Boards.{Board}
+use Rattle.board_start.specs.declared.board_error.BoardError.{BoardError}
 use Rattle.hushcheck_main.specs.Faults.{CountsShared, of_image}
 use Rattle.hushcheck_main.specs.declared.fault.CheckFault.{CheckFault}
 use Rattle.hushcheck_main.specs.declared.fault.CheckFault.TheVariants.{DeviceList, Shared}
@@ -230,14 +232,14 @@ counts-none g out out' count (Err (Shared (fault.NoScript path why))) h = refl
 -- ---- one environment
 
 -- what is said of the environment that was found, by the names as they are given
-pub texts-in : (answer : Result (List Pair) ImageError) (env : List Pair) (devices : Result (Option Devices) DevicesError) (script : Option Named) (names names' : List Text) (all : Bool) (shell : Option Shell) (strict : Bool) (old new : Sink) (told : Result Bool CheckFault) → answer ≡ Ok env
+pub texts-in : (answer : Result (List Pair) ImageError) (env : List Pair) (devices : Result (Option Board) BoardError) (script : Option Named) (names names' : List Text) (all : Bool) (shell : Option Shell) (strict : Bool) (old new : Sink) (told : Result Bool CheckFault) → answer ≡ Ok env
     → names ≡ names' → ChecksText (given (Ok env) devices script names all shell strict) old new told → ChecksText (given answer devices script names' all shell strict) old new told
 texts-in answer env devices script names names' all shell strict old new told found same h =
     subst (λ (e : Result (List Pair) ImageError). ChecksText (given e devices script names' all shell strict) old new told) (sym found)
     (subst (λ (ns : List Text). ChecksText (given (Ok env) devices script ns all shell strict) old new told) same h)
 
 -- the refusal of the image
-pub no-texts : (answer : Result (List Pair) ImageError) (devices : Result (Option Devices) DevicesError) (script : Option Named) (names : List Text) (all : Bool) (shell : Option Shell) (strict : Bool) (old : Sink) (error : ImageError) → Finds answer (Err error)
+pub no-texts : (answer : Result (List Pair) ImageError) (devices : Result (Option Board) BoardError) (script : Option Named) (names : List Text) (all : Bool) (shell : Option Shell) (strict : Bool) (old : Sink) (error : ImageError) → Finds answer (Err error)
     → ChecksText (given answer devices script names all shell strict) old old (Err (of_image error))
 no-texts answer devices script names all shell strict old image.WrongSize h = (h, refl)
 no-texts answer devices script names all shell strict old image.BadCrc h = (h, refl)
@@ -246,7 +248,7 @@ no-texts answer devices script names all shell strict old image.TooLarge h = (h,
 no-texts answer devices script names all shell strict old image.Memory h = inl refl
 
 -- the refusal of the device list
-pub no-list : (answer : Result (Option Devices) DevicesError) (env : List Pair) (script : Option Named) (names : List Text) (all : Bool) (shell : Option Shell) (strict : Bool) (old : Sink) (error : CheckFault) → Lists answer (Err error)
+pub no-list : (answer : Result (Option Board) BoardError) (env : List Pair) (script : Option Named) (names : List Text) (all : Bool) (shell : Option Shell) (strict : Bool) (old : Sink) (error : CheckFault) → Lists answer (Err error)
     → ChecksText (given (Ok env) answer script names all shell strict) old old (Err error)
 no-list answer env script names all shell strict old (DeviceList error) h = (record { env = env; there = refl; refused = h }, refl)
 no-list answer env script names all shell strict old (Shared fault.Memory) h = inl refl
@@ -266,10 +268,60 @@ no-list answer env script names all shell strict old (Shared fault.InputTooLong)
 no-list answer env script names all shell strict old (Shared (fault.InputCutOff line)) h = absurd h
 no-list answer env script names all shell strict old (Shared (fault.NoScript path why)) h = absurd h
 
+-- the checks by what a list says, in the environment that it gives
+pub texts-by : (g : Given) (env found : List Pair) (board : Option Board) (rules : Rules) (old new : Sink) → g.env ≡ Ok env → g.board ≡ Ok board → rules ≡ rules_in board g → found ≡ env_on board env
+    → (r : Result Bool CheckFault) → ChecksBy rules found g.script (asked_names g.all found g.names) old new r → ChecksText g old new r
+texts-by g env found board rules old new there listed held same = by
+  where
+    checks : (told : Text) (sound : Bool) → ChecksAll rules found g.script (asked_names g.all found g.names) told sound → AreTexts g told sound
+    checks told sound h = record {
+      env = env;
+      there = there;
+      board = board;
+      are_listed = listed;
+      checks = subst (λ (rs : Rules). ChecksAll rs (env_on board env) g.script (asked_names g.all (env_on board env) g.names) told sound) held
+          (subst (λ (e : List Pair). ChecksAll rules e g.script (asked_names g.all e g.names) told sound) same h);
+    }
+
+    begins : (told : Text) → BeginsAll rules found g.script (asked_names g.all found g.names) told → BeginTexts g told
+    begins told h = record {
+      env = env;
+      there = there;
+      board = board;
+      are_listed = listed;
+      begins = subst (λ (rs : Rules). BeginsAll rs (env_on board env) g.script (asked_names g.all (env_on board env) g.names) told) held
+          (subst (λ (e : List Pair). BeginsAll rules e g.script (asked_names g.all e g.names) told) same h);
+    }
+
+    by : (r : Result Bool CheckFault) → ChecksBy rules found g.script (asked_names g.all found g.names) old new r → ChecksText g old new r
+    by (Ok sound) h = (h.0, checks h.0 sound h.1, h.2)
+    by (Err (Shared (fault.Tool tool.Write))) h = (h.0, begins h.0 h.1, h.2)
+    by (Err (Shared fault.Memory)) (inl h) = inl h
+    by (Err (Shared fault.Memory)) (inr h) = inr (h.0, begins h.0 h.1, h.2)
+    by (Err (DeviceList error)) h = absurd h
+    by (Err (Shared (fault.Tool (tool.Image error)))) h = absurd h
+    by (Err (Shared (fault.Tool (tool.Env error)))) h = absurd h
+    by (Err (Shared (fault.Tool (tool.Script error)))) h = absurd h
+    by (Err (Shared (fault.Tool tool.Memory))) h = absurd h
+    by (Err (Shared (fault.Config error))) h = absurd h
+    by (Err (Shared (fault.Lock error))) h = absurd h
+    by (Err (Shared (fault.CannotRead path))) h = absurd h
+    by (Err (Shared (fault.CannotWrite path))) h = absurd h
+    by (Err (Shared (fault.Exists path))) h = absurd h
+    by (Err (Shared (fault.FileShort path))) h = absurd h
+    by (Err (Shared (fault.FileTooLong path))) h = absurd h
+    by (Err (Shared fault.UnequalSizes)) h = absurd h
+    by (Err (Shared (fault.Text error))) h = absurd h
+    by (Err (Shared fault.TextTooLarge)) h = absurd h
+    by (Err (Shared fault.CannotReadInput)) h = absurd h
+    by (Err (Shared fault.InputTooLong)) h = absurd h
+    by (Err (Shared (fault.InputCutOff line))) h = absurd h
+    by (Err (Shared (fault.NoScript path why))) h = absurd h
+
 -- the same check with a device list that is another way to write this one
-pub listed-as : (answer answer' : Result (Option Devices) DevicesError) (env : List Pair) (script : Option Named) (names : List Text) (all : Bool) (shell : Option Shell) (strict : Bool) (old new : Sink) (told : Result Bool CheckFault) → answer ≡ answer'
+pub listed-as : (answer answer' : Result (Option Board) BoardError) (env : List Pair) (script : Option Named) (names : List Text) (all : Bool) (shell : Option Shell) (strict : Bool) (old new : Sink) (told : Result Bool CheckFault) → answer ≡ answer'
     → ChecksText (given (Ok env) answer script names all shell strict) old new told → ChecksText (given (Ok env) answer' script names all shell strict) old new told
-listed-as answer answer' env script names all shell strict old new told e h = subst (λ (d : Result (Option Devices) DevicesError). ChecksText (given (Ok env) d script names all shell strict) old new told) e h
+listed-as answer answer' env script names all shell strict old new told e h = subst (λ (d : Result (Option Board) BoardError). ChecksText (given (Ok env) d script names all shell strict) old new told) e h
 
 -- the environment of the images, by the bytes of their copies
 pub found-in : (order : ByteOrder) (images : Images) (first : List ℕ) (second : Option (List ℕ)) → first ≡ images.first.bytes.items → second ≡ option_map (λ copy. copy.bytes.items) images.second

@@ -1,5 +1,5 @@
 -- What checking the texts of an image does, from files whose contents are known. Ours.
-use Rattle.std.specs.Prelude.{◌≡◌, ◌⊎◌, ℕ, Bool, List, Option, Some, None, Result, Ok, Err, Vec}
+use Rattle.std.specs.Prelude.{◌≡◌, ◌⊎◌, ℕ, Bool, List, Option, Some, None, option_map, Result, Ok, Err, Vec}
 use Rattle.std.specs.declared.alloc.Global.{Global}
 use Rattle.envimage.specs.Data.{Pair}
 use Rattle.output.specs.Outputs.{WroteFront}
@@ -15,8 +15,12 @@ use Rattle.hushcheck.specs.Rules.{Rules}
 use Rattle.hushcheck.specs.Telling.{Stops}
 use Rattle.hushcheck.specs.declared.check_error.CheckError.{CheckError}
 use Rattle.rehearse_terms.specs.declared.shell.Shell.{Shell}
-use Rattle.device_list.specs.DeviceList.{Devices, listed}
-use Rattle.device_list.specs.declared.devices_error.DevicesError.{DevicesError}
+use Rattle.board_start.specs.BoardShown.{board_shown}
+use Rattle.board_start.specs.Boards.{Board, Fault as BoardFault, OfDevices, OfStart, board_of}
+use Rattle.board_start.specs.Start.{chosen, with_all}
+use Rattle.board_start.specs.declared.board.Board.{Board as BoardRead}
+use Rattle.board_start.specs.declared.board_error.BoardError.{BoardError}
+use Rattle.board_start.specs.declared.board_error.BoardError.TheVariants as board
 use Rattle.tool_files.specs.CallOrder.{OnlyReads}
 use Rattle.tool_files.specs.Told.{Told, file_at}
 use Rattle.tool_files.specs.declared.files.Action.TheVariants.{ReadAll}
@@ -42,30 +46,31 @@ abbrev pub under : (name text : Option Text) → Option Named
 under (Some name) (Some text) = Some (name, text)
 under name text = None
 
--- the environment that was found, the device list and the script if there are any, the names that the call gives, whether
+-- the environment that was found, the board of the device list and the script if there are any, the names that the call gives, whether
 -- every variable is checked after them, the shell that is named, if one is, and whether a warning is a fault
 pub record Given : Type 0 where
   pub env : Result (List Pair) ImageError
-  pub devices : Result (Option Devices) DevicesError
+  pub board : Result (Option Board) BoardError
   pub script : Option Named
   pub names : List Text
   pub all : Bool
   pub shell : Option Shell
   pub strict : Bool
 
-abbrev pub given : Result (List Pair) ImageError → Result (Option Devices) DevicesError → Option Named → List Text → Bool →
+abbrev pub given : Result (List Pair) ImageError → Result (Option Board) BoardError → Option Named → List Text → Bool →
     Option Shell → (strict : Bool) → Given
-given env devices script names all shell strict =
-    record { env = env; devices = devices; script = script; names = names; all = all; shell = shell; strict = strict }
+given env board script names all shell strict =
+    record { env = env; board = board; script = script; names = names; all = all; shell = shell; strict = strict }
 
-abbrev pub with_list : Result Devices DevicesError → Result (Option Devices) DevicesError
-with_list (Ok devices) = Ok (Some devices)
-with_list (Err fault) = Err fault
+abbrev pub with_list : Result Board BoardFault → Result (Option Board) BoardError
+with_list (Ok board) = Ok (Some board)
+with_list (Err (OfStart fault)) = Err (board.Start fault)
+with_list (Err (OfDevices fault)) = Err (board.Devices fault)
 
--- the device list of a text, if there is one
-abbrev pub list_in : Option Text → Result (Option Devices) DevicesError
+-- the board of a device list's text, if there is one
+abbrev pub list_in : Option Text → Result (Option Board) BoardError
 list_in None = Ok None
-list_in (Some text) = with_list (listed text)
+list_in (Some text) = with_list (board_of text)
 
 -- the same for copies and the text of a device list
 abbrev pub given_by : ByteOrder → List Copy → (list : Option Text) → Option Named → List Text → Bool → Option Shell →
@@ -74,8 +79,13 @@ given_by order found list script names all shell strict =
     given (environment order found) (list_in list) script names all shell strict
 
 -- what the texts are held to
-abbrev pub rules_in : Option Devices → Given → Rules
-rules_in devices g = record { devices = devices; shell = g.shell; strict = g.strict }
+abbrev pub rules_in : Option Board → Given → Rules
+rules_in board g = record { devices = option_map (λ b. b.devices) board; shell = g.shell; strict = g.strict }
+
+-- the environment with what the list gives, of its alternatives the first
+abbrev pub env_on : Option Board → List Pair → List Pair
+env_on None env = env
+env_on (Some board) env = with_all env (chosen board.start 0)
 
 -- ---- a script, or none
 
@@ -98,9 +108,9 @@ WritesAll rules env script asked (Err error) old new =
 
 -- ---- one environment
 
--- the device list, or why there is none
-abbrev pub Lists : Result (Option Devices) DevicesError → Result (Option Devices) CheckFault → Type 0
-Lists answer (Ok devices) = answer ≡ Ok devices
+-- the board of the device list, or why there is none
+abbrev pub Lists : Result (Option Board) BoardError → Result (Option BoardRead) CheckFault → Type 0
+Lists answer (Ok board) = answer ≡ Ok (option_map board_shown board)
 Lists answer (Err (DeviceList fault)) = answer ≡ Err fault
 Lists answer (Err (Shared Memory)) = Unit {0}
 Lists answer (Err _) = ⊥
@@ -109,23 +119,24 @@ Lists answer (Err _) = ⊥
 pub record AreTexts (g : Given) (told : Text) (sound : Bool) : Type 0 where
   pub env : List Pair
   pub there : g.env ≡ Ok env
-  pub devices : Option Devices
-  pub are_listed : g.devices ≡ Ok devices
-  pub checks : ChecksAll (rules_in devices g) env g.script (asked_names g.all env g.names) told sound
+  pub board : Option Board
+  pub are_listed : g.board ≡ Ok board
+  pub checks : ChecksAll (rules_in board g) (env_on board env) g.script (asked_names g.all (env_on board env) g.names)
+      told sound
 
 -- The environment is right, and the device list is refused for this.
-pub record IsBadList (g : Given) (fault : DevicesError) : Type 0 where
+pub record IsBadList (g : Given) (fault : BoardError) : Type 0 where
   pub env : List Pair
   pub there : g.env ≡ Ok env
-  pub refused : g.devices ≡ Err fault
+  pub refused : g.board ≡ Err fault
 
 -- The environment and the device list are right, and these are the lines of the texts whose turn had come.
 pub record BeginTexts (g : Given) (told : Text) : Type 0 where
   pub env : List Pair
   pub there : g.env ≡ Ok env
-  pub devices : Option Devices
-  pub are_listed : g.devices ≡ Ok devices
-  pub begins : BeginsAll (rules_in devices g) env g.script (asked_names g.all env g.names) told
+  pub board : Option Board
+  pub are_listed : g.board ≡ Ok board
+  pub begins : BeginsAll (rules_in board g) (env_on board env) g.script (asked_names g.all (env_on board env) g.names) told
 
 -- all that is reported was written
 abbrev pub TellsAll : Given → (old new : Sink) → (sound : Bool) → Type 0
@@ -147,6 +158,16 @@ ChecksText g old new (Err (DeviceList fault)) = IsBadList g fault × (new ≡ ol
 ChecksText g old new (Err (Shared (Tool Write))) = BreaksOff g old new
 ChecksText g old new (Err (Shared Memory)) = (new ≡ old) ⊎ WritesFront g old new
 ChecksText g old new (Err _) = ⊥
+
+-- the same by these rules, in this environment, with these names
+abbrev pub ChecksBy : Rules → List Pair → Option Named → (asked : List Text) → Sink → Sink → Result Bool CheckFault → Type 0
+ChecksBy rules env script asked old new (Ok sound) =
+    (told : Text) × ChecksAll rules env script asked told sound × Wrote old new told
+ChecksBy rules env script asked old new (Err (Shared (Tool Write))) =
+    (told : Text) × BeginsAll rules env script asked told × BrokeOff old new told
+ChecksBy rules env script asked old new (Err (Shared Memory)) =
+    (new ≡ old) ⊎ ((told : Text) × BeginsAll rules env script asked told × WroteFront old new told)
+ChecksBy rules env script asked old new (Err _) = ⊥
 
 -- ---- files
 

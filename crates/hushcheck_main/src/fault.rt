@@ -1,6 +1,6 @@
 //! The faults that the program reports, each in one line.
 
-use device_list::DevicesError;
+use board_start::BoardError;
 use envimage::ImageError;
 use thiserror::Error;
 use tool_images::{Fault, ToolError};
@@ -13,7 +13,7 @@ pub enum CheckFault {
     Shared(Fault),
     /// The device list, for a reason other than memory.
     #[error("{0}")]
-    DeviceList(DevicesError),
+    DeviceList(BoardError),
 }
 
 impl From<Fault> for CheckFault {

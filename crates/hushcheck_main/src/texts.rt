@@ -1,8 +1,10 @@
 //! The texts of images, checked.
-ghost use Rattle.std.specs.Prelude.{◌≡◌, Ok, map, option_map, string_bytes};
+ghost use Rattle.std.specs.Prelude.{◌≡◌, IfOk, Ok, map, option_map, string_bytes};
+ghost use Rattle.board_start.specs.BoardShown.{board_shown};
+ghost use Rattle.hushcheck.specs.Report.{asked_names};
 ghost use Rattle.std.specs.Option.{option_copied};
 ghost use Rattle.hushcheck_main.specs.Asked.{asked_by};
-ghost use Rattle.hushcheck_main.specs.Checking.{ChecksFrom, ChecksText, LeavesOutput, Lists, ReadsList, WritesAll, given, given_by, list_in, under};
+ghost use Rattle.hushcheck_main.specs.Checking.{ChecksBy, ChecksFrom, ChecksText, LeavesOutput, Lists, ReadsList, WritesAll, env_on, given, given_by, list_in, under};
 ghost use Rattle.hushcheck_main.specs.Shown.{script_shown};
 ghost use Rattle.tool_steps.specs.Scripts.{ReadsNamed};
 ghost use Rattle.tool_files.specs.Told.{IfTold};
@@ -12,13 +14,14 @@ ghost use Rattle.tool_steps.specs.Images.{copies};
 
 use crate::ask::CheckAsk;
 use crate::fault::CheckFault;
-use device_list::{Devices, DevicesError};
+use board_start::{Board, BoardError};
+use device_list::Devices;
 use envimage::ByteOrder;
 use envtools::Env;
 use hushcheck::{CheckError, Rules, asked_names, check, check_script};
 use output::Out;
 use rehearse_terms::Shell;
-use std::alloc::Global;
+use std::alloc::{AllocError, Global};
 use tool_files::Files;
 use tool_images::{Fault, ToolError, env_of_image};
 use tool_steps::{Images, read_list, read_named_script, read_origin, slices_of};
@@ -53,17 +56,37 @@ fn under<'a>(name: Option<&'a [u8]>, text: Option<&'a [u8]>) -> Option<Script<'a
     }
 }
 
-/// The device list of a text, if there is one.
-fn list_of(alloc: Global, text: Option<&[u8]>) -> Result<Option<Devices>, CheckFault>
+/// The board of a device list's text, if there is one.
+fn list_of(alloc: Global, text: Option<&[u8]>) -> Result<Option<Board>, CheckFault>
     ensures { Lists (list_in (option_copied text.entry)) result }
 {
     let Some(text) = text else {
         return Ok(None);
     };
-    match Devices::parse(alloc, text) {
-        Ok(devices) => Ok(Some(devices)),
-        Err(DevicesError::Memory) => Err(CheckFault::Shared(Fault::Memory)),
+    match Board::parse(alloc, text) {
+        Ok(board) => Ok(Some(board)),
+        Err(BoardError::Memory) => Err(CheckFault::Shared(Fault::Memory)),
         Err(fault) => Err(CheckFault::DeviceList(fault)),
+    }
+}
+
+/// The environment with what the list gives, of its alternatives the first. Errors: memory ran out.
+fn env_on(board: &Option<Board>, env: Env) -> Result<Env, AllocError>
+    ensures { IfOk result (λ new. new ≡ env_on (option_map board_shown board.now) env) }
+{
+    match board {
+        Some(board) => board.start.give(env, 0),
+        None => Ok(env),
+    }
+}
+
+/// The device commands of a board, if there is one.
+fn devices_of(board: &Option<Board>) -> Option<&Devices>
+    ensures { option_map (λ d. d.now) result ≡ option_map (λ b. b.devices) (option_map board_shown board.now) }
+{
+    match board {
+        Some(board) => Some(&board.devices),
+        None => None,
     }
 }
 
@@ -85,43 +108,35 @@ fn check_names<O: Out>(
     }
 }
 
-/// Checks the texts of an environment and the script, if there is one, with this device list if there is
-/// one, and writes what is reported of them. Returns false if a text is not well-formed, a name is not set,
-/// the device list lacks a command, or there is a warning and that is a fault.
-fn check_with<O: Out>(
+/// Checks the texts of an environment and the script, if there is one, by these rules, and writes what is
+/// reported of them. Returns false if a text is not well-formed, a name is not set, the device list lacks a
+/// command, or there is a warning and that is a fault.
+fn check_by<O: Out>(
     alloc: Global,
-    devices: Option<&Devices>,
+    rules: &Rules<'_>,
     env: &Env,
     script: Option<Script<'_>>,
     names: &[&[u8]],
     all: bool,
-    shell: Option<Shell>,
-    strict: bool,
     out: &mut O,
 ) -> Result<bool, CheckFault>
-    ensures { ChecksText (given (Ok env.now) (Ok (option_map (λ d. d.now) devices.entry))
-        (script_shown script.entry) (map (λ n. n.now) names.now) all shell strict)
-        (O.sink out.old) (O.sink out.new) result }
+    ensures { ChecksBy rules.now env.now (script_shown script.entry)
+        (asked_names all env.now (map (λ n. n.now) names.now)) (O.sink out.old) (O.sink out.new) result }
 {
     let Ok(names) = asked_names(alloc, env, names, all) else {
         return Err(CheckFault::Shared(Fault::Memory));
     };
-    let rules = Rules {
-        devices,
-        shell,
-        strict,
-    };
-    match check_names(alloc, &rules, env, script, &names, out) {
+    match check_names(alloc, rules, env, script, &names, out) {
         Ok(sound) => Ok(sound),
         Err(CheckError::Write) => Err(CheckFault::Shared(Fault::Tool(ToolError::Write))),
         Err(CheckError::Memory) => Err(CheckFault::Shared(Fault::Memory)),
     }
 }
 
-/// The same with the device list of a text, if there is one.
+/// The same with the device list of a text, if there is one, and with what it gives.
 fn check_env<O: Out>(
     alloc: Global,
-    env: &Env,
+    env: Env,
     list: Option<&[u8]>,
     script: Option<Script<'_>>,
     names: &[&[u8]],
@@ -130,22 +145,20 @@ fn check_env<O: Out>(
     strict: bool,
     out: &mut O,
 ) -> Result<bool, CheckFault>
-    ensures { ChecksText (given (Ok env.now) (list_in (option_copied list.entry))
+    ensures { ChecksText (given (Ok env) (list_in (option_copied list.entry))
         (script_shown script.entry) (map (λ n. n.now) names.now) all shell strict)
         (O.sink out.old) (O.sink out.new) result }
 {
-    let devices = list_of(alloc, list)?;
-    check_with(
-        alloc,
-        devices.as_ref(),
-        env,
-        script,
-        names,
-        all,
+    let board = list_of(alloc, list)?;
+    let Ok(env) = env_on(&board, env) else {
+        return Err(CheckFault::Shared(Fault::Memory));
+    };
+    let rules = Rules {
+        devices: devices_of(&board),
         shell,
         strict,
-        out,
-    )
+    };
+    check_by(alloc, &rules, &env, script, names, all, out)
 }
 
 /// The same for images that were read, a single one or a pair.
@@ -170,7 +183,7 @@ fn check_images<O: Out>(
     let env = env_of_image(alloc, &images.first.bytes, second, order)?;
     check_env(
         alloc,
-        &env,
+        env,
         list,
         script,
         &names,
