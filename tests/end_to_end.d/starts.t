@@ -210,9 +210,9 @@ the flow of each
   $ printf '%s\n' 'final boot' 'given a=1' 'given a=2' >list
   $ ubtool endings --text env.txt -d list --flow
   given a=1
-  1 ask boot success 2 failure 3
-  2 ends booted boot
-  3 ends end 1
+  1 ask boot success 3 failure 2
+  2 ends end 1
+  3 ends booted boot
   given a=2
   1 ends end 0
 
