@@ -38,6 +38,7 @@ the examples of rehearse are in the manual, and one of them is in the README
   ubtool rehearse -d devices.txt --limit 20 --after 0110
   ubtool rehearse -d devices.txt --word 0110 bootargs
   ubtool rehearse -d devices.txt --steady --failures 1
+  ubtool rehearse -d devices.txt --given 2
   ubtool rehearse --text env.txt -d devices.txt
   ubtool rehearse --script boot.scr --text env.txt -d devices.txt
   $ not_in manual
