@@ -60,7 +60,7 @@ of a script
 
 of what the board sets
   $ sed -n '/^## What the board sets/,/^## A real/p' "$page" | calls
-  2
+  3
   $ cmp found shown
 
 the states with steady test
