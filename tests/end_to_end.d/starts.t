@@ -54,6 +54,15 @@ commands that are called so
   end 0
   more 00
 
+a text that fails, sets, and ends before its last command: U-Boot 2025.01 answered the same
+  $ printf '%s\n' a=0 'p=setenv a 2; c=3; false; exit; setenv a 4' 'bootcmd=echo $a $c' >env.txt
+  $ printf '%s\n' 'before p' >list; ubtool rehearse --text env.txt -d list a
+  run .
+  text 2 3\n
+  var a=2
+  end 0
+  done
+
 a text that runs first, and one that is not set
   $ runs 'before p' 'before q'
   run 00
