@@ -2,6 +2,7 @@
 use Rattle.std.proofs.Common.{◌≡◌, true, false, [], ◌∷◌, map, Some, None, Ok, Err, refl}
 use Rattle.std.specs.Prelude.{codes}
 use Rattle.text.specs.Lines.{Text}
+use Rattle.device_list.specs.declared.finish.BoardEnd.TheVariants.{Boots, Restarts, Halts}
 use Rattle.device_list.specs.Called.{sets_in}
 use Rattle.device_list.specs.CallLines.{Exactly, Starting, Pattern, fits}
 use Rattle.device_list.specs.DeviceList.{Setting, Variable, WordAt, LastWord, Literal, ValueAt, LastValue, Effect, Devices, only, effect_of, is_listed, listed, all_steady}
@@ -27,7 +28,7 @@ words_exactly = refl
 stars : listed (codes "call mmc d* * ** :") ≡ Ok (one (codes "mmc") (record { words = Starting (codes "d") ∷ Starting [] ∷ []; more = true }) quiet)
 stars = refl
 
-name_alone : listed (codes "call reset : final") ≡ Ok (one (codes "reset") alone (record quiet { ends = true }))
+name_alone : listed (codes "call reset : final") ≡ Ok (one (codes "reset") alone (record quiet { ends = Some Boots }))
 name_alone = refl
 
 -- the words fit one by one, and only `**` fits further ones
@@ -53,9 +54,14 @@ built_in_name = refl
 
 -- ---- clauses
 
+-- how a success ends the run stands once
+ends_once : map (λ line. listed line) (codes "call go : restart" ∷ codes "call go : halt" ∷ codes "call go : restart restart" ∷ codes "call go : final halt" ∷ [])
+    ≡ Ok (one (codes "go") alone (record quiet { ends = Some Restarts })) ∷ Ok (one (codes "go") alone (record quiet { ends = Some Halts })) ∷ Err (BadLine 1) ∷ Err (BadLine 1) ∷ []
+ends_once = refl
+
 in_any_order : map (λ line. listed line) (codes "call go ** : final a=1 steady" ∷ codes "call go ** : steady final a=1" ∷ [])
-    ≡ Ok (one (codes "go") any (record { ends = true; stays = true; always = None; sets = (Variable (codes "a"), Literal (codes "1")) ∷ [] }))
-    ∷ Ok (one (codes "go") any (record { ends = true; stays = true; always = None; sets = (Variable (codes "a"), Literal (codes "1")) ∷ [] })) ∷ []
+    ≡ Ok (one (codes "go") any (record { ends = Some Boots; stays = true; always = None; sets = (Variable (codes "a"), Literal (codes "1")) ∷ [] }))
+    ∷ Ok (one (codes "go") any (record { ends = Some Boots; stays = true; always = None; sets = (Variable (codes "a"), Literal (codes "1")) ∷ [] })) ∷ []
 in_any_order = refl
 
 always_succeeds : listed (codes "call pci enum : always 0") ≡ Ok (one (codes "pci") (record { words = Exactly (codes "enum") ∷ []; more = false }) (record quiet { always = Some true }))
@@ -70,8 +76,8 @@ other_status = refl
 
 -- what follows the status is the next clause, before other clauses and after them
 after_the_status : map (λ line. listed line) (codes "call usb ** : always 0 a=1 final" ∷ codes "call usb ** : final a=1 always 0" ∷ [])
-    ≡ Ok (one (codes "usb") any (record { ends = true; stays = false; always = Some true; sets = (Variable (codes "a"), Literal (codes "1")) ∷ [] }))
-    ∷ Ok (one (codes "usb") any (record { ends = true; stays = false; always = Some true; sets = (Variable (codes "a"), Literal (codes "1")) ∷ [] })) ∷ []
+    ≡ Ok (one (codes "usb") any (record { ends = Some Boots; stays = false; always = Some true; sets = (Variable (codes "a"), Literal (codes "1")) ∷ [] }))
+    ∷ Ok (one (codes "usb") any (record { ends = Some Boots; stays = false; always = Some true; sets = (Variable (codes "a"), Literal (codes "1")) ∷ [] })) ∷ []
 after_the_status = refl
 
 -- the first `:` ends the pattern, and a second one is no clause
@@ -108,7 +114,7 @@ at_inside = refl
 abbrev args : (value : Text) → Setting
 args value = (Variable (codes "args"), Literal value)
 
-value_with_blanks : listed (codes "call fdt : args='a  b' final") ≡ Ok (one (codes "fdt") alone (record quiet { ends = true; sets = args (codes "a  b") ∷ [] }))
+value_with_blanks : listed (codes "call fdt : args='a  b' final") ≡ Ok (one (codes "fdt") alone (record quiet { ends = Some Boots; sets = args (codes "a  b") ∷ [] }))
 value_with_blanks = refl
 
 value_in_parts : listed (codes "call fdt : args=a'b c'd''e") ≡ Ok (one (codes "fdt") alone (record quiet { sets = args (codes "ab cde") ∷ [] }))
@@ -173,7 +179,7 @@ commands : map (λ line. listed line) (codes "call" ∷ codes "absent" ∷ codes
     ≡ Ok (only ((codes "call", quiet) ∷ [])) ∷ Ok (only ((codes "absent", quiet) ∷ []))
     ∷ Ok (only ((codes "call", record quiet { sets = (Variable (codes "a"), Literal (codes "1")) ∷ [] }) ∷ []))
     ∷ Ok (only ((codes "absent", record quiet { sets = (Variable (codes "a"), Literal (codes "1")) ∷ [] }) ∷ []))
-    ∷ Ok (only ((codes "call", record quiet { ends = true }) ∷ [])) ∷ []
+    ∷ Ok (only ((codes "call", record quiet { ends = Some Boots }) ∷ [])) ∷ []
 commands = refl
 
 -- without a `:` it is no line of calls
@@ -186,7 +192,7 @@ abbrev rescan : Devices
 rescan = record {
   commands = (codes "mmc", quiet) ∷ [];
   subs = (codes "mmc", (codes "dev", record quiet { stays = true }) ∷ []) ∷ [];
-  calls = (codes "mmc", (record { words = Exactly (codes "dev") ∷ Exactly (codes "0") ∷ []; more = false }, record quiet { always = Some true }) ∷ (record { words = Exactly (codes "dev") ∷ []; more = true }, record quiet { ends = true }) ∷ (record { words = Exactly (codes "dev") ∷ Exactly (codes "1") ∷ []; more = false }, quiet) ∷ []) ∷ [];
+  calls = (codes "mmc", (record { words = Exactly (codes "dev") ∷ Exactly (codes "0") ∷ []; more = false }, record quiet { always = Some true }) ∷ (record { words = Exactly (codes "dev") ∷ []; more = true }, record quiet { ends = Some Boots }) ∷ (record { words = Exactly (codes "dev") ∷ Exactly (codes "1") ∷ []; more = false }, quiet) ∷ []) ∷ [];
   known = [];
   test_stays = false;
 }
@@ -195,12 +201,12 @@ read_so : listed (codes "call mmc dev 0 : always 0\nmmc\ncall mmc dev ** : final
 read_so = refl
 
 first_that_fits : map (λ words. effect_of rescan (codes "mmc") words) ((codes "dev" ∷ codes "0" ∷ []) ∷ (codes "dev" ∷ codes "1" ∷ []) ∷ (codes "dev" ∷ []) ∷ (codes "part" ∷ []) ∷ [] ∷ [])
-    ≡ Some (record quiet { always = Some true }) ∷ Some (record quiet { ends = true }) ∷ Some (record quiet { ends = true }) ∷ Some quiet ∷ Some quiet ∷ []
+    ≡ Some (record quiet { always = Some true }) ∷ Some (record quiet { ends = Some Boots }) ∷ Some (record quiet { ends = Some Boots }) ∷ Some quiet ∷ Some quiet ∷ []
 first_that_fits = refl
 
 -- a call that no line of its name fits goes by its `sub` lines, and then by its name, if these are there
-others_go_on : map (λ words. effect_of (record rescan { calls = (codes "mmc", (alone, record quiet { ends = true }) ∷ []) ∷ [] }) (codes "mmc") words) ([] ∷ (codes "dev" ∷ []) ∷ (codes "x" ∷ []) ∷ [])
-    ≡ Some (record quiet { ends = true }) ∷ Some (record quiet { stays = true }) ∷ Some quiet ∷ []
+others_go_on : map (λ words. effect_of (record rescan { calls = (codes "mmc", (alone, record quiet { ends = Some Boots }) ∷ []) ∷ [] }) (codes "mmc") words) ([] ∷ (codes "dev" ∷ []) ∷ (codes "x" ∷ []) ∷ [])
+    ≡ Some (record quiet { ends = Some Boots }) ∷ Some (record quiet { stays = true }) ∷ Some quiet ∷ []
 others_go_on = refl
 
 not_listed : effect_of (one (codes "mmc") alone quiet) (codes "mmc") (codes "dev" ∷ []) ≡ None
@@ -227,12 +233,12 @@ no_words = refl
 steady_lines : all_steady rescan ≡ record {
   commands = (codes "mmc", record quiet { stays = true }) ∷ [];
   subs = (codes "mmc", (codes "dev", record quiet { stays = true }) ∷ []) ∷ [];
-  calls = (codes "mmc", (record { words = Exactly (codes "dev") ∷ Exactly (codes "0") ∷ []; more = false }, record quiet { always = Some true }) ∷ (record { words = Exactly (codes "dev") ∷ []; more = true }, record quiet { ends = true; stays = true }) ∷ (record { words = Exactly (codes "dev") ∷ Exactly (codes "1") ∷ []; more = false }, record quiet { stays = true }) ∷ []) ∷ [];
+  calls = (codes "mmc", (record { words = Exactly (codes "dev") ∷ Exactly (codes "0") ∷ []; more = false }, record quiet { always = Some true }) ∷ (record { words = Exactly (codes "dev") ∷ []; more = true }, record quiet { ends = Some Boots; stays = true }) ∷ (record { words = Exactly (codes "dev") ∷ Exactly (codes "1") ∷ []; more = false }, record quiet { stays = true }) ∷ []) ∷ [];
   known = [];
   test_stays = true;
 }
 steady_lines = refl
 
 -- as the list would say it
-as_if_said : map (λ text. listed text) (codes "steady load a=1\nfinal steady go\nsteady sub mmc dev\nsteady test" ∷ []) ≡ Ok (all_steady (record (only ((codes "load", record quiet { sets = (Variable (codes "a"), Literal (codes "1")) ∷ [] }) ∷ (codes "go", record quiet { ends = true }) ∷ [])) { subs = (codes "mmc", (codes "dev", quiet) ∷ []) ∷ [] })) ∷ []
+as_if_said : map (λ text. listed text) (codes "steady load a=1\nfinal steady go\nsteady sub mmc dev\nsteady test" ∷ []) ≡ Ok (all_steady (record (only ((codes "load", record quiet { sets = (Variable (codes "a"), Literal (codes "1")) ∷ [] }) ∷ (codes "go", record quiet { ends = Some Boots }) ∷ [])) { subs = (codes "mmc", (codes "dev", quiet) ∷ []) ∷ [] })) ∷ []
 as_if_said = refl

@@ -1,5 +1,5 @@
 -- The lines of one name, joined one after another.
-use Rattle.std.proofs.Common.{◌≡◌, ℕ, ◌||◌, ◌&&◌, Bool, true, false, cond, List, [], ◌∷◌, ◌++◌, Option, Some, None, Result, Ok, Err, refl, sym, ap, subst, ◌∙◌, append_assoc, inl, inr}
+use Rattle.std.proofs.Common.{◌≡◌, ℕ, ◌||◌, ◌&&◌, Bool, true, false, cond, List, [], ◌∷◌, ◌++◌, map, Option, Some, None, Result, Ok, Err, refl, sym, ap, subst, ◌∙◌, append_assoc, inl, inr}
 use Rattle.std.proofs.lemmas.Bool.{cases_Bool, and_parts}
 use Rattle.std.proofs.lemmas.Grind.{flat_map-append}
 use Rattle.std.proofs.lemmas.List.{append-nil}
@@ -16,6 +16,8 @@ use Rattle.text.specs.Lines.{Text}
 use Rattle.text.specs.Words.{has_nul}
 use Rattle.device_list.specs.CallLines.{Call, call_said, is_call}
 use Rattle.device_list.specs.DeviceList.{Effect, Effects, Devices, DeviceLine, effect_at, changed_at, joint_behind, joined_behind, joined_by, joined, only, device_words, begins_comment, heading_of, line_of, known_named, with_known, is_steady_test, with_call, after_call, after_known, after_words, after_line, listed_lines}
+use Rattle.device_list.specs.Finishes.{first_finish, first_of}
+use Rattle.device_list.specs.declared.finish.BoardEnd.{BoardEnd}
 use Rattle.device_list.proofs.LineLemmas.{known_is_bad, test_is_built_in, calls_are_bad}
 use Rattle.device_list.specs.DeviceLaws.{line_said, with_said, lines_said, lines_at, same_word, whole_effect, LinesAreJoined}
 use Rattle.device_list.specs.declared.devices_error.DevicesError.{DevicesError}
@@ -83,14 +85,27 @@ effect_at-joined_other devices name (Some u) key (Some v) more e =
       | inr n ↦ ap (λ o. in_sub o u) (lookup-changed_other (joined_behind v more) devices.subs key name n)
     ]
 
+first-none : (ends : Option BoardEnd) → first_finish ends None ≡ ends
+first-none None = refl
+first-none (Some finish) = refl
+
+-- how the run ends, by one more line
+first-more : (before : List DeviceLine) (one : DeviceLine) → first_of (map (λ l. l.effect.ends) (before ++ one ∷ [])) ≡ first_finish (first_of (map (λ l. l.effect.ends) before)) one.effect.ends
+first-more [] one = first-none one.effect.ends
+first-more (l ∷ before) one = by l.effect.ends (first-more before one)
+  where
+    by : (ends : Option BoardEnd) → first_of (map (λ l. l.effect.ends) (before ++ one ∷ [])) ≡ first_finish (first_of (map (λ l. l.effect.ends) before)) one.effect.ends
+        → first_finish ends (first_of (map (λ l. l.effect.ends) (before ++ one ∷ []))) ≡ first_finish (first_finish ends (first_of (map (λ l. l.effect.ends) before))) one.effect.ends
+    by None more = more
+    by (Some finish) more = refl
+
 whole_effect-more : (before : List DeviceLine) (one : DeviceLine) → whole_effect (before ++ one ∷ []) ≡ Some (joint_behind one.effect (whole_effect before))
 whole_effect-more [] one =
-    ap (λ b. let e : Effect = record { ends = b; stays = one.effect.stays || false; always = one.effect.always; sets = one.effect.sets ++ [] } in Some e) (or-false one.effect.ends)
+    ap (λ b. let e : Effect = record { ends = b; stays = one.effect.stays || false; always = one.effect.always; sets = one.effect.sets ++ [] } in Some e) (first-none one.effect.ends)
     ∙ ap (λ b. let e : Effect = record { ends = one.effect.ends; stays = b; always = one.effect.always; sets = one.effect.sets ++ [] } in Some e) (or-false one.effect.stays)
     ∙ ap (λ s. let e : Effect = record { ends = one.effect.ends; stays = one.effect.stays; always = one.effect.always; sets = s } in Some e) (append-nil one.effect.sets)
 whole_effect-more (l ∷ before) one =
-    let ends : list_any (λ l. l.effect.ends) ((l ∷ before) ++ one ∷ []) ≡ (list_any (λ l. l.effect.ends) (l ∷ before) || one.effect.ends) =
-    list_any-append (λ l. l.effect.ends) (l ∷ before) (one ∷ []) ∙ ap (λ b. list_any (λ l. l.effect.ends) (l ∷ before) || b) (or-false one.effect.ends) in
+    let ends : first_of (map (λ l. l.effect.ends) ((l ∷ before) ++ one ∷ [])) ≡ first_finish (first_of (map (λ l. l.effect.ends) (l ∷ before))) one.effect.ends = first-more (l ∷ before) one in
     let stays : list_any (λ l. l.effect.stays) ((l ∷ before) ++ one ∷ []) ≡ (list_any (λ l. l.effect.stays) (l ∷ before) || one.effect.stays) =
     list_any-append (λ l. l.effect.stays) (l ∷ before) (one ∷ []) ∙ ap (λ b. list_any (λ l. l.effect.stays) (l ∷ before) || b) (or-false one.effect.stays) in
     let sets : flat_map (λ l. l.effect.sets) ((l ∷ before) ++ one ∷ []) ≡ flat_map (λ l. l.effect.sets) (l ∷ before) ++ one.effect.sets =

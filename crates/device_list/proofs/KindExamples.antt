@@ -1,8 +1,9 @@
 -- Worked examples, computed: what each kind of a line is, and lists that are read with some kinds alone.
-use Rattle.std.proofs.Common.{◌≡◌, true, false, Some, [], ◌∷◌, Ok, Err, codes, map, refl}
+use Rattle.std.proofs.Common.{◌≡◌, true, false, Some, [], ◌∷◌, Ok, Err, codes, map, None, refl}
+use Rattle.device_list.specs.declared.finish.BoardEnd.TheVariants.{Boots, Restarts, Halts}
 use Rattle.device_list.specs.DeviceList.{Variable, Literal, Devices, only}
 use Rattle.device_list.specs.DeviceLaws.{quiet}
-use Rattle.device_list.specs.Kinds.{Final, Steady, Sub, Settings, Known, Calls, kinds_of, listed_among}
+use Rattle.device_list.specs.Kinds.{Final, Stops, Steady, Sub, Settings, Known, Calls, kinds_of, listed_among}
 use Rattle.device_list.specs.declared.devices_error.DevicesError.TheVariants.{BadLine, BuiltIn, ByteOrderMark}
 
 -- ---- a name alone
@@ -24,11 +25,22 @@ no_words = refl
 final_uses : kinds_of (codes "final load") ≡ Final ∷ []
 final_uses = refl
 
-final_says : listed_among (Final ∷ []) (codes "final load") ≡ Ok (only ((codes "load", record quiet { ends = true }) ∷ []))
+final_says : listed_among (Final ∷ []) (codes "final load") ≡ Ok (only ((codes "load", record quiet { ends = Some Boots }) ∷ []))
 final_says = refl
 
 final_left_out : listed_among (Steady ∷ Sub ∷ Settings ∷ Known ∷ []) (codes "load\nfinal load") ≡ Err (BadLine 2)
 final_left_out = refl
+
+-- ---- `restart` and `halt`
+
+stops_use : map kinds_of (codes "restart load" ∷ codes "halt load" ∷ codes "restart a=1" ∷ []) ≡ (Stops ∷ []) ∷ (Stops ∷ []) ∷ (Settings ∷ []) ∷ []
+stops_use = refl
+
+stops_say : listed_among (Stops ∷ []) (codes "restart load\nhalt mmc") ≡ Ok (only ((codes "load", record quiet { ends = Some Restarts }) ∷ (codes "mmc", record quiet { ends = Some Halts }) ∷ []))
+stops_say = refl
+
+stops_left_out : map (listed_among (Final ∷ Steady ∷ Sub ∷ Settings ∷ Known ∷ Calls ∷ [])) (codes "load\nrestart load" ∷ codes "halt load" ∷ codes "final load" ∷ []) ≡ Err (BadLine 2) ∷ Err (BadLine 1) ∷ Ok (only ((codes "load", record quiet { ends = Some Boots }) ∷ [])) ∷ []
+stops_left_out = refl
 
 -- ---- `steady`
 

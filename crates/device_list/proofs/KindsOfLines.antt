@@ -9,11 +9,13 @@ use Rattle.text.specs.Lines.{numbered_lines}
 use Rattle.text.specs.Words.{has_nul, is_equals}
 use Rattle.text.specs.Lines.{Text}
 use Rattle.device_list.specs.CallLines.{call_said, is_call}
-use Rattle.device_list.specs.DeviceList.{Devices, DeviceLine, Heading, named, call_of, steady_of, heading_of, line_of, with_line, after_call, with_known, known_named, is_steady_test, after_known, device_words, begins_comment, after_words, after_line, only, is_marked, listed_lines}
-use Rattle.device_list.specs.Kinds.{Kind, Settings, Final, Sub, Known, Steady, Calls, every_kind, has, has_words, uses, kinds_said, uses_only, call_among, steady_among, heading_among, said_among, words_among, line_among, lines_among, LinesGoByKinds, ListsGoByKinds, FurtherKindsChangeNothing, KindsAreAll}
+use Rattle.device_list.specs.DeviceList.{Devices, DeviceLine, Heading, named, call_of, steady_of, finish_before, finishing, heading_of, line_of, with_line, after_call, with_known, known_named, is_steady_test, after_known, device_words, begins_comment, after_words, after_line, only, is_marked, listed_lines}
+use Rattle.device_list.specs.Kinds.{Kind, Settings, Final, Stops, Sub, Known, Steady, Calls, every_kind, kind_of, ends_by, has, has_words, uses, kinds_said, uses_only, call_among, steady_among, finish_among, finishing_among, heading_among, said_among, words_among, line_among, lines_among, LinesGoByKinds, ListsGoByKinds, FurtherKindsChangeNothing, KindsAreAll}
+use Rattle.device_list.specs.declared.finish.BoardEnd.{BoardEnd}
+use Rattle.device_list.specs.declared.finish.BoardEnd.TheVariants.{Boots, Restarts, Halts}
 use Rattle.device_list.specs.declared.devices_error.DevicesError.{DevicesError}
 use Rattle.device_list.specs.declared.devices_error.DevicesError.TheVariants.{BadLine, ByteOrderMark}
-use Rattle.device_list.proofs.LineLemmas.{named_is_bad, steady_is_bad, final_is_bad, known_is_bad, known_is_no_test, test_is, calls_are_bad, calls_are_not_known, calls_are_no_test}
+use Rattle.device_list.proofs.LineLemmas.{named_is_bad, steady_is_bad, finish_is_bad, finish_parts, known_is_bad, known_is_no_test, test_is, calls_are_bad, calls_are_not_known, calls_are_no_test}
 
 either : {A : Type 0} (b : Bool) (x : A) → cond b x x ≡ x
 either true x = refl
@@ -25,7 +27,7 @@ is_false false f = refl
 
 -- ---- what a heading keeps of what is in front of it
 
-call-stays : (ends stays : Bool) (first : Text) (words : List Text) → (call_of ends stays first words).stays ≡ stays
+call-stays : (ends : Option BoardEnd) (stays : Bool) (first : Text) (words : List Text) → (call_of ends stays first words).stays ≡ stays
 call-stays ends stays first [] = refl
 call-stays ends stays first (second ∷ []) = refl
 call-stays ends stays first (second ∷ third ∷ words) = by (bytes_eq first (codes "sub") && not (list_any is_equals second) && not (list_any is_equals third))
@@ -34,7 +36,7 @@ call-stays ends stays first (second ∷ third ∷ words) = by (bytes_eq first (c
     by true = refl
     by false = refl
 
-call-ends : (ends stays : Bool) (first : Text) (words : List Text) → (call_of ends stays first words).ends ≡ ends
+call-ends : (ends : Option BoardEnd) (stays : Bool) (first : Text) (words : List Text) → (call_of ends stays first words).ends ≡ ends
 call-ends ends stays first [] = refl
 call-ends ends stays first (second ∷ []) = refl
 call-ends ends stays first (second ∷ third ∷ words) = by (bytes_eq first (codes "sub") && not (list_any is_equals second) && not (list_any is_equals third))
@@ -43,7 +45,7 @@ call-ends ends stays first (second ∷ third ∷ words) = by (bytes_eq first (co
     by true = refl
     by false = refl
 
-steady-ends : (ends : Bool) (first : Text) (words : List Text) → (steady_of ends first words).ends ≡ ends
+steady-ends : (ends : Option BoardEnd) (first : Text) (words : List Text) → (steady_of ends first words).ends ≡ ends
 steady-ends ends first [] = refl
 steady-ends ends first (second ∷ words) = by (bytes_eq first (codes "steady") && not (list_any is_equals second))
   where
@@ -62,8 +64,16 @@ module _ (kinds : List Kind) where
   abbrev fits_steady : Heading → Bool
   fits_steady h = allowed h.stays Steady && fits_call h
 
+  abbrev fits_finish : Option BoardEnd → (rest : Bool) → Bool
+  fits_finish ends rest = allowed (ends_by ends Final) Final && (allowed (ends_by ends Stops) Stops && rest)
+
   abbrev fits : Heading → Bool
-  fits h = allowed h.ends Final && fits_steady h
+  fits h = fits_finish h.ends (fits_steady h)
+
+  finish-fits : (finish : BoardEnd) (rest : Bool) → fits_finish (Some finish) rest ≡ (has kinds (kind_of finish) && rest)
+  finish-fits Boots rest = refl
+  finish-fits Restarts rest = refl
+  finish-fits Halts rest = refl
 
   all-if : (used : Bool) (kind : Kind) (more : List Kind) → list_all (has kinds) (cond used (kind ∷ more) more) ≡ (allowed used kind && list_all (has kinds) more)
   all-if true kind more = refl
@@ -71,10 +81,11 @@ module _ (kinds : List Kind) where
 
   all-kinds : (h : Heading) → list_all (has kinds) (filter (uses h) every_kind) ≡ fits h
   all-kinds h =
-      all-if h.ends Final (filter (uses h) (Steady ∷ Sub ∷ Settings ∷ Known ∷ Calls ∷ []))
-      ∙ ap (λ b. allowed h.ends Final && b) (all-if h.stays Steady (filter (uses h) (Sub ∷ Settings ∷ Known ∷ Calls ∷ []))
+      all-if (ends_by h.ends Final) Final (filter (uses h) (Stops ∷ Steady ∷ Sub ∷ Settings ∷ Known ∷ Calls ∷ []))
+      ∙ ap (λ b. allowed (ends_by h.ends Final) Final && b) (all-if (ends_by h.ends Stops) Stops (filter (uses h) (Steady ∷ Sub ∷ Settings ∷ Known ∷ Calls ∷ []))
+      ∙ ap (λ b. allowed (ends_by h.ends Stops) Stops && b) (all-if h.stays Steady (filter (uses h) (Sub ∷ Settings ∷ Known ∷ Calls ∷ []))
       ∙ ap (λ b. allowed h.stays Steady && b) (all-if (is_some h.word) Sub (filter (uses h) (Settings ∷ Known ∷ Calls ∷ []))
-      ∙ ap (λ b. allowed (is_some h.word) Sub && b) (all-if (has_words h) Settings [] ∙ and-true (allowed (has_words h) Settings))))
+      ∙ ap (λ b. allowed (is_some h.word) Sub && b) (all-if (has_words h) Settings [] ∙ and-true (allowed (has_words h) Settings)))))
 
   -- ---- one line
 
@@ -89,7 +100,7 @@ module _ (kinds : List Kind) where
     read-bad : (b : Bool) (h : Heading) → line_of number h ≡ bad → read_if b h ≡ bad
     read-bad b h e = ap (λ r. cond b r bad) e ∙ either b bad
 
-    call-kinds : (ends stays : Bool) (first : Text) (words : List Text) → said_among kinds number (call_among kinds ends stays first words) ≡ read_if (fits_call (call_of ends stays first words)) (call_of ends stays first words)
+    call-kinds : (ends : Option BoardEnd) (stays : Bool) (first : Text) (words : List Text) → said_among kinds number (call_among kinds ends stays first words) ≡ read_if (fits_call (call_of ends stays first words)) (call_of ends stays first words)
     call-kinds ends stays first [] = ap (said_among kinds number) (either (has kinds Sub) (named ends stays first []))
     call-kinds ends stays first (second ∷ []) = ap (said_among kinds number) (either (has kinds Sub) (named ends stays first (second ∷ [])))
     call-kinds ends stays first (second ∷ third ∷ words) =
@@ -107,7 +118,7 @@ module _ (kinds : List Kind) where
         by true true true false e = refl
         by false true true false e = refl
 
-    steady-kinds : (ends : Bool) (first : Text) (words : List Text) → said_among kinds number (steady_among kinds ends first words) ≡ read_if (fits_steady (steady_of ends first words)) (steady_of ends first words)
+    steady-kinds : (ends : Option BoardEnd) (first : Text) (words : List Text) → said_among kinds number (steady_among kinds ends first words) ≡ read_if (fits_steady (steady_of ends first words)) (steady_of ends first words)
     steady-kinds ends first [] = refl
     steady-kinds ends first (second ∷ words) = by (has kinds Steady) (bytes_eq first (codes "steady")) (not (list_any is_equals second)) refl refl
       where
@@ -134,27 +145,29 @@ module _ (kinds : List Kind) where
 
     heading-kinds : (first : Text) (words : List Text) → said_among kinds number (heading_among kinds first words) ≡ read_if (fits (heading_of first words)) (heading_of first words)
     heading-kinds first [] = refl
-    heading-kinds first (second ∷ words) = by (has kinds Final) (bytes_eq first (codes "final")) (not (list_any is_equals second)) refl refl
+    heading-kinds first (second ∷ words) = by (finish_before first second) refl
       where
-        kept : (s ends : Bool) (h : Heading) → h.ends ≡ ends → read_if ((not ends || s) && fits_steady h) h ≡ read_if ((not h.ends || s) && fits_steady h) h
-        kept s ends h e = ap (λ b. read_if ((not b || s) && fits_steady h) h) (sym e)
-
-        other : (s : Bool) → let h : Heading = steady_of false first (second ∷ words) in said_among kinds number (steady_among kinds false first (second ∷ words)) ≡ read_if ((not h.ends || s) && fits_steady h) h
-        other s = steady-kinds false first (second ∷ words) ∙ kept s false (steady_of false first (second ∷ words)) (steady-ends false first (second ∷ words))
-
-        by : (s a n : Bool) → bytes_eq first (codes "final") ≡ a → not (list_any is_equals second) ≡ n
-            → let h : Heading = cond (a && n) (steady_of true second words) (steady_of false first (second ∷ words)) in
-            said_among kinds number (cond (s && a && n) (steady_among kinds true second words) (steady_among kinds false first (second ∷ words))) ≡ read_if ((not h.ends || s) && fits_steady h) h
-        by true true true e f = steady-kinds true second words ∙ kept true true (steady_of true second words) (steady-ends true second words)
-        by false true true e f =
-            let h : Heading = steady_of false first (second ∷ words) in
-            steady-kinds false first (second ∷ words)
-            ∙ read-bad (fits_steady h) h (final_is_bad number first second words e (is_false (list_any is_equals second) f))
-            ∙ kept false true (steady_of true second words) (steady-ends true second words)
-        by true false n e f = other true
-        by false false n e f = other false
-        by true true false e f = other true
-        by false true false e f = other false
+        by : (o : Option BoardEnd) → finish_before first second ≡ o
+            → let h : Heading = finishing o first second words in said_among kinds number (finishing_among kinds (finish_among kinds o) first second words) ≡ read_if (fits h) h
+        by None e =
+            let h : Heading = steady_of None first (second ∷ words) in
+            steady-kinds None first (second ∷ words) ∙ ap (λ o. read_if (fits_finish o (fits_steady h)) h) (sym (steady-ends None first (second ∷ words)))
+        by (Some finish) e = go (has kinds (kind_of finish)) refl
+          where
+            go : (b : Bool) → has kinds (kind_of finish) ≡ b
+                → let h : Heading = steady_of (Some finish) second words in said_among kinds number (finishing_among kinds (cond b (Some finish) None) first second words) ≡ read_if (fits h) h
+            go b is =
+                let h : Heading = steady_of (Some finish) second words in
+                let same : fits h ≡ (b && fits_steady h) =
+                ap (λ o. fits_finish o (fits_steady h)) (steady-ends (Some finish) second words) ∙ finish-fits finish (fits_steady h) ∙ ap (λ c. c && fits_steady h) is in
+                read b ∙ ap (λ c. read_if c h) (sym same)
+              where
+                read : (b : Bool) → let h : Heading = steady_of (Some finish) second words in said_among kinds number (finishing_among kinds (cond b (Some finish) None) first second words) ≡ read_if (b && fits_steady h) h
+                read true = steady-kinds (Some finish) second words
+                read false =
+                    let g : Heading = steady_of None first (second ∷ words) in
+                    let parts = finish_parts finish first second e in
+                    steady-kinds None first (second ∷ words) ∙ read-bad (fits_steady g) g (finish_is_bad number finish first second words parts.0 parts.1)
 
   -- ---- the list after one line
 
@@ -339,6 +352,7 @@ further_kinds_change_nothing kinds text devices e = by (is_marked text) e
 is_kind : (kind : Kind) → has every_kind kind ≡ true
 is_kind Settings = refl
 is_kind Final = refl
+is_kind Stops = refl
 is_kind Sub = refl
 is_kind Known = refl
 is_kind Steady = refl

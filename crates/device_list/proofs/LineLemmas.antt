@@ -11,7 +11,10 @@ use Rattle.text.specs.Words.{is_equals}
 use Rattle.text.specs.Lines.{Text}
 use Rattle.commands.specs.KnownCommands.{known_of}
 use Rattle.device_list.specs.CallLines.{is_colon, is_lone, is_call}
-use Rattle.device_list.specs.DeviceList.{Setting, Literal, named, call_of, steady_of, heading_of, settings, setting, left_side, line_with, line_of, known_named, is_steady_test}
+use Rattle.device_list.specs.Finishes.{finish_named}
+use Rattle.device_list.specs.declared.finish.BoardEnd.{BoardEnd}
+use Rattle.device_list.specs.declared.finish.BoardEnd.TheVariants.{Boots, Restarts, Halts}
+use Rattle.device_list.specs.DeviceList.{finish_before, Setting, Literal, named, call_of, steady_of, heading_of, settings, setting, left_side, line_with, line_of, known_named, is_steady_test}
 use Rattle.device_list.specs.declared.devices_error.DevicesError.TheVariants.{BadLine, BuiltIn}
 
 is_false : (b : Bool) → not b ≡ true → b ≡ false
@@ -37,23 +40,43 @@ no_settings second words none =
     ap (λ (o : Option Setting). let r : Option (List Setting) = elim o [ None ↦ None | Some one ↦ option_map (λ more. one ∷ more) (settings false words) ] in r) gone
 
 module _ (number : ℕ) where
-  pub named_is_bad : (ends stays : Bool) (first second : Text) (words : List Text) → list_any is_equals second ≡ false → line_of number (named ends stays first (second ∷ words)) ≡ Err (BadLine number)
+  pub named_is_bad : (ends : Option BoardEnd) (stays : Bool) (first second : Text) (words : List Text) → list_any is_equals second ≡ false → line_of number (named ends stays first (second ∷ words)) ≡ Err (BadLine number)
   named_is_bad ends stays first second words none = ap (line_with number (named ends stays first (second ∷ words))) (no_settings second words none)
 
-  call_is_bad : (ends : Bool) (first second : Text) (words : List Text) → bytes_eq first (codes "sub") ≡ false → list_any is_equals second ≡ false → line_of number (call_of ends false first (second ∷ words)) ≡ Err (BadLine number)
+  call_is_bad : (ends : Option BoardEnd) (first second : Text) (words : List Text) → bytes_eq first (codes "sub") ≡ false → list_any is_equals second ≡ false → line_of number (call_of ends false first (second ∷ words)) ≡ Err (BadLine number)
   call_is_bad ends first second [] other none = named_is_bad ends false first second [] none
   call_is_bad ends first second (third ∷ words) other none = rw other (named_is_bad ends false first second (third ∷ words) none)
 
-  -- `steady` as the name of a command, and `final`
-  pub steady_is_bad : (ends : Bool) (first second : Text) (words : List Text) → bytes_eq first (codes "steady") ≡ true → list_any is_equals second ≡ false → line_of number (call_of ends false first (second ∷ words)) ≡ Err (BadLine number)
+  -- `steady` as the name of a command, and the words that end a run
+  pub steady_is_bad : (ends : Option BoardEnd) (first second : Text) (words : List Text) → bytes_eq first (codes "steady") ≡ true → list_any is_equals second ≡ false → line_of number (call_of ends false first (second ∷ words)) ≡ Err (BadLine number)
   steady_is_bad ends first second words e none =
       let is : first ≡ codes "steady" = (bytes_decides first (codes "steady")).0 e in
       call_is_bad ends first second words (ap (λ f. bytes_eq f (codes "sub")) is) none
 
-  pub final_is_bad : (first second : Text) (words : List Text) → bytes_eq first (codes "final") ≡ true → list_any is_equals second ≡ false → line_of number (steady_of false first (second ∷ words)) ≡ Err (BadLine number)
-  final_is_bad first second words e none =
-      let is : first ≡ codes "final" = (bytes_decides first (codes "final")).0 e in
-      (λ i. line_of number (steady_of false (is i) (second ∷ words))) ∙ call_is_bad false (codes "final") second words refl none
+  pub finish_is_bad : (finish : BoardEnd) (first second : Text) (words : List Text) → finish_named first ≡ Some finish → list_any is_equals second ≡ false → line_of number (steady_of None first (second ∷ words)) ≡ Err (BadLine number)
+  finish_is_bad finish first second words e none =
+      by (bytes_eq first (codes "final")) (bytes_eq first (codes "restart")) (bytes_eq first (codes "halt")) refl refl refl e
+    where
+      one : (word : Text) → line_of number (steady_of None word (second ∷ words)) ≡ Err (BadLine number) → bytes_eq first word ≡ true → line_of number (steady_of None first (second ∷ words)) ≡ Err (BadLine number)
+      one word bad same =
+          let is : first ≡ word = (bytes_decides first word).0 same in
+          (λ i. line_of number (steady_of None (is i) (second ∷ words))) ∙ bad
+
+      by : (a b c : Bool) → bytes_eq first (codes "final") ≡ a → bytes_eq first (codes "restart") ≡ b → bytes_eq first (codes "halt") ≡ c
+          → ◌≡◌ {A = Option BoardEnd} (cond a (Some Boots) (cond b (Some Restarts) (cond c (Some Halts) None))) (Some finish) → line_of number (steady_of None first (second ∷ words)) ≡ Err (BadLine number)
+      by true b c p q r f = one (codes "final") (call_is_bad None (codes "final") second words refl none) p
+      by false true c p q r f = one (codes "restart") (call_is_bad None (codes "restart") second words refl none) q
+      by false false true p q r f = one (codes "halt") (call_is_bad None (codes "halt") second words refl none) r
+      by false false false p q r f = cc
+
+-- what stands in front of a command says how it ends the run
+pub finish_parts : (finish : BoardEnd) (first second : Text) → finish_before first second ≡ Some finish → (finish_named first ≡ Some finish) × (list_any is_equals second ≡ false)
+finish_parts finish first second e = by (finish_named first) (list_any is_equals second) e
+  where
+    by : (o : Option BoardEnd) (b : Bool) → ◌≡◌ {A = Option BoardEnd} (elim o [ None ↦ None | Some f ↦ cond b None (Some f) ]) (Some finish) → (o ≡ Some finish) × (b ≡ false)
+    by None b f = absurd (let g = f in cc)
+    by (Some other) true f = absurd (let g = f in cc)
+    by (Some other) false f = (f, refl)
 
 -- ---- a `known` line names no command
 
@@ -149,7 +172,7 @@ call_is first (word ∷ words) e = by (bytes_eq first (codes "call")) refl e
         let both = and_parts (bytes_eq first (codes "absent")) (is_lone word words) f in
         inr ((bytes_decides first (codes "absent")).0 both.0, lone words both.1)
 
-call_heading : (words : List Text) → heading_of (codes "call") words ≡ named false false (codes "call") words
+call_heading : (words : List Text) → heading_of (codes "call") words ≡ named None false (codes "call") words
 call_heading [] = refl
 call_heading (word ∷ []) = refl
 call_heading (word ∷ second ∷ words) = refl
@@ -160,9 +183,9 @@ calls_are_bad number first words e =
       | inl call ↦
           (λ i. line_of number (heading_of (call.0 i) words))
           ∙ ap (line_of number) (call_heading words)
-          ∙ ap (line_with number (named false false (codes "call") words)) (colon_sets words call.1)
+          ∙ ap (line_with number (named None false (codes "call") words)) (colon_sets words call.1)
       | inr absent ↦
-          let bad : line_of number (heading_of (codes "absent") (absent.1.0 ∷ [])) ≡ Err (BadLine number) = named_is_bad number false false (codes "absent") absent.1.0 [] absent.1.1.1 in
+          let bad : line_of number (heading_of (codes "absent") (absent.1.0 ∷ [])) ≡ Err (BadLine number) = named_is_bad number None false (codes "absent") absent.1.0 [] absent.1.1.1 in
           (λ i. line_of number (heading_of (absent.0 i) (absent.1.1.0 i))) ∙ bad
     ]
 

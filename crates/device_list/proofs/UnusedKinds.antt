@@ -12,7 +12,9 @@ use Rattle.text.specs.Words.{has_nul}
 use Rattle.builtins.specs.Builtins.{is_built_in}
 use Rattle.device_list.specs.CallLines.{call_said, is_call}
 use Rattle.device_list.specs.DeviceList.{Effect, Effects, Devices, Setting, DeviceLine, Heading, effect_in, effect_at, line_effect, joint, joint_behind, joined_behind, joined_by, joined, changed_at, only, listed, device_words, begins_comment, heading_of, settings, line_with, line_of, known_named, with_known, is_steady_test, after_known, after_call, after_words, after_line, listed_lines}
-use Rattle.device_list.specs.Kinds.{Kind, Settings, Final, Sub, Known, Steady, Calls, may_say, every_kind, same_kind, has, has_words, uses, kinds_said, kinds_of, EachCall, SaysNothing, UnusedKindsSayNothing}
+use Rattle.device_list.specs.Kinds.{Kind, Settings, Final, Stops, Sub, Known, Steady, Calls, ends_by, may_say, every_kind, same_kind, has, has_words, uses, kinds_said, kinds_of, EachCall, SaysNothing, UnusedKindsSayNothing}
+use Rattle.device_list.specs.Finishes.{first_finish}
+use Rattle.device_list.specs.declared.finish.BoardEnd.{BoardEnd}
 use Rattle.device_list.specs.declared.devices_error.DevicesError.{DevicesError}
 use Rattle.device_list.specs.declared.devices_error.DevicesError.TheVariants.{BadLine, BuiltIn}
 use Rattle.device_list.proofs.JoinedLines.{ok-same}
@@ -32,19 +34,21 @@ any-if false kind other more = refl
 
 unused : (kind : Kind) (h : Heading) → has (filter (uses h) every_kind) kind ≡ false → uses h kind ≡ false
 unused kind h e =
-    let ends = or_parts (h.ends && same_kind kind Final) (has (filter (uses h) (Steady ∷ Sub ∷ Settings ∷ Known ∷ Calls ∷ [])) kind) (sym (any-if h.ends kind Final (filter (uses h) (Steady ∷ Sub ∷ Settings ∷ Known ∷ Calls ∷ []))) ∙ e) in
+    let boots = or_parts (ends_by h.ends Final && same_kind kind Final) (has (filter (uses h) (Stops ∷ Steady ∷ Sub ∷ Settings ∷ Known ∷ Calls ∷ [])) kind) (sym (any-if (ends_by h.ends Final) kind Final (filter (uses h) (Stops ∷ Steady ∷ Sub ∷ Settings ∷ Known ∷ Calls ∷ []))) ∙ e) in
+    let ends = or_parts (ends_by h.ends Stops && same_kind kind Stops) (has (filter (uses h) (Steady ∷ Sub ∷ Settings ∷ Known ∷ Calls ∷ [])) kind) (sym (any-if (ends_by h.ends Stops) kind Stops (filter (uses h) (Steady ∷ Sub ∷ Settings ∷ Known ∷ Calls ∷ []))) ∙ boots.1) in
     let stays = or_parts (h.stays && same_kind kind Steady) (has (filter (uses h) (Sub ∷ Settings ∷ Known ∷ Calls ∷ [])) kind) (sym (any-if h.stays kind Steady (filter (uses h) (Sub ∷ Settings ∷ Known ∷ Calls ∷ []))) ∙ ends.1) in
     let sub = or_parts (is_some h.word && same_kind kind Sub) (has (filter (uses h) (Settings ∷ Known ∷ Calls ∷ [])) kind) (sym (any-if (is_some h.word) kind Sub (filter (uses h) (Settings ∷ Known ∷ Calls ∷ []))) ∙ stays.1) in
     let sets = or_parts (has_words h && same_kind kind Settings) false (sym (any-if (has_words h) kind Settings []) ∙ sub.1) in
-    by kind ends.0 stays.0 sub.0 sets.0
+    by kind boots.0 ends.0 stays.0 sub.0 sets.0
   where
-    by : (kind : Kind) → (h.ends && same_kind kind Final) ≡ false → (h.stays && same_kind kind Steady) ≡ false → (is_some h.word && same_kind kind Sub) ≡ false → (has_words h && same_kind kind Settings) ≡ false → uses h kind ≡ false
-    by Final ends stays sub sets = sym (and-true h.ends) ∙ ends
-    by Steady ends stays sub sets = sym (and-true h.stays) ∙ stays
-    by Sub ends stays sub sets = sym (and-true (is_some h.word)) ∙ sub
-    by Settings ends stays sub sets = sym (and-true (has_words h)) ∙ sets
-    by Known ends stays sub sets = refl
-    by Calls ends stays sub sets = refl
+    by : (kind : Kind) → (ends_by h.ends Final && same_kind kind Final) ≡ false → (ends_by h.ends Stops && same_kind kind Stops) ≡ false → (h.stays && same_kind kind Steady) ≡ false → (is_some h.word && same_kind kind Sub) ≡ false → (has_words h && same_kind kind Settings) ≡ false → uses h kind ≡ false
+    by Final boots ends stays sub sets = sym (and-true (ends_by h.ends Final)) ∙ boots
+    by Stops boots ends stays sub sets = sym (and-true (ends_by h.ends Stops)) ∙ ends
+    by Steady boots ends stays sub sets = sym (and-true h.stays) ∙ stays
+    by Sub boots ends stays sub sets = sym (and-true (is_some h.word)) ∙ sub
+    by Settings boots ends stays sub sets = sym (and-true (has_words h)) ∙ sets
+    by Known boots ends stays sub sets = refl
+    by Calls boots ends stays sub sets = refl
 
 -- ---- what each line keeps of a list, the whole list keeps
 
@@ -173,20 +177,26 @@ module _ (Does : Effect → Type 0) (both : (before more : Effect) → Does befo
 abbrev IsUnused : Kind → Text → Type 0
 IsUnused kind text = list_all (λ l. not (may_say (kinds_of l.1) kind)) (numbered_lines text) ≡ true
 
-abbrev GoesOn : Effect → Type 0
-GoesOn effect = effect.ends ≡ false
+-- a kind of which a command is by how it ends the run
+module _ (kind : Kind) (is_end : (h : Heading) → uses h kind ≡ ends_by h.ends kind) where
+  abbrev GoesOn : Effect → Type 0
+  GoesOn effect = ends_by effect.ends kind ≡ false
 
-both-go : (before more : Effect) → GoesOn before → GoesOn more → GoesOn (joint before more)
-both-go before more a b = λ i. a i || b i
+  both-go : (before more : Effect) → GoesOn before → GoesOn more → GoesOn (joint before more)
+  both-go before more a b = by before.ends a
+    where
+      by : (ends : Option BoardEnd) → ends_by ends kind ≡ false → ends_by (first_finish ends more.ends) kind ≡ false
+      by None a = b
+      by (Some finish) a = a
 
-final-unused : (text : Text) (devices : Devices) → listed text ≡ Ok devices → IsUnused Final text → SaysNothing Final devices
-final-unused text devices e none =
-    calls-do GoesOn both-go devices (list-keeps Final (AllDo GoesOn both-go) command (λ other devices name. known-do GoesOn both-go devices name) (λ other devices all. all) text devices e none (tt, (tt, refl)))
-  where
-    command : (devices : Devices) (number : ℕ) (h : Heading) (one : DeviceLine) → line_of number h ≡ Ok one → uses h Final ≡ false → AllDo GoesOn both-go devices → AllDo GoesOn both-go (joined devices one)
-    command devices number h one is without all =
-        let says = line-says number h one is in
-        joined-do GoesOn both-go devices one.name one.word one.effect (sym (λ i. (says.2 i).effect.ends) ∙ without) all
+  end-unused : (text : Text) (devices : Devices) → listed text ≡ Ok devices → IsUnused kind text → EachCall GoesOn devices
+  end-unused text devices e none =
+      calls-do GoesOn both-go devices (list-keeps kind (AllDo GoesOn both-go) command (λ other devices name. known-do GoesOn both-go devices name) (λ other devices all. all) text devices e none (tt, (tt, refl)))
+    where
+      command : (devices : Devices) (number : ℕ) (h : Heading) (one : DeviceLine) → line_of number h ≡ Ok one → uses h kind ≡ false → AllDo GoesOn both-go devices → AllDo GoesOn both-go (joined devices one)
+      command devices number h one is without all =
+          let says = line-says number h one is in
+          joined-do GoesOn both-go devices one.name one.word one.effect (sym (λ i. ends_by (says.2 i).effect.ends kind) ∙ sym (is_end h) ∙ without) all
 
 abbrev AsksAnew : Effect → Type 0
 AsksAnew effect = effect.stays ≡ false
@@ -292,7 +302,8 @@ calls-unused text devices e none =
         joined-do TakesOutcomes both-take devices one.name one.word one.effect (sym (λ i. (says.2 i).effect.always)) all
 
 pub unused_kinds_say_nothing : UnusedKindsSayNothing
-unused_kinds_say_nothing Final text devices e none = final-unused text devices e none
+unused_kinds_say_nothing Final text devices e none = end-unused Final (λ h. refl) text devices e none
+unused_kinds_say_nothing Stops text devices e none = end-unused Stops (λ h. refl) text devices e none
 unused_kinds_say_nothing Steady text devices e none = steady-unused text devices e none
 unused_kinds_say_nothing Sub text devices e none = sub-unused text devices e none
 unused_kinds_say_nothing Settings text devices e none = settings-unused text devices e none

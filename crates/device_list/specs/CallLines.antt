@@ -6,6 +6,8 @@ use Rattle.text.specs.Words.{is_equals}
 use Rattle.text.specs.Lines.{Text}
 use Rattle.builtins.specs.Builtins.{is_built_in}
 use Rattle.device_list.specs.Settings.{Setting, Effect, call_setting}
+use Rattle.device_list.specs.Finishes.{finish_named}
+use Rattle.device_list.specs.declared.finish.BoardEnd.{BoardEnd}
 use Rattle.device_list.specs.Quotes.{is_quote, quoted_words}
 use Rattle.device_list.specs.declared.devices_error.DevicesError.{DevicesError}
 use Rattle.device_list.specs.declared.devices_error.DevicesError.TheVariants.{BadLine, BuiltIn}
@@ -81,7 +83,7 @@ pub record Clauses : Type 0 where
   pub waits : Bool
 
 abbrev pub no_clause : Clauses
-no_clause = record { effect = record { ends = false; stays = false; always = None; sets = [] }; waits = false }
+no_clause = record { effect = record { ends = None; stays = false; always = None; sets = [] }; waits = false }
 
 -- the answer of a status
 abbrev pub answer_of : (word : Text) → Option Bool
@@ -103,17 +105,21 @@ abbrev pub once : (before : Bool) → (after : Clauses) → Option Clauses
 once true after = None
 once false after = Some after
 
+-- how a success ends the run stands once; another word is a setting
+abbrev pub with_finish : Clauses → Option BoardEnd → (word : Text) → Option Clauses
+with_finish clauses None word = with_setting clauses (call_setting word)
+with_finish clauses (Some finish) word =
+    once (is_some clauses.effect.ends) (record clauses { effect = record clauses.effect { ends = Some finish } })
+
 -- the clauses after one more word
 abbrev pub with_clause : Clauses → (word : Text) → Option Clauses
 with_clause clauses word =
     if clauses.waits then with_always clauses (answer_of word)
-    else (if bytes_eq word (codes "final")
-    then once clauses.effect.ends (record clauses { effect = record clauses.effect { ends = true } })
     else (if bytes_eq word (codes "steady")
     then once clauses.effect.stays (record clauses { effect = record clauses.effect { stays = true } })
     else (if bytes_eq word (codes "always")
     then once (is_some clauses.effect.always) (record clauses { waits = true })
-    else with_setting clauses (call_setting word))))
+    else with_finish clauses (finish_named word) word))
 
 abbrev pub clauses_of : Clauses → List Text → Option Clauses
 clauses_of clauses [] = if clauses.waits then None else Some clauses

@@ -1,10 +1,11 @@
 -- What the lines of one name, and the `sub` lines of one name and one first word, say together. Ours.
-use Rattle.std.specs.Prelude.{◌≡◌, ℕ, nat_le, Bool, true, false, length, ◌&&◌, List, [], ◌∷◌, filter, Option, Some, None, Ok, if◌then◌else◌}
+use Rattle.std.specs.Prelude.{◌≡◌, ℕ, nat_le, Bool, true, false, length, ◌&&◌, List, [], ◌∷◌, map, filter, Option, Some, None, Ok, if◌then◌else◌}
 use Rattle.std.specs.Str.{bytes_eq}
 use Rattle.std.specs.List.{list_any, list_all, flat_map}
 use Rattle.std.specs.Result.{result_ok}
 use Rattle.text.specs.Lines.{numbered_lines}
 use Rattle.text.specs.Lines.{Text}
+use Rattle.device_list.specs.Finishes.{first_of}
 use Rattle.device_list.specs.DeviceList.{Effect, Devices, DeviceLine, effect_at, effect_of, device_words, begins_comment, heading_of, line_of, listed}
 
 -- the command that a line names, if it names one, in a list without a faulty line
@@ -32,11 +33,12 @@ same_word (Some v) (Some w) = bytes_eq v w
 abbrev pub lines_at : (name : Text) → (word : Option Text) → List DeviceLine → List DeviceLine
 lines_at name word = filter (λ one. same_word word one.word && bytes_eq name one.name)
 
--- some lines together: final if one of them is, and steady if one of them is, with all settings in their order
+-- some lines together: they end the run as the first says that says so, and are steady if one of them is, with all settings
+-- in their order
 abbrev pub whole_effect : List DeviceLine → Option Effect
 whole_effect [] = None
 whole_effect (one ∷ more) = Some (record {
-  ends = list_any (λ l. l.effect.ends) (one ∷ more);
+  ends = first_of (map (λ l. l.effect.ends) (one ∷ more));
   stays = list_any (λ l. l.effect.stays) (one ∷ more);
   always = one.effect.always;
   sets = flat_map (λ l. l.effect.sets) (one ∷ more);
@@ -51,7 +53,7 @@ LinesAreJoined = (text : Text) (devices : Devices) → listed text ≡ Ok device
 
 -- a command that only succeeds or fails
 abbrev pub quiet : Effect
-quiet = record { ends = false; stays = false; always = None; sets = [] }
+quiet = record { ends = None; stays = false; always = None; sets = [] }
 
 abbrev pub is_name_alone : Text → Bool
 is_name_alone line = nat_le (length (device_words line)) 1

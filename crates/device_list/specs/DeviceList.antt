@@ -12,6 +12,8 @@ use Rattle.commands.specs.KnownCommands.{known_of}
 use Rattle.commands.specs.Computed.{Computed, computes}
 pub use Rattle.device_list.specs.Settings.{LeftSide, Variable, WordAt, LastWord, RightSide, Literal, ValueAt, LastValue, Setting, Effect, is_variable, is_decimal, word_of_call, left_side, setting, settings}
 pub use Rattle.device_list.specs.CallLines.{Pattern, Call, first_fitting, call_said, is_call}
+use Rattle.device_list.specs.Finishes.{finish_named, first_finish}
+use Rattle.device_list.specs.declared.finish.BoardEnd.{BoardEnd}
 use Rattle.device_list.specs.declared.devices_error.DevicesError.{DevicesError}
 use Rattle.device_list.specs.declared.devices_error.DevicesError.TheVariants.{BadLine, BuiltIn, ByteOrderMark}
 
@@ -77,21 +79,21 @@ device_words line = filter (λ word. not (length word == 0)) (slice_split is_spa
 
 -- ---- what a line says
 
--- the name of a command; for a `sub` line the first word of its calls; whether it is final, and whether it is steady;
--- and the words after that
+-- the name of a command; for a `sub` line the first word of its calls; how it ends the run, if it does; whether it is
+-- steady; and the words after that
 pub record Heading : Type 0 where
   pub name : Text
   pub word : Option Text
-  pub ends : Bool
+  pub ends : Option BoardEnd
   pub stays : Bool
   pub words : List Text
 
-abbrev pub named : (ends stays : Bool) → Text → List Text → Heading
+abbrev pub named : Option BoardEnd → (stays : Bool) → Text → List Text → Heading
 named ends stays name words = record { name = name; word = None; ends = ends; stays = stays; words = words }
 
 -- The first word is the name, unless it is `sub` and two words without `=` follow. Then these are the name and the
 -- first word of its calls.
-abbrev pub call_of : (ends stays : Bool) → Text → List Text → Heading
+abbrev pub call_of : Option BoardEnd → (stays : Bool) → Text → List Text → Heading
 call_of ends stays first [] = named ends stays first []
 call_of ends stays first (second ∷ []) = named ends stays first (second ∷ [])
 call_of ends stays first (second ∷ third ∷ words) =
@@ -100,19 +102,28 @@ call_of ends stays first (second ∷ third ∷ words) =
     else named ends stays first (second ∷ third ∷ words)
 
 -- A first word `steady` says that the rest is a steady command, if a word without `=` follows.
-abbrev pub steady_of : (ends : Bool) → Text → List Text → Heading
+abbrev pub steady_of : Option BoardEnd → Text → List Text → Heading
 steady_of ends first [] = named ends false first []
 steady_of ends first (second ∷ words) =
     if bytes_eq first (codes "steady") && not (list_any is_equals second) then call_of ends true second words
     else call_of ends false first (second ∷ words)
 
--- A first word `final` says that the rest of the line is a final command, if a word without `=` follows. A steady
--- command that is final has `final` first.
+-- A first word `final`, `restart` or `halt` says that the rest of the line is a command that ends the run so, if a word
+-- without `=` follows. For a steady command it stands in front of `steady`.
+abbrev pub unless_setting : (second : Text) → Option BoardEnd → Option BoardEnd
+unless_setting second None = None
+unless_setting second (Some finish) = if list_any is_equals second then None else Some finish
+
+abbrev pub finish_before : (first second : Text) → Option BoardEnd
+finish_before first second = unless_setting second (finish_named first)
+
+abbrev pub finishing : Option BoardEnd → Text → (second : Text) → List Text → Heading
+finishing (Some finish) first second words = steady_of (Some finish) second words
+finishing None first second words = steady_of None first (second ∷ words)
+
 abbrev pub heading_of : Text → List Text → Heading
-heading_of first [] = named false false first []
-heading_of first (second ∷ words) =
-    if bytes_eq first (codes "final") && not (list_any is_equals second) then steady_of true second words
-    else steady_of false first (second ∷ words)
+heading_of first [] = named None false first []
+heading_of first (second ∷ words) = finishing (finish_before first second) first second words
 
 -- one line of a command
 pub record DeviceLine : Type 0 where
@@ -141,11 +152,12 @@ changed_at change [] name = (name, change None) ∷ []
 changed_at change (e ∷ table) name = if bytes_eq name e.0 then (e.0, change (Some e.1)) ∷ table
     else e ∷ changed_at change table name
 
--- one more line: final if one of the two is, steady if one of the two is, settings in their order. (Lines that are joined
+-- one more line: it ends the run as the first of the two says, and is steady if one of the two is, with the settings in
+-- their order. (Lines that are joined
 -- name no answer that is always the same.)
 abbrev pub joint : Effect → Effect → Effect
 joint before more = record {
-  ends = before.ends || more.ends;
+  ends = first_finish before.ends more.ends;
   stays = before.stays || more.stays;
   always = before.always;
   sets = before.sets ++ more.sets;

@@ -7,13 +7,17 @@ use Rattle.text.specs.Lines.{numbered_lines}
 use Rattle.text.specs.Words.{has_nul, is_equals}
 use Rattle.text.specs.Lines.{Text}
 use Rattle.device_list.specs.CallLines.{call_said, is_call}
-use Rattle.device_list.specs.DeviceList.{Effect, Devices, DeviceLine, Heading, effect_of, device_words, named, call_of, heading_of, line_of, known_named, is_steady_test, after_known, after_call, begins_comment, after_line, only, is_marked, listed}
+use Rattle.device_list.specs.DeviceList.{Effect, Devices, DeviceLine, Heading, effect_of, device_words, named, call_of, finish_before, heading_of, line_of, known_named, is_steady_test, after_known, after_call, begins_comment, after_line, only, is_marked, listed}
+use Rattle.device_list.specs.declared.finish.BoardEnd.{BoardEnd}
+use Rattle.device_list.specs.declared.finish.BoardEnd.TheVariants.{Boots, Restarts, Halts}
 use Rattle.device_list.specs.declared.devices_error.DevicesError.{DevicesError}
 use Rattle.device_list.specs.declared.devices_error.DevicesError.TheVariants.{BadLine, ByteOrderMark}
 
 pub data Kind : Type 0 where
-  -- a command that ends the run
+  -- a command that boots
   Final : Kind
+  -- a command that restarts the board, or halts it
+  Stops : Kind
   -- a command, or `test -e`, whose answers stay
   Steady : Kind
   -- the calls of a command with a first word
@@ -26,10 +30,11 @@ pub data Kind : Type 0 where
   Calls : Kind
 
 abbrev pub every_kind : List Kind
-every_kind = Final ∷ Steady ∷ Sub ∷ Settings ∷ Known ∷ Calls ∷ []
+every_kind = Final ∷ Stops ∷ Steady ∷ Sub ∷ Settings ∷ Known ∷ Calls ∷ []
 
 abbrev pub same_kind : Kind → Kind → Bool
 same_kind Final Final = true
+same_kind Stops Stops = true
 same_kind Steady Steady = true
 same_kind Sub Sub = true
 same_kind Settings Settings = true
@@ -43,13 +48,24 @@ has kinds kind = list_any (same_kind kind) kinds
 
 -- ---- the kinds that a line uses
 
+abbrev pub kind_of : BoardEnd → Kind
+kind_of Boots = Final
+kind_of Restarts = Stops
+kind_of Halts = Stops
+
+-- whether it ends the run in a way of this kind
+abbrev pub ends_by : Option BoardEnd → Kind → Bool
+ends_by None kind = false
+ends_by (Some finish) kind = same_kind (kind_of finish) kind
+
 -- whether words follow the names
 abbrev pub has_words : Heading → Bool
 has_words h = elim h.words [ [] ↦ false | word ∷ words ↦ true ]
 
 -- what the line of a command uses
 abbrev pub uses : Heading → Kind → Bool
-uses h Final = h.ends
+uses h Final = ends_by h.ends Final
+uses h Stops = ends_by h.ends Stops
 uses h Steady = h.stays
 uses h Sub = is_some h.word
 uses h Settings = has_words h
@@ -74,21 +90,27 @@ uses_only kinds line = list_all (has kinds) (kinds_of line)
 
 -- what DeviceList.antt says, but that a word which would begin a kind that is left out is a word as any other
 module _ (kinds : List Kind) where
-  abbrev pub call_among : (ends stays : Bool) → Text → List Text → Heading
+  abbrev pub call_among : Option BoardEnd → (stays : Bool) → Text → List Text → Heading
   call_among ends stays first words =
       if has kinds Sub then call_of ends stays first words else named ends stays first words
 
-  abbrev pub steady_among : (ends : Bool) → Text → List Text → Heading
+  abbrev pub steady_among : Option BoardEnd → Text → List Text → Heading
   steady_among ends first [] = named ends false first []
   steady_among ends first (second ∷ words) =
       if has kinds Steady && bytes_eq first (codes "steady") && not (list_any is_equals second)
       then call_among ends true second words else call_among ends false first (second ∷ words)
 
+  abbrev pub finish_among : Option BoardEnd → Option BoardEnd
+  finish_among None = None
+  finish_among (Some finish) = if has kinds (kind_of finish) then Some finish else None
+
+  abbrev pub finishing_among : Option BoardEnd → Text → (second : Text) → List Text → Heading
+  finishing_among (Some finish) first second words = steady_among (Some finish) second words
+  finishing_among None first second words = steady_among None first (second ∷ words)
+
   abbrev pub heading_among : Text → List Text → Heading
-  heading_among first [] = named false false first []
-  heading_among first (second ∷ words) =
-      if has kinds Final && bytes_eq first (codes "final") && not (list_any is_equals second)
-      then steady_among true second words else steady_among false first (second ∷ words)
+  heading_among first [] = named None false first []
+  heading_among first (second ∷ words) = finishing_among (finish_among (finish_before first second)) first second words
 
   -- without settings, no words follow the names
   abbrev pub said_among : ℕ → Heading → Result DeviceLine DevicesError
@@ -150,7 +172,8 @@ EachCall Does devices =
 
 -- the list says nothing of this kind
 abbrev pub SaysNothing : Kind → Devices → Type 0
-SaysNothing Final devices = EachCall (λ effect. effect.ends ≡ false) devices
+SaysNothing Final devices = EachCall (λ effect. ends_by effect.ends Final ≡ false) devices
+SaysNothing Stops devices = EachCall (λ effect. ends_by effect.ends Stops ≡ false) devices
 SaysNothing Steady devices = EachCall (λ effect. effect.stays ≡ false) devices × (devices.test_stays ≡ false)
 SaysNothing Sub devices = devices.subs ≡ []
 SaysNothing Settings devices = EachCall (λ effect. effect.sets ≡ []) devices

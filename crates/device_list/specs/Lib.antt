@@ -2,6 +2,7 @@ pub mod Quotes
 pub mod Settings
 pub mod CallLines
 pub mod DeviceList
+pub mod Finishes
 pub mod Called
 pub mod CommandsShown
 pub mod DeviceLaws

@@ -7,6 +7,7 @@ use Rattle.text.specs.Numbers.{are_digits, value_in}
 use Rattle.text.specs.Words.{is_equals}
 use Rattle.text.specs.Lines.{Text}
 use Rattle.device_list.specs.Quotes.{is_quote, unquoted}
+use Rattle.device_list.specs.declared.finish.BoardEnd.{BoardEnd}
 
 -- the left side of a setting: a variable, or the word of the call that names it; words are counted from 0, or it is the
 -- last
@@ -25,11 +26,11 @@ pub data RightSide : Type 0 where
 abbrev pub Setting : Type 0
 Setting = LeftSide × RightSide
 
--- what a device command does on success: what it sets in the environment, in order, and whether the run ends; whether
+-- what a device command does on success: what it sets in the environment, in order, and how the run ends, if it ends; whether
 -- its answers stay: asked again with the same words in one run, it answers as before; and the only answer that it has, if
 -- it has one: whether it succeeds
 pub record Effect : Type 0 where
-  pub ends : Bool
+  pub ends : Option BoardEnd
   pub stays : Bool
   pub always : Option Bool
   pub sets : List Setting

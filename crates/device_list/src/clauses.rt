@@ -3,6 +3,7 @@ ghost use Rattle.std.specs.Prelude.{◌≡◌, not, true, map, option_map, IfOk}
 ghost use Rattle.device_list.specs.CallLines.{answer_of, clauses_of, effect_said, no_clause};
 ghost use Rattle.device_list.specs.CommandsShown.{clauses_shown, listed_shown, TakesClause};
 
+use crate::finish::{BoardEnd, finish_named};
 use crate::listed::Listed;
 use crate::setting::{Setting, call_setting};
 use std::alloc::{AllocError, Global};
@@ -10,7 +11,7 @@ use std::alloc::{AllocError, Global};
 /// The clauses so far.
 #[derive(Drop)]
 pub(crate) struct Clauses {
-    ends: bool,
+    ends: Option<BoardEnd>,
     stays: bool,
     always: Option<bool>,
     sets: Vec<Setting>,
@@ -46,7 +47,7 @@ impl Clauses {
         ensures { clauses_shown result ≡ no_clause }
     {
         Clauses {
-            ends: false,
+            ends: None,
             stays: false,
             always: None,
             sets: Vec::new(alloc),
@@ -63,15 +64,17 @@ impl Clauses {
             self.always = answer_of(word);
             return Ok(self.always.is_some());
         }
-        if word == b"final".as_slice() {
-            return Ok(set_once(&mut self.ends));
-        }
         if word == b"steady".as_slice() {
             return Ok(set_once(&mut self.stays));
         }
         if word == b"always".as_slice() {
             self.waits = true;
             return Ok(self.always.is_none());
+        }
+        if let Some(finish) = finish_named(word) {
+            let first = self.ends.is_none();
+            self.ends = Some(finish);
+            return Ok(first);
         }
         let Some(set) = call_setting(alloc, word)? else {
             return Ok(false);

@@ -2,20 +2,21 @@
 ghost use Rattle.std.specs.Prelude.{◌≡◌, map, option_map, IfOk};
 ghost use Rattle.std.specs.List.{list_any};
 ghost use Rattle.text.specs.Words.{is_equals};
-ghost use Rattle.device_list.specs.DeviceList.{device_words, named, call_of, steady_of, heading_of, known_named, is_steady_test, begins_comment};
+ghost use Rattle.device_list.specs.DeviceList.{device_words, named, call_of, steady_of, finish_before, heading_of, known_named, is_steady_test, begins_comment};
 ghost use Rattle.device_list.specs.DevicesShown.{heading_shown};
 
+use crate::finish::{BoardEnd, finish_named};
 use commands::known_of;
 use std::alloc::{AllocError, Global};
 use text::{is_space, trimmed};
 
-/// The name of a command; for a `sub` line the first word of its calls; whether it is final, and
-/// whether it is steady; and the words after that.
+/// The name of a command; for a `sub` line the first word of its calls; how it ends the run, if it
+/// does; whether it is steady; and the words after that.
 #[derive(Clone, Copy)]
 pub(crate) struct Heading<'a> {
     pub(crate) name: &'a [u8],
     pub(crate) word: Option<&'a [u8]>,
-    pub(crate) ends: bool,
+    pub(crate) ends: Option<BoardEnd>,
     pub(crate) stays: bool,
     pub(crate) words: &'a [&'a [u8]],
 }
@@ -48,7 +49,12 @@ pub(crate) fn has_equals(word: &[u8]) -> bool
 }
 
 /// A heading that has only a name.
-fn named<'a>(ends: bool, stays: bool, name: &'a [u8], words: &'a [&'a [u8]]) -> Heading<'a>
+fn named<'a>(
+    ends: Option<BoardEnd>,
+    stays: bool,
+    name: &'a [u8],
+    words: &'a [&'a [u8]],
+) -> Heading<'a>
     ensures { heading_shown result ≡ named ends stays name.now (map (λ w. w.now) words.now) }
 {
     Heading {
@@ -62,7 +68,12 @@ fn named<'a>(ends: bool, stays: bool, name: &'a [u8], words: &'a [&'a [u8]]) -> 
 
 /// The first word is the name, unless it is `sub` and two words without `=` follow. Then these are
 /// the name and the first word of its calls.
-fn call_of<'a>(ends: bool, stays: bool, first: &'a [u8], behind: &'a [&'a [u8]]) -> Heading<'a>
+fn call_of<'a>(
+    ends: Option<BoardEnd>,
+    stays: bool,
+    first: &'a [u8],
+    behind: &'a [&'a [u8]],
+) -> Heading<'a>
     ensures { heading_shown result ≡ call_of ends stays first.now (map (λ w. w.now) behind.now) }
 {
     match behind {
@@ -81,7 +92,7 @@ fn call_of<'a>(ends: bool, stays: bool, first: &'a [u8], behind: &'a [&'a [u8]])
 }
 
 /// A first word `steady` says that the rest is a steady command, if a word without `=` follows.
-fn steady_of<'a>(ends: bool, first: &'a [u8], behind: &'a [&'a [u8]]) -> Heading<'a>
+fn steady_of<'a>(ends: Option<BoardEnd>, first: &'a [u8], behind: &'a [&'a [u8]]) -> Heading<'a>
     ensures { heading_shown result ≡ steady_of ends first.now (map (λ w. w.now) behind.now) }
 {
     match behind {
@@ -92,16 +103,28 @@ fn steady_of<'a>(ends: bool, first: &'a [u8], behind: &'a [&'a [u8]]) -> Heading
     }
 }
 
-/// What a line is about. A first word `final` says that the rest of the line is a final command, if
-/// a word without `=` follows.
+/// How the first word says that the command behind it ends the run, if a word without `=` follows.
+fn finish_before(first: &[u8], second: &[u8]) -> Option<BoardEnd>
+    ensures { result ≡ finish_before first.now second.now }
+{
+    let finish = finish_named(first)?;
+    if has_equals(second) {
+        return None;
+    }
+    Some(finish)
+}
+
+/// What a line is about. A first word `final`, `restart` or `halt` says that the rest of the line is
+/// a command that ends the run so, if a word without `=` follows.
 pub(crate) fn heading_of<'a>(first: &'a [u8], behind: &'a [&'a [u8]]) -> Heading<'a>
     ensures { heading_shown result ≡ heading_of first.now (map (λ w. w.now) behind.now) }
 {
-    match behind {
-        [second, words @ ..] if first == b"final".as_slice() && !has_equals(second) => {
-            steady_of(true, second, words)
-        }
-        _ => steady_of(false, first, behind),
+    let [second, words @ ..] = behind else {
+        return steady_of(None, first, behind);
+    };
+    match finish_before(first, second) {
+        Some(finish) => steady_of(Some(finish), second, words),
+        None => steady_of(None, first, behind),
     }
 }
 

@@ -11,6 +11,7 @@ ghost use Rattle.device_list.specs.NamedPlaces.{at_place};
 use crate::call_line::{Call, CallLine, call_said, first_fitting, is_call};
 use crate::device_line::{begins_comment, device_words, heading_of, is_steady_test, known_named};
 use crate::devices_error::DevicesError;
+use crate::finish::first_finish;
 use crate::listed::{Effect, Listed};
 use crate::setting::settings;
 use builtins::is_built_in;
@@ -106,7 +107,7 @@ fn join(alloc: Global, table: &mut Table, name: &[u8], mut more: Listed) -> Resu
 {
     if let Some(listed) = table.get_mut(name) {
         listed.sets.append(&mut more.sets)?;
-        listed.ends |= more.ends;
+        listed.ends = first_finish(listed.ends, more.ends);
         listed.stays |= more.stays;
         return Ok(());
     }

@@ -8,6 +8,7 @@ mod device_line;
 mod device_tables;
 mod devices;
 mod devices_error;
+mod finish;
 mod listed;
 mod pattern;
 mod quotes;
@@ -15,5 +16,6 @@ mod setting;
 
 pub use devices::Devices;
 pub use devices_error::DevicesError;
+pub use finish::BoardEnd;
 pub use listed::Effect;
 pub use setting::{LeftSide, RightSide, Setting};

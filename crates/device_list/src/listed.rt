@@ -1,12 +1,13 @@
 //! What the lines of a device list say of a command.
 
+use crate::finish::BoardEnd;
 use crate::setting::Setting;
 
 /// What a device command does on success, and whether its answers stay.
 #[derive(Clone, Copy, Debug)]
 pub struct Effect<'a> {
-    /// Whether it ends the run.
-    pub ends: bool,
+    /// How it ends the run, if it ends it.
+    pub ends: Option<BoardEnd>,
     /// Whether it answers as before if it is asked again with the same words in one run.
     pub stays: bool,
     /// The only answer that it has, if it has one: whether it succeeds.
@@ -18,7 +19,7 @@ pub struct Effect<'a> {
 /// What a device command of the list does on success, and whether its answers stay.
 #[derive(Drop)]
 pub(crate) struct Listed {
-    pub(crate) ends: bool,
+    pub(crate) ends: Option<BoardEnd>,
     pub(crate) stays: bool,
     pub(crate) always: Option<bool>,
     pub(crate) sets: Vec<Setting>,
