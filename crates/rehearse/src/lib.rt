@@ -4,7 +4,7 @@
 
 pub use bootstore_trail::Trail;
 pub use commands::verdict;
-pub use device_list::{Devices, DevicesError, Effect, LeftSide, RightSide, Setting};
+pub use device_list::{BoardEnd, Devices, DevicesError, Effect, LeftSide, RightSide, Setting};
 pub use envtools::Env;
 pub use output::{Out, OutFault, Over};
 pub use rehearse_records::RunView;

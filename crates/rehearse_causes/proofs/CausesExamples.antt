@@ -1,7 +1,8 @@
 -- Worked examples, computed: from the text of `bootcmd` to the lines of its causes.
-use Rattle.std.proofs.Common.{ℕ, Bool, true, false, [], ◌∷◌, List, Some, codes, refl, ◌≡◌}
+use Rattle.std.proofs.Common.{ℕ, Bool, true, false, [], ◌∷◌, List, Some, codes, refl, ◌≡◌, None}
 use Rattle.std.specs.Prelude.{option_map}
 use Rattle.std.specs.Fmt.{digits}
+use Rattle.device_list.specs.declared.finish.BoardEnd.TheVariants.{Boots, Restarts}
 use Rattle.hushlang.specs.Expansion.{fields, joined, atoms}
 use Rattle.hushlang.specs.Trees.{tree_of}
 use Rattle.device_list.specs.DeviceLaws.{quiet}
@@ -17,13 +18,16 @@ use Rattle.rehearse_causes.specs.CauseLines.{causes_text, is_fine, reported}
 
 -- a script whose runs may fail so often; `load` comes back, `boot` does not
 abbrev task : ℕ → Text → Task
-task failures text = record (bootcmd (limits (only ((codes "load", quiet) ∷ (codes "boot", record quiet { ends = true }) ∷ [])) 4 20) text) { failures = Some failures }
+task failures text = record (bootcmd (limits (only ((codes "load", quiet) ∷ (codes "boot", record quiet { ends = Some Boots }) ∷ [])) 4 20) text) { failures = Some failures }
 
 abbrev lines : ℕ → Text → Text
 lines failures text = causes_text (causes (task failures text))
 
+abbrev checked_of : Task → Text × Bool
+checked_of task = let told = reported true (causes task) in (causes_text told, is_fine true told)
+
 abbrev checked : ℕ → Text → Text × Bool
-checked failures text = let told = reported true (causes (task failures text)) in (causes_text told, is_fine true told)
+checked failures text = checked_of (task failures text)
 
 -- ---- scripts
 
@@ -31,6 +35,14 @@ checked failures text = let told = reported true (causes (task failures text)) i
 only_what_it_takes : lines 2 (codes "load a || load b; boot") ≡ codes "cause 0 booted boot\ncause 1 end 1\nfails boot\n"
 unfolding tree_of fields joined atoms digits
 only_what_it_takes = refl
+
+-- a board that restarts does not boot, and a check reports it
+abbrev restarting : Task
+restarting = record (bootcmd (limits (only ((codes "load", quiet) ∷ (codes "reset", record quiet { ends = Some Restarts }) ∷ (codes "boot", record quiet { ends = Some Boots }) ∷ [])) 4 20) (codes "load && boot; reset")) { failures = Some 1 }
+
+a_restart_is_no_boot : checked_of restarting ≡ (codes "cause 1 restarted reset\nfails boot\ncause 1 restarted reset\nfails load\n", false)
+unfolding tree_of fields joined atoms digits
+a_restart_is_no_boot = refl
 
 -- two ways to one ending
 two_ways : lines 2 (codes "load a || load b || exit 3; load c || exit 3; boot") ≡ codes "cause 0 booted boot\ncause 1 end 1\nfails boot\ncause 1 end 3\nfails load c\ncause 2 end 3\nfails load a\nfails load b\n"

@@ -1,7 +1,8 @@
 -- The lines that say what has to fail. Ours.
 use Rattle.std.specs.Prelude.{Bool, true, false, not, cond, List, [], ◌∷◌, ◌++◌, filter, flat_map, length, codes, decimal}
+use Rattle.device_list.specs.declared.finish.BoardEnd.TheVariants.{Boots, Restarts, Halts}
 use Rattle.rehearse_terms.specs.State.{Text}
-use Rattle.rehearse_rules.specs.Ending.{Ending, End, CutDevices, CutSteps, Unknown, Syntax, Unsupported, Size, Booted}
+use Rattle.rehearse_rules.specs.Ending.{Ending, End, CutDevices, CutSteps, Unknown, Syntax, Unsupported, Size, Finished}
 use Rattle.rehearse_rules.specs.Listing.{line, last_line}
 use Rattle.rehearse_states.specs.EndingLines.{fails_lines}
 use Rattle.rehearse_causes.specs.Causes.{Cause}
@@ -18,7 +19,7 @@ abbrev pub causes_text : List Cause → Text
 causes_text cs = flat_map cause_lines cs
 
 abbrev pub is_booted : Ending → Bool
-is_booted (Booted name) = true
+is_booted (Finished Boots name) = true
 is_booted _ = false
 
 -- of a check, only what does not boot

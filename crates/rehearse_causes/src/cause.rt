@@ -14,6 +14,7 @@ ghost use Rattle.text.specs.TextsShown.{bytes_of_words};
 
 use crate::number::{fails_number, part_numbers};
 use bootstore_state::{LogEntry, Store, StoreError};
+use device_list::BoardEnd;
 use rehearse_rules::{Ending, Halt};
 use rehearse_runs::RunView;
 use rehearse_states::{put_ending, put_fail, put_number, same_halt};
@@ -52,7 +53,7 @@ fn halt_of(alloc: Global, ending: Ending<'_>) -> Result<Halt, StoreError>
         Ending::Syntax(name) => Halt::Syntax(Vec::from_slice(alloc, name)?),
         Ending::Unsupported(name) => Halt::Unsupported(Vec::from_slice(alloc, name)?),
         Ending::Size => Halt::Size,
-        Ending::Booted(name) => Halt::Booted(Vec::from_slice(alloc, name)?),
+        Ending::Finished(finish, name) => Halt::Finished(finish, Vec::from_slice(alloc, name)?),
     })
 }
 
@@ -161,7 +162,7 @@ impl Cause {
     pub fn is_booted(&self) -> bool
         ensures { result ≡ is_booted self.now.ending }
     {
-        matches!(self.halt, Halt::Booted(_))
+        matches!(self.halt, Halt::Finished(BoardEnd::Boots, _))
     }
 
     /// Adds its lines to a text. Errors: `Memory`.

@@ -1,4 +1,5 @@
 -- A command that asks was not told an answer: it takes an outcome of the word.
+use Rattle.device_list.specs.declared.finish.BoardEnd.{BoardEnd}
 use Rattle.rehearse_rules.specs.ByShell.{leaves_in, status_of_exit, asks_in, truth_in, fields_in, follows}
 use Rattle.std.proofs.Common.{ℕ, Bool, true, false, List, [], ◌∷◌, length, Option, Some, None, refl, subst, ◌≡◌, nat_lt, nat_le}
 use Rattle.hushlang.specs.Tree as tree
@@ -12,7 +13,7 @@ use Rattle.rehearse_rules.specs.Parameters.{parameters_in}
 use Rattle.device_list.specs.Called.{Called, BuiltIn, NoCommand, Device, called_by, sets_in}
 use Rattle.commands.specs.BuiltInCommands.{ChangesVariables, WritesText, RunsTexts, Tests, Exits}
 use Rattle.rehearse_rules.specs.Execution.{Limits, CutDevices, Size, Request, told, told_again, logged, set_environment, set_status, status_when, Unsupported, request_of, test_request}
-use Rattle.rehearse_machine.specs.Places.{PlaceNext, GoOn, AskOn, StopOn, left, to_run, place_boot, place_exit, place_tell_or_ask, place_ask, place_called, place_fields}
+use Rattle.rehearse_machine.specs.Places.{PlaceNext, GoOn, AskOn, StopOn, left, to_run, place_finish, place_exit, place_tell_or_ask, place_ask, place_called, place_fields}
 use Rattle.rehearse_machine.specs.AskingCommand.{words_in_front, fields_again, found_again}
 use Rattle.rehearse_machine.specs.Machine.{Asking}
 
@@ -33,13 +34,13 @@ exit_anew : (o : Option ℕ) (other : ℕ) (ps : List RunningFrame) (s : State) 
 exit_anew None other ps s = tt
 exit_anew (Some status) other ps s = left_anew (to_run ps) (set_status status s)
 
-boot_anew : (ends : Bool) (name : Text) (ps : List RunningFrame) (s : State) → AsksAnew (place_boot ends name ps s)
-boot_anew true name ps s = tt
-boot_anew false name ps s = tt
+finish_anew : (ends : Option BoardEnd) (name : Text) (ps : List RunningFrame) (s : State) → AsksAnew (place_finish ends name ps s)
+finish_anew (Some how) name ps s = tt
+finish_anew None name ps s = tt
 
 tell_anew : (o : Option Bool) (r : Request) (ps : List RunningFrame) (s : State) → r.again ≡ false → AsksAnew (place_tell_or_ask o r ps s)
 tell_anew None r ps s e = e
-tell_anew (Some true) r ps s e = boot_anew r.effect.ends r.name ps (set_environment (sets_in r.words r.effect.sets) (logged Success (told_again r) s))
+tell_anew (Some true) r ps s e = finish_anew r.effect.ends r.name ps (set_environment (sets_in r.words r.effect.sets) (logged Success (told_again r) s))
 tell_anew (Some false) r ps s e = tt
 
 module _ (limits : Limits) where

@@ -8,7 +8,7 @@ use Rattle.std.proofs.lemmas.List.Elements.{filter-append}
 use Rattle.rehearse_terms.specs.State.{Text, State, LoggedCommand, asked_of}
 use Rattle.bootstore_state.specs.StoredState.{state_at}
 use Rattle.device_list.specs.Called.{sets_in}
-use Rattle.rehearse_rules.specs.Execution.{Limits, Answer, Ending, CutDevices, CutSteps, End, Unknown, Syntax, Unsupported, Size, Booted, Request, take_outcome, set_environment, logged, succeeds}
+use Rattle.rehearse_rules.specs.Execution.{Limits, Answer, Ending, CutDevices, CutSteps, End, Unknown, Syntax, Unsupported, Size, Finished, Request, take_outcome, set_environment, logged, succeeds}
 use Rattle.rehearse_machine.specs.Came.{Came, Over, Wants}
 use Rattle.rehearse_machine.specs.Places.{frames_of}
 use Rattle.rehearse_machine.specs.Meaning.{continue}
@@ -22,7 +22,7 @@ use Rattle.rehearse_endings.specs.DrawnRuns.{further, seen_behind, Draws, seen_a
 use Rattle.rehearse_states.specs.Drawing.{HasMore}
 use Rattle.rehearse_states.specs.Words.{words_in}
 use Rattle.rehearse_endings.specs.Searching.{future, seen_from}
-use Rattle.rehearse_endings.proofs.ElsewhereLemmas.{Alike-boot}
+use Rattle.rehearse_endings.proofs.ElsewhereLemmas.{Alike-finish}
 use Rattle.rehearse_endings.proofs.FrameLemmas.{continue_alike}
 use Rattle.rehearse_endings.proofs.SameCoreLemmas.{asks_so}
 
@@ -86,7 +86,7 @@ never_cut limits i k (Over (Unknown name) s) h = h
 never_cut limits i k (Over (Syntax name) s) h = h
 never_cut limits i k (Over (Unsupported name) s) h = h
 never_cut limits i k (Over Size s) h = h
-never_cut limits i k (Over (Booted name) s) h = h
+never_cut limits i k (Over (Finished finish name) s) h = h
 never_cut limits i k (Wants s) h = h
 
 logs_itself : (limits : Limits) (i : ℕ) (k : List LoggedCommand) (c : Came) → CameAlike limits i i k k c c → HaveFurther k k (came_log c) (came_log c)
@@ -103,7 +103,7 @@ took : (limits : Limits) (request : Request) (d : Outcome) (w : OutcomeWord) (s 
 took limits request Success w s =
     let u : State = set_environment (sets_in request.words request.effect.sets) (logged Success request (record s { word = w })) in
     let k : List LoggedCommand = s.log ++ entry_of request Success ∷ [] in
-    Alike-boot limits s.steps s.steps k k request.effect.ends request.name u u.memory.text u.log u.steps (omega arith, record { answers = refl; further = []; goes_on_here = sym (append-nil k); goes_on_there = sym (append-nil k) })
+    Alike-finish limits s.steps s.steps k k request.effect.ends request.name u u.memory.text u.log u.steps (omega arith, record { answers = refl; further = []; goes_on_here = sym (append-nil k); goes_on_there = sym (append-nil k) })
 took limits request Failure w s =
     let u : State = logged Failure request (record s { word = w }) in
     let k : List LoggedCommand = s.log ++ entry_of request Failure ∷ [] in

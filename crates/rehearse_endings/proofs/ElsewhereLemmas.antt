@@ -3,6 +3,7 @@ use Rattle.std.proofs.Common.{ℕ, zero, suc, Bool, true, false, not, cond, map,
 use Rattle.std.specs.Map.{lookup}
 use Rattle.std.proofs.lemmas.List.{map-append}
 use Rattle.std.proofs.lemmas.List.Elements.{filter-append}
+use Rattle.device_list.specs.declared.finish.BoardEnd.{BoardEnd}
 use Rattle.rehearse_terms.specs.Outcomes.{OutcomeWord, Outcome, Success, Failure}
 use Rattle.hushlang.specs.Tree as tree
 use Rattle.hushlang.specs.Tree.{Script, AndOr, Joined, Command, Arms}
@@ -13,7 +14,7 @@ use Rattle.hushlang_old.specs.TreesByShell.{tree_in, lacks_end_in}
 use Rattle.device_list.specs.Called.{Called, BuiltIn, Device, NoCommand, called_by, sets_in}
 use Rattle.commands.specs.BuiltInCommands.{ChangesVariables, WritesText, RunsTexts, Tests, Exits, variables_changed, text_written}
 use Rattle.rehearse_rules.specs.ByShell.{unread, leaves_in, status_of_exit, asks_in, truth_in, fields_in, turns_in, skips_rest, status_of_nothing, status_of_no_block, status_of_loop, status_in_turn, follows, assigned_in, locals_in}
-use Rattle.rehearse_rules.specs.Execution.{begin_turn, Limits, Answer, Normal, Exit, Ended, Dry, Ending, CutDevices, CutSteps, Unknown, Size, go_on, remember, set_status, status_when, goes, holds, begin, take_outcome, with_outcome, outcome_when, succeeds, told, told_again, tell_or_take, device, Request, logged, set_environment, boot, text_end, run_text, run_all, command, simple, sized, assign, turns, for_each, exec_script, exec_list, exec_joined, exec_command, exec_arms, exec, Unsupported, assign_local, started_text, request_of, test_request}
+use Rattle.rehearse_rules.specs.Execution.{begin_turn, Limits, Answer, Normal, Exit, Ended, Dry, Ending, CutDevices, CutSteps, Unknown, Size, go_on, remember, set_status, status_when, goes, holds, begin, take_outcome, with_outcome, outcome_when, succeeds, told, told_again, tell_or_take, device, Request, logged, set_environment, finish, text_end, run_text, run_all, command, simple, sized, assign, turns, for_each, exec_script, exec_list, exec_joined, exec_command, exec_arms, exec, Unsupported, assign_local, started_text, request_of, test_request}
 use Rattle.rehearse_rules.specs.Runs.{state_of}
 use Rattle.rehearse_rules.proofs.TakenOutcomes.{skipped, Track-of, KeepsAll, Keeps-script, Keeps-joined, Keeps-arms, Keeps-exec, Keeps-run, Keeps-turns, Keeps-for, Keeps-if, Keeps-stays, after_condition, Keeps-after_condition, Keeps-ended, Keeps-simple, Keeps-sized, Keeps-assign}
 use Rattle.rehearse_endings.specs.Elsewhere.{elsewhere, devices_of, HaveFurther, AreApart, IsBeyond, IsAlike, same, cut_here, beyond, Alike}
@@ -161,9 +162,9 @@ module _ (limits : Limits) (i j : ℕ) (k l : List LoggedCommand) where
   Alike-begin f h kept s = λ text log n e. begin_by s f (h (record s { steps = suc s.steps })) kept text log n e (nat_lt s.steps limits.step_bound) (nat_lt n limits.step_bound) refl refl
 
   -- ---- device commands
-  pub Alike-boot : (b : Bool) (name : Text) (s : State) → Does s (boot b name)
-  Alike-boot true name s = λ text log n e. same (record { text = text; log = log; steps = n; is = refl; apart = e })
-  Alike-boot false name s = λ text log n e. same (record { text = text; log = log; steps = n; is = refl; apart = e })
+  pub Alike-finish : (b : Option BoardEnd) (name : Text) (s : State) → Does s (finish b name)
+  Alike-finish (Some how) name s = λ text log n e. same (record { text = text; log = log; steps = n; is = refl; apart = e })
+  Alike-finish None name s = λ text log n e. same (record { text = text; log = log; steps = n; is = refl; apart = e })
 
   one_more : (s : State) (log : List LoggedCommand) (n : ℕ) (entry : LoggedCommand) → AreApart limits i j k l s log n → HaveFurther k l (s.log ++ entry ∷ []) (log ++ entry ∷ [])
   one_more s log n entry e = further_on k l s.log log entry e.1
@@ -175,7 +176,7 @@ module _ (limits : Limits) (i j : ℕ) (k l : List LoggedCommand) where
   with_alike : (request : Request) (d : Outcome) (s : State) (text : Text) (log : List LoggedCommand) (n : ℕ) → AreApart limits i j k l s log n → Is (with_outcome d request s) (with_outcome d request (elsewhere text log n s))
   with_alike request Success s text log n e =
       let entry : LoggedCommand = entry_of request Success in
-      Alike-boot request.effect.ends request.name (set_environment (sets_in request.words request.effect.sets) (logged Success request s)) text (log ++ entry ∷ []) n (e.0, one_more s log n entry e)
+      Alike-finish request.effect.ends request.name (set_environment (sets_in request.words request.effect.sets) (logged Success request s)) text (log ++ entry ∷ []) n (e.0, one_more s log n entry e)
   with_alike request Failure s text log n e =
       let entry : LoggedCommand = entry_of request Failure in
       same (record { text = text; log = log ++ entry ∷ []; steps = n; is = refl; apart = (e.0, one_more s log n entry e) })
@@ -188,13 +189,13 @@ module _ (limits : Limits) (i j : ℕ) (k l : List LoggedCommand) where
   tell_alike None request s text log n e = take_alike request s.word s text log n e
   tell_alike (Some success) request s text log n e = with_alike (told_again request) (outcome_when success) s text log n e
 
-  boot_needs : (b : Bool) (name : Text) (s : State) → devices_of (boot b name s) ≡ length s.log
-  boot_needs true name s = refl
-  boot_needs false name s = refl
+  finish_needs : (b : Option BoardEnd) (name : Text) (s : State) → devices_of (finish b name s) ≡ length s.log
+  finish_needs (Some how) name s = refl
+  finish_needs None name s = refl
 
   with_needs : (request : Request) (d : Outcome) (s : State) → length s.log < devices_of (with_outcome d request s)
   with_needs request Success s =
-      let a = boot_needs request.effect.ends request.name (set_environment (sets_in request.words request.effect.sets) (logged Success request s)) in
+      let a = finish_needs request.effect.ends request.name (set_environment (sets_in request.words request.effect.sets) (logged Success request s)) in
       let b = length-append s.log (entry_of request Success ∷ []) in
       omega arith
   with_needs request Failure s = let b = length-append s.log (entry_of request Failure ∷ []) in omega arith

@@ -1,4 +1,5 @@
 -- If a device command asks at two moments with the same core, the same is to come, as far as the bounds allow.
+use Rattle.device_list.specs.declared.finish.BoardEnd.{BoardEnd}
 use Rattle.rehearse_rules.specs.ByShell.{leaves_in, status_of_exit, asks_in, truth_in, fields_in, follows}
 use Rattle.std.proofs.Common.{ℕ, Bool, true, false, cond, List, [], ◌∷◌, length, Option, Some, None, refl, sym, ap, subst, ◌∙◌, ◌≡◌, append-nil, arith, nat_lt, nat_le}
 use Rattle.std.specs.FinMap.{entries}
@@ -16,7 +17,7 @@ use Rattle.commands.specs.BuiltInCommands.{ChangesVariables, WritesText, RunsTex
 use Rattle.rehearse_rules.specs.Execution.{Limits, CutDevices, Size, Request, told, told_again, logged, set_environment, set_status, status_when, take_outcome, Unsupported, request_of, test_request}
 use Rattle.rehearse_machine.specs.Came.{Came}
 use Rattle.rehearse_machine.specs.Meaning.{continue, comes_to}
-use Rattle.rehearse_machine.specs.Places.{PlaceNext, GoOn, AskOn, StopOn, next_of, frames_of, left, to_run, place_exit, place_boot, place_tell_or_ask, place_ask, place_called, place_fields}
+use Rattle.rehearse_machine.specs.Places.{PlaceNext, GoOn, AskOn, StopOn, next_of, frames_of, left, to_run, place_exit, place_finish, place_tell_or_ask, place_ask, place_called, place_fields}
 use Rattle.rehearse_machine.specs.AskingCommand.{words_in_front, fields_again, found_again}
 use Rattle.rehearse_machine.specs.Machine.{Asking, IsAsking, asked_at}
 use Rattle.rehearse_endings.specs.Elsewhere.{elsewhere}
@@ -51,14 +52,14 @@ module _ (limits : Limits) (text : Text) (log : List LoggedCommand) (n : ℕ) wh
   either_same true f g s h k = h
   either_same false f g s h k = k
 
-  boot_same : (ends : Bool) (name : Text) (ps : List RunningFrame) (s : State) (b : PlaceNext) → AskSame (place_boot ends name ps s) b
-  boot_same true name ps s b = tt
-  boot_same false name ps s b = tt
+  finish_same : (ends : Option BoardEnd) (name : Text) (ps : List RunningFrame) (s : State) (b : PlaceNext) → AskSame (place_finish ends name ps s) b
+  finish_same (Some how) name ps s b = tt
+  finish_same None name ps s b = tt
 
   tell_same : (o : Option Bool) (r : Request) (ps : List RunningFrame) (s t : State) → AskSame (place_tell_or_ask o r ps s) (place_tell_or_ask o r ps t)
   tell_same None r ps s t = refl
   tell_same (Some true) r ps s t =
-      boot_same r.effect.ends r.name ps (set_environment (sets_in r.words r.effect.sets) (logged Success (told_again r) s)) (place_tell_or_ask (Some true) r ps t)
+      finish_same r.effect.ends r.name ps (set_environment (sets_in r.words r.effect.sets) (logged Success (told_again r) s)) (place_tell_or_ask (Some true) r ps t)
   tell_same (Some false) r ps s t = tt
 
   ends_same : (x : PlaceNext) (t : State) → AskSame x (StopOn CutDevices t)

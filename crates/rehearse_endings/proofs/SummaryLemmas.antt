@@ -4,7 +4,7 @@ use Rattle.bootstore_state.specs.Moment.{Moment}
 use Rattle.rehearse_terms.specs.Outcomes.{OutcomeWord, Success, Failure, WordKind}
 use Rattle.rehearse_terms.specs.State.{Text, Variables}
 use Rattle.bootstore_state.specs.StoredState.{state_at}
-use Rattle.rehearse_rules.specs.Execution.{Limits, Ending, End, CutDevices, CutSteps, Unknown, Syntax, Unsupported, Size, Booted}
+use Rattle.rehearse_rules.specs.Execution.{Limits, Ending, End, CutDevices, CutSteps, Unknown, Syntax, Unsupported, Size, Finished}
 use Rattle.rehearse_machine.specs.Came.{Came, Over, Wants}
 use Rattle.rehearse_machine.specs.Machine.{IsAsking, asked_at}
 use Rattle.rehearse_endings.specs.Elsewhere.{IsCutBy}
@@ -60,7 +60,7 @@ module _ (names : List Text) (limits : Limits) (m t : Moment) (s : Summary) (sum
   never_by w (Syntax name) e h = h
   never_by w (Unsupported name) e h = h
   never_by w Size e h = h
-  never_by w (Booted name) e h = h
+  never_by w (Finished finish name) e h = h
 
   never_cut : (w : OutcomeWord) (c : Came) → asked_at limits m w ≡ c → CameCut limits m.steps t.steps m.log t.log c → ⊥
   never_cut w (Over ending x) e h = never_by w ending (ap came_ending e) h

@@ -19,6 +19,11 @@ sets_and_boots : listed (bootcmd (with_list (codes "load filesize=1000\nfinal bo
 unfolding listed_along ends_along
 sets_and_boots = along 2 _ _ _ _ refl refl
 
+-- a board that restarts, and one that halts
+restarts_and_halts : listed (bootcmd (with_list (codes "restart reset\nhalt poweroff\n")) (codes "reset || poweroff; echo no")) z None ≡ codes "run 0\ndev 0 reset\nunset z\nrestarted reset\nrun 10\ndev 1 reset\ndev 0 poweroff\nunset z\nhalted poweroff\nrun 11\ndev 1 reset\ndev 1 poweroff\ntext no\\n\nunset z\nend 0\ndone\n"
+unfolding listed_along ends_along
+restarts_and_halts = along 2 _ _ _ _ refl refl
+
 -- also inside a text that `run` started; `t` is `bootm`
 boots_in_run : listed (bootcmd_among (with_list (codes "final bootm")) ((codes "bootcmd", codes "run t; echo x") ∷ (codes "t", codes "bootm") ∷ []) (codes "run t; echo x")) z None ≡ codes "run 0\ndev 0 bootm\nunset z\nbooted bootm\nrun 1\ndev 1 bootm\ntext x\\n\nunset z\nend 0\ndone\n"
 unfolding listed_along ends_along

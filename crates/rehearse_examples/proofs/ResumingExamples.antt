@@ -1,5 +1,6 @@
 -- Worked examples, computed: a listing that broke off.
 use Rattle.std.proofs.Common.{ℕ, true, List, [], ◌∷◌, Option, Some, None, codes, refl, ◌≡◌, map, take, length, false}
+use Rattle.device_list.specs.declared.finish.BoardEnd.TheVariants.{Boots}
 use Rattle.rehearse_terms.specs.Outcomes.{Success}
 use Rattle.rehearse_terms.specs.State.{Text}
 use Rattle.std.specs.Fmt.{digits}
@@ -41,7 +42,7 @@ broken_page = refl
 
 -- listings of a run that is cut, stopped or booted
 abbrev ends : List Text
-ends = listed (bootcmd (limits only_load 0 10000) (codes "load")) (codes "z" ∷ []) None ∷ listed (bootcmd (limits only_load 0 10000) (codes "foo")) (codes "z" ∷ []) None ∷ listed (bootcmd (limits (only ((codes "go", record { ends = true; stays = false; always = None; sets = [] }) ∷ [])) 1 10000) (codes "go")) (codes "z" ∷ []) (Some 1) ∷ []
+ends = listed (bootcmd (limits only_load 0 10000) (codes "load")) (codes "z" ∷ []) None ∷ listed (bootcmd (limits only_load 0 10000) (codes "foo")) (codes "z" ∷ []) None ∷ listed (bootcmd (limits (only ((codes "go", record { ends = Some Boots; stays = false; always = None; sets = [] }) ∷ [])) 1 10000) (codes "go")) (codes "z" ∷ []) (Some 1) ∷ []
 
 points_at_ends : map resume_point_of ends ≡ point (codes ".") 26 ∷ point (codes ".") 31 ∷ point (codes "0") 33 ∷ []
 unfolding listed
@@ -55,3 +56,7 @@ stray_lines = refl
 similar_lines : map resume_point_of (codes "run 0\nendx\n" ∷ codes "runx\nend 0\n" ∷ codes "run 0\ncutx\n"
     ∷ codes "run 0\nstopx\n" ∷ codes "run 0\nbootedx\n" ∷ []) ≡ None ∷ None ∷ None ∷ None ∷ None ∷ []
 similar_lines = refl
+
+-- records of a board that restarts, or halts
+points_at_stops : map resume_point_of (codes "run 0\nrestarted x\n" ∷ codes "run 0\nhalted x\n" ∷ codes "run 0\nrestartedx\n" ∷ codes "run 0\nhaltedx\n" ∷ []) ≡ point (codes "0") 18 ∷ point (codes "0") 15 ∷ None ∷ None ∷ []
+points_at_stops = refl

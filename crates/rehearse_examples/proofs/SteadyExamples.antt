@@ -1,5 +1,6 @@
 -- Worked examples, computed: device commands whose answers stay.
 use Rattle.std.proofs.Common.{Ok, true, false, [], ◌∷◌, Some, None, codes, refl, ◌≡◌}
+use Rattle.device_list.specs.declared.finish.BoardEnd.TheVariants.{Boots}
 use Rattle.device_list.specs.CallLines.{Exactly}
 use Rattle.device_list.specs.DeviceList.{Variable, Literal, LastWord, Effect, Devices, effect_of, only}
 use Rattle.device_list.specs.DeviceList as lists
@@ -9,7 +10,7 @@ use Rattle.rehearse_rules.specs.Runs.{Task}
 use Rattle.rehearse_rules.proofs.ExampleRehearsals.{limits, bootcmd, bootcmd_among, z, listed, ends_along, listed_along, along}
 
 abbrev steady : Effect
-steady = record { ends = false; stays = true; always = None; sets = [] }
+steady = record { ends = None; stays = true; always = None; sets = [] }
 
 -- the device list `steady load`
 abbrev steady_load : Devices
@@ -140,7 +141,7 @@ bounded_listed = along 1 bounded z None _ refl refl
 
 -- the device list `final steady bootm`: a failure stays, and a success ends the run
 abbrev steady_boot : Task
-steady_boot = bootcmd (limits (only ((codes "bootm", record steady { ends = true }) ∷ [])) 16 10000) (codes "bootm || bootm; echo no")
+steady_boot = bootcmd (limits (only ((codes "bootm", record steady { ends = Some Boots }) ∷ [])) 16 10000) (codes "bootm || bootm; echo no")
 
 steady_boot_listed : listed steady_boot z None ≡ codes "run 0\ndev 0 bootm\nunset z\nbooted bootm\nrun 1\ndev 1 bootm\ndev 1 bootm\ntext no\\n\nunset z\nend 0\ndone\n"
 unfolding listed_along ends_along

@@ -1,5 +1,6 @@
 -- What frames read and write is what a move reads and writes, and then what is to come after it.
 use Rattle.std.proofs.Common.{◌≡◌, ◌∙◌, refl, sym, ap, ℕ, zero, suc, ◌≤◌, arith, Bool, true, false, List, [], ◌∷◌, ◌++◌, length, append_assoc, Option, Some, None, nat_lt, nat_le, nat_eq}
+use Rattle.device_list.specs.declared.finish.BoardEnd.{BoardEnd}
 use Rattle.hushlang.specs.Tree as tree
 use Rattle.hushlang.specs.Tree.{Script, AndOr, Joined, Command, Arms, IsProper, IsProperCommand, HoldsCommand}
 use Rattle.hushlang.specs.Expansion.{size, most_bytes}
@@ -14,10 +15,10 @@ use Rattle.rehearse_terms.specs.Outcomes.{OutcomeWord, Outcome, Success, Failure
 use Rattle.rehearse_terms.specs.State.{Text, get, State}
 use Rattle.rehearse_rules.specs.Parameters.{parameters_in}
 use Rattle.rehearse_rules.specs.ByShell.{unread, leaves_in, status_of_exit, asks_in, truth_in, fields_in, turns_in, skips_rest, status_of_loop, follows, assigned_in}
-use Rattle.rehearse_rules.specs.Execution.{Limits, Answer, Normal, Exit, Ended, Ending, CutDevices, CutSteps, Unknown, Size, Booted, Unsupported, Request, go_on, set_status, status_when, goes, holds, begin, boot, tell_or_take, told, told_again, logged, set_environment, device, text_end, run_all, command, simple, sized, assign, assign_local, turns, for_each, begin_turn, run_text, started_text, request_of, test_request}
+use Rattle.rehearse_rules.specs.Execution.{Limits, Answer, Normal, Exit, Ended, Ending, CutDevices, CutSteps, Unknown, Size, Finished, Unsupported, Request, go_on, set_status, status_when, goes, holds, begin, finish, tell_or_take, told, told_again, logged, set_environment, device, text_end, run_all, command, simple, sized, assign, assign_local, turns, for_each, begin_turn, run_text, started_text, request_of, test_request}
 use Rattle.rehearse_rules.proofs.GrowingSteps.{Grew, AtLeast-track, Grew-block}
 use Rattle.rehearse_rules.proofs.TakenOutcomes.{KeepsAll, Keeps-script, Keeps-exec}
-use Rattle.rehearse_machine.specs.Frames.{Frame, Lists, Linked, IfCondition, LoopCondition, LoopBody, ForBody, RunNames, RunText, Next, Go, Ask, Stop, tell_or_ask, boot_next, leave, begin_assign, begin_for, begin_arms, begin_tree, begin_text, begin_names, begin_exit, fitting, ask, begin_called, begin_fields, counted, begin_command, answered, move}
+use Rattle.rehearse_machine.specs.Frames.{Frame, Lists, Linked, IfCondition, LoopCondition, LoopBody, ForBody, RunNames, RunText, Next, Go, Ask, Stop, tell_or_ask, finish_next, leave, begin_assign, begin_for, begin_arms, begin_tree, begin_text, begin_names, begin_exit, fitting, ask, begin_called, begin_fields, counted, begin_command, answered, move}
 use Rattle.rehearse_machine.specs.Meaning.{with, full, script, one, joined_of, arms_of, again, resume, AreProperFrames}
 use Rattle.rehearse_machine.proofs.MoveMeaning.{turn_more}
 use Rattle.rehearse_machine.proofs.StepBoundLemmas.{closed_exec}
@@ -125,14 +126,14 @@ module _ (limits : Limits) (wanted : List Text) (w : OutcomeWord) where
 
   -- ---- commands
 
-  boot_so : (ends : Bool) (name : Text) (fs : List Frame) (s : State) → After (boot_next ends name fs s) ≡ Rest fs (boot ends name (with w s))
-  boot_so true name fs s = stops_so fs (Booted name) s
-  boot_so false name fs s = refl
+  finish_so : (ends : Option BoardEnd) (name : Text) (fs : List Frame) (s : State) → After (finish_next ends name fs s) ≡ Rest fs (finish ends name (with w s))
+  finish_so (Some finish) name fs s = stops_so fs (Finished finish name) s
+  finish_so None name fs s = refl
 
   tell_so : (o : Option Bool) (request : Request) (fs : List Frame) (s : State) → of_telling o request ++ After (tell_or_ask o request fs s) ≡ answer_accesses o request (with w s) ++ Rest fs (tell_or_take o request (with w s))
   tell_so None request fs s = refl
   tell_so (Some true) request fs s =
-      ap (λ (xs : List Access). outcome_accesses Success request ++ xs) (boot_so request.effect.ends request.name fs (set_environment (sets_in request.words request.effect.sets) (logged Success (told_again request) s)))
+      ap (λ (xs : List Access). outcome_accesses Success request ++ xs) (finish_so request.effect.ends request.name fs (set_environment (sets_in request.words request.effect.sets) (logged Success (told_again request) s)))
   tell_so (Some false) request fs s = refl
 
   ask_so : (request : Request) (fs : List Frame) (s : State) → of_asking limits request s ++ After (ask limits request fs s) ≡ device_accesses limits request (with w s) ++ Rest fs (device limits request (with w s))
@@ -324,7 +325,7 @@ module _ (limits : Limits) (wanted : List Text) (w : OutcomeWord) where
   -- an outcome is taken
   outcome_so : (outcome : Outcome) (request : Request) (fs : List Frame) (s : State) → of_next limits wanted (outcome ∷ w) (Ask request fs s) ≡ outcome_accesses outcome request ++ After (answered outcome request fs s)
   outcome_so Success request fs s =
-      ap (λ (xs : List Access). outcome_accesses Success request ++ xs) (sym (boot_so request.effect.ends request.name fs (set_environment (sets_in request.words request.effect.sets) (logged Success request s))))
+      ap (λ (xs : List Access). outcome_accesses Success request ++ xs) (sym (finish_so request.effect.ends request.name fs (set_environment (sets_in request.words request.effect.sets) (logged Success request s))))
   outcome_so Failure request fs s = refl
 
 pub moves_come_first : MovesComeFirst

@@ -1,5 +1,6 @@
 -- A device command that asks can be found again.
 use Rattle.std.proofs.Common.{ℕ, zero, suc, Bool, true, false, List, [], ◌∷◌, length, Option, Some, None, refl, ap, ◌∙◌, ◌≡◌, nat_lt, nat_le, nat_eq}
+use Rattle.device_list.specs.declared.finish.BoardEnd.{BoardEnd}
 use Rattle.hushlang.specs.Tree as tree
 use Rattle.hushlang.specs.Tree.{Script, AndOr, Command, Arms}
 use Rattle.hushlang.specs.Expansion.{joined, size, most_bytes}
@@ -15,7 +16,7 @@ use Rattle.device_list.specs.Called.{Called, BuiltIn, NoCommand, Device, called_
 use Rattle.commands.specs.BuiltInCommands.{ChangesVariables, WritesText, RunsTexts, Tests, Exits}
 use Rattle.rehearse_rules.specs.Execution.{Limits, CutDevices, CutSteps, Size, set_status, set_local, status_when, goes, holds, Request, test_effect, told, told_again, logged, set_environment, Unsupported, assign_local, request_of, test_request}
 use Rattle.rehearse_terms.specs.Outcomes.{Success}
-use Rattle.rehearse_machine.specs.Places.{PlaceNext, GoOn, AskOn, StopOn, list_at, joined_at, second, command_in, command_at, drop_arms, block_frame, behind, in_turn, left, to_run, place_exit, place_boot, place_tell_or_ask, place_assign, place_tree, place_text, place_name, run_move, for_turn, for_move, for_begins, place_arms, condition_ends, phase_move, place_fitting, place_ask, place_called, place_fields, place_counted, place_command, place_joined, place_begins, place_turn, place_list, place_by, place_move, place_skipped, moved_to, place}
+use Rattle.rehearse_machine.specs.Places.{PlaceNext, GoOn, AskOn, StopOn, list_at, joined_at, second, command_in, command_at, drop_arms, block_frame, behind, in_turn, left, to_run, place_exit, place_finish, place_tell_or_ask, place_assign, place_tree, place_text, place_name, run_move, for_turn, for_move, for_begins, place_arms, condition_ends, phase_move, place_fitting, place_ask, place_called, place_fields, place_counted, place_command, place_joined, place_begins, place_turn, place_list, place_by, place_move, place_skipped, moved_to, place}
 use Rattle.rehearse_machine.specs.AskingCommand.{words_of, fields_again, found_again, AsksAgain}
 use Rattle.rehearse_rules.specs.ByShell.{leaves_in, status_of_exit, asks_in, truth_in, fields_in, turns_in, status_of_loop, skips_rest, follows, assigned_in}
 
@@ -64,13 +65,13 @@ module _ (limits : Limits) where
   exit_here ps s None other = tt
   exit_here ps s (Some status) other = left_here ps (to_run ps) s (set_status status s)
 
-  boot_here : (ps qs : List RunningFrame) (ends : Bool) (name : Text) (s t : State) → AsksHere ps s (place_boot ends name qs t)
-  boot_here ps qs true name s t = tt
-  boot_here ps qs false name s t = tt
+  finish_here : (ps qs : List RunningFrame) (ends : Option BoardEnd) (name : Text) (s t : State) → AsksHere ps s (place_finish ends name qs t)
+  finish_here ps qs (Some finish) name s t = tt
+  finish_here ps qs None name s t = tt
 
   tell_here : (o : Option Bool) (r : Request) (ps : List RunningFrame) (s : State) → AsksHere ps s (place_tell_or_ask o r ps s)
   tell_here None r ps s = (refl, refl)
-  tell_here (Some true) r ps s = boot_here ps ps r.effect.ends r.name s (set_environment (sets_in r.words r.effect.sets) (logged Success (told_again r) s))
+  tell_here (Some true) r ps s = finish_here ps ps r.effect.ends r.name s (set_environment (sets_in r.words r.effect.sets) (logged Success (told_again r) s))
   tell_here (Some false) r ps s = tt
 
   ask_here : (r : Request) (ps : List RunningFrame) (s : State) → AsksHere ps s (place_ask limits r ps s)

@@ -1,5 +1,6 @@
 -- Each move of the machine keeps what is still to come.
 use Rattle.std.proofs.Common.{ℕ, zero, suc, Bool, true, false, List, [], ◌∷◌, length, Option, Some, None, refl, sym, ap, ◌∙◌, ◌≡◌, ◌≤◌, arith, nat_lt, nat_le, nat_eq}
+use Rattle.device_list.specs.declared.finish.BoardEnd.{BoardEnd}
 use Rattle.hushlang.specs.Tree as tree
 use Rattle.hushlang.specs.Tree.{Script, Command, Arms, IsProper, IsProperCommand, HoldsCommand}
 use Rattle.hushlang.specs.Expansion.{fields, joined, size, most_bytes}
@@ -9,8 +10,8 @@ use Rattle.rehearse_terms.specs.State.{Text, get, State}
 use Rattle.rehearse_rules.specs.Parameters.{parameters_in}
 use Rattle.device_list.specs.Called.{Called, BuiltIn, NoCommand, Device, called_by, sets_in}
 use Rattle.commands.specs.BuiltInCommands.{ChangesVariables, WritesText, RunsTexts, Tests, Exits}
-use Rattle.rehearse_rules.specs.Execution.{Limits, Answer, Normal, Exit, Ended, Dry, Ending, CutDevices, CutSteps, Unknown, Size, go_on, set_status, set_local, status_when, goes, holds, begin, tell_or_take, told, told_again, logged, boot, set_environment, Booted, device, Request, test_effect, text_end, run_text, run_all, command, simple, sized, assign, turns, for_each, Unsupported, assign_local, request_of, test_request, started_text}
-use Rattle.rehearse_machine.specs.Frames.{Frame, Lists, Linked, IfCondition, LoopCondition, LoopBody, ForBody, RunNames, RunText, Next, Go, Stop, tell_or_ask, boot_next, leave, begin_assign, begin_for, begin_arms, begin_tree, begin_text, begin_names, begin_exit, fitting, ask, begin_called, begin_fields, counted, begin_command, move}
+use Rattle.rehearse_rules.specs.Execution.{Limits, Answer, Normal, Exit, Ended, Dry, Ending, CutDevices, CutSteps, Unknown, Size, go_on, set_status, set_local, status_when, goes, holds, begin, tell_or_take, told, told_again, logged, finish, set_environment, Finished, device, Request, test_effect, text_end, run_text, run_all, command, simple, sized, assign, turns, for_each, Unsupported, assign_local, request_of, test_request, started_text}
+use Rattle.rehearse_machine.specs.Frames.{Frame, Lists, Linked, IfCondition, LoopCondition, LoopBody, ForBody, RunNames, RunText, Next, Go, Stop, tell_or_ask, finish_next, leave, begin_assign, begin_for, begin_arms, begin_tree, begin_text, begin_names, begin_exit, fitting, ask, begin_called, begin_fields, counted, begin_command, move}
 use Rattle.rehearse_machine.specs.Came.{Over, Wants}
 use Rattle.rehearse_machine.specs.Meaning.{with, full, script, one, joined_of, arms_of, again, resume, continue, comes_to, AreProperFrames}
 use Rattle.rehearse_rules.proofs.GrowingSteps.{Grew, AtLeast-track, Grew-block}
@@ -90,14 +91,14 @@ module _ (limits : Limits) where
     names-is [] fs s = refl
     names-is (name ∷ names) fs s = text-is (get s.memory.environment name) name names fs s
 
-    boot-is : (ends : Bool) (name : Text) (fs : List Frame) (s : State) → comes_to limits w (boot_next ends name fs s) ≡ continue limits fs (boot ends name (with w s))
-    boot-is true name fs s = sym (continue-ended fs (Booted name) (with w s))
-    boot-is false name fs s = refl
+    finish-is : (ends : Option BoardEnd) (name : Text) (fs : List Frame) (s : State) → comes_to limits w (finish_next ends name fs s) ≡ continue limits fs (finish ends name (with w s))
+    finish-is (Some finish) name fs s = sym (continue-ended fs (Finished finish name) (with w s))
+    finish-is None name fs s = refl
 
     -- a command that is told its answer again, or one that asks
     tell-is : (o : Option Bool) (request : Request) (fs : List Frame) (s : State) → comes_to limits w (tell_or_ask o request fs s) ≡ continue limits fs (tell_or_take o request (with w s))
     tell-is None request fs s = refl
-    tell-is (Some true) request fs s = boot-is request.effect.ends request.name fs (set_environment (sets_in request.words request.effect.sets) (logged Success (told_again request) s))
+    tell-is (Some true) request fs s = finish-is request.effect.ends request.name fs (set_environment (sets_in request.words request.effect.sets) (logged Success (told_again request) s))
     tell-is (Some false) request fs s = refl
 
     ask-is : (request : Request) (fs : List Frame) (s : State) → comes_to limits w (ask limits request fs s) ≡ continue limits fs (device limits request (with w s))

@@ -2,6 +2,7 @@
 use Rattle.std.proofs.Common.{ℕ, Bool, true, false, List, [], ◌∷◌, ◌++◌, ◌+◌, map, drop, length, get_or, Option, Some, None, refl, sym, ap, subst, ◌∙◌, ◌≡◌, ◌<◌, ◌≤◌, arith}
 use Rattle.std.proofs.Math.ListN.{drop_of_length-le}
 use Rattle.std.specs.FinMap.{entries}
+use Rattle.device_list.specs.declared.finish.BoardEnd.{BoardEnd}
 use Rattle.hushlang.proofs.ExpandLemmas.{drop_next}
 use Rattle.bootstore_state.specs.Moment.{RunningFrame}
 use Rattle.bootstore_state.specs.Record.{Record, changed, with_environment, with_device, with_status}
@@ -12,11 +13,11 @@ use Rattle.device_list.specs.DevicesShown.{setting_shown}
 use Rattle.device_list.specs.declared.setting.Setting.{Setting}
 use Rattle.rehearse_terms.specs.State.{Text, Variables, State, LoggedCommand}
 use Rattle.bootstore_state.specs.StoredState.{state_at}
-use Rattle.rehearse_rules.specs.Execution.{Request, Booted, remember, succeeds, logged, with_all, set_environment, status_after}
+use Rattle.rehearse_rules.specs.Execution.{Request, Finished, remember, succeeds, logged, with_all, set_environment, status_after}
 use Rattle.bootstore_state.proofs.StateLemmas.{stored_changes}
 use Rattle.rehearse_machine.specs.declared.ask.Step.{Step}
 use Rattle.rehearse_machine.specs.declared.ask.Step.TheVariants as steps
-use Rattle.rehearse_machine.specs.Places.{GoOn, StopOn, place_boot, place_answered}
+use Rattle.rehearse_machine.specs.Places.{GoOn, StopOn, place_finish, place_answered}
 use Rattle.rehearse_machine.specs.MovesShown.{Keeps, Changes, Does, next_shown}
 use Rattle.rehearse_machine.proofs.StoreMoves.{keeps_both, keeps_change}
 
@@ -113,17 +114,17 @@ pub failed : (outcome : Outcome) (request : Request) (ps : List RunningFrame) (s
 failed Success request ps s e = absurd (let f = e in cc)
 failed Failure request ps s e = refl
 
-pub succeeded : (outcome : Outcome) (request : Request) (ps : List RunningFrame) (s : State) → succeeds outcome ≡ true → place_boot request.effect.ends request.name ps (set_environment (sets_in request.words request.effect.sets) (logged outcome request s)) ≡ place_answered outcome request ps s
+pub succeeded : (outcome : Outcome) (request : Request) (ps : List RunningFrame) (s : State) → succeeds outcome ≡ true → place_finish request.effect.ends request.name ps (set_environment (sets_in request.words request.effect.sets) (logged outcome request s)) ≡ place_answered outcome request ps s
 succeeded Success request ps s e = refl
 succeeded Failure request ps s e = absurd (let f = e in cc)
 
-pub booted : (b : Bool) (name : Text) (ps : List RunningFrame) (s : State) → b ≡ true → StopOn (Booted name) s ≡ place_boot b name ps s
-booted true name ps s e = refl
-booted false name ps s e = absurd (let f = e in cc)
+pub finished : (ends : Option BoardEnd) (how : BoardEnd) (name : Text) (ps : List RunningFrame) (s : State) → ends ≡ Some how → StopOn (Finished how name) s ≡ place_finish ends name ps s
+finished (Some how) finish name ps s e = let f = e in cc
+finished None how name ps s e = absurd (let f = e in cc)
 
-pub stayed : (b : Bool) (name : Text) (ps : List RunningFrame) (s : State) → b ≡ false → GoOn ps s ≡ place_boot b name ps s
-stayed true name ps s e = absurd (let f = e in cc)
-stayed false name ps s e = refl
+pub stayed : (ends : Option BoardEnd) (name : Text) (ps : List RunningFrame) (s : State) → ends ≡ None → GoOn ps s ≡ place_finish ends name ps s
+stayed (Some how) name ps s e = absurd (let f = e in cc)
+stayed None name ps s e = refl
 
 module _ (outcome : Outcome) (request : Request) (old set late : Record) (sets : List (Text × Text)) (changes : Changes old set (λ m. record m { environment = with_all sets m.environment })) (here : (w : OutcomeWord) → state_at late.present w ≡ logged outcome request (state_at set.present w)) (frames : late.present.frames ≡ set.present.frames) (keeps : Keeps set late) where
   here_is : (made : List (Text × Text)) → sets ≡ made → (w : OutcomeWord) → state_at late.present w ≡ logged outcome request (set_environment made (state_at old.present w))
@@ -131,11 +132,11 @@ module _ (outcome : Outcome) (request : Request) (old set late : Record) (sets :
 
   -- what a success does
   pub success_does : (step : Step) → sets ≡ sets_in request.words request.effect.sets → succeeds outcome ≡ true
-      → ((w : OutcomeWord) → next_shown step late.present w ≡ place_boot request.effect.ends request.name late.present.frames (state_at late.present w)) → Does step old late (place_answered outcome request old.present.frames)
+      → ((w : OutcomeWord) → next_shown step late.present w ≡ place_finish request.effect.ends request.name late.present.frames (state_at late.present w)) → Does step old late (place_answered outcome request old.present.frames)
   success_does step s e does = (
     λ w. does w
-        ∙ ap (λ (x : List RunningFrame). place_boot request.effect.ends request.name x (state_at late.present w)) (frames ∙ changes.1)
-        ∙ ap (λ (x : State). place_boot request.effect.ends request.name old.present.frames x) (here_is (sets_in request.words request.effect.sets) s w)
+        ∙ ap (λ (x : List RunningFrame). place_finish request.effect.ends request.name x (state_at late.present w)) (frames ∙ changes.1)
+        ∙ ap (λ (x : State). place_finish request.effect.ends request.name old.present.frames x) (here_is (sets_in request.words request.effect.sets) s w)
         ∙ succeeded outcome request old.present.frames (state_at old.present w) e,
     keeps_both old set late changes.2 keeps,
   )

@@ -2,6 +2,7 @@
 use Rattle.std.proofs.Common.{ℕ, zero, suc, Bool, true, false, List, [], ◌∷◌, ◌++◌, length, drop, Option, Some, None, refl, sym, ap, ◌∙◌, ◌≡◌, ◌<◌, arith, nat_lt, nat_le, nat_eq}
 use Rattle.std.specs.Prelude.{slice_get}
 use Rattle.std.proofs.Math.Dec.{eqb-suc-zero}
+use Rattle.device_list.specs.declared.finish.BoardEnd.{BoardEnd}
 use Rattle.hushlang.specs.Tree as tree
 use Rattle.hushlang.specs.Tree.{Script, AndOr, Joined, Command, Arms}
 use Rattle.hushlang.specs.Expansion.{joined, size, most_bytes}
@@ -18,8 +19,8 @@ use Rattle.rehearse_rules.specs.Parameters.{parameters_in}
 use Rattle.device_list.specs.Called.{Called, BuiltIn, NoCommand, Device, called_by, sets_in}
 use Rattle.commands.specs.BuiltInCommands.{ChangesVariables, WritesText, RunsTexts, Tests, Exits}
 use Rattle.rehearse_rules.specs.Execution.{begin_turn, Limits, End, CutDevices, CutSteps, Size, set_status, set_local, status_when, goes, holds, Request, test_effect, outcome_when, told, told_again, logged, set_environment, Unsupported, assign_local, request_of, test_request}
-use Rattle.rehearse_machine.specs.Frames.{Frame, Lists, Linked, IfCondition, LoopCondition, LoopBody, ForBody, Next, Go, Stop, leave, boot_next, answered, tell_or_ask, begin_assign, begin_for, begin_arms, begun_text, begin_tree, begin_text, begin_names, begin_exit, fitting, ask, begin_called, begin_fields, counted, begin_command, move}
-use Rattle.rehearse_machine.specs.Places.{list_at, drop_lists, joined_at, drop_joined, second, command_in, command_at, drop_arms, place, from_command, condition_frame, phase, from_turn, script_frames, for_frame, run_frame, frames_by, frames_of, PlaceNext, GoOn, StopOn, next_of, moved_to, behind, in_turn, text_frame, block_frame, is_run, to_run, left, place_exit, place_boot, place_answered, place_tell_or_ask, place_assign, place_tree, place_text, place_name, run_move, for_turn, for_move, for_begins, place_arms, condition_ends, phase_move, place_fitting, place_ask, place_called, place_fields, place_counted, place_command, place_joined, place_skipped, place_begins, place_turn, place_list, place_by, place_move, place_skipped}
+use Rattle.rehearse_machine.specs.Frames.{Frame, Lists, Linked, IfCondition, LoopCondition, LoopBody, ForBody, Next, Go, Stop, leave, finish_next, answered, tell_or_ask, begin_assign, begin_for, begin_arms, begun_text, begin_tree, begin_text, begin_names, begin_exit, fitting, ask, begin_called, begin_fields, counted, begin_command, move}
+use Rattle.rehearse_machine.specs.Places.{list_at, drop_lists, joined_at, drop_joined, second, command_in, command_at, drop_arms, place, from_command, condition_frame, phase, from_turn, script_frames, for_frame, run_frame, frames_by, frames_of, PlaceNext, GoOn, StopOn, next_of, moved_to, behind, in_turn, text_frame, block_frame, is_run, to_run, left, place_exit, place_finish, place_answered, place_tell_or_ask, place_assign, place_tree, place_text, place_name, run_move, for_turn, for_move, for_begins, place_arms, condition_ends, phase_move, place_fitting, place_ask, place_called, place_fields, place_counted, place_command, place_joined, place_skipped, place_begins, place_turn, place_list, place_by, place_move, place_skipped}
 use Rattle.rehearse_machine.proofs.Beginnings.{chosen, passed}
 use Rattle.rehearse_terms.specs.declared.shell.Shell.{Shell}
 use Rattle.rehearse_rules.specs.ByShell.{leaves_in, status_of_exit, asks_in, truth_in, fields_in, turns_in, skips_rest, status_of_no_block, status_of_loop, follows, assigned_in}
@@ -226,13 +227,13 @@ past_command : (list : AndOr) (n : ℕ) (rest : Script) → command_in list n �
 past_command (tree.Starts c joins) zero rest e = absurd (let k = e in cc)
 past_command (tree.Starts c joins) (suc j) rest e = ap (λ (x : Joined). Linked x ∷ Lists rest ∷ []) (past_joined joins j (no_second (joined_at joins j) e))
 
-boots-is : (b : Bool) (name : Text) (ps : List RunningFrame) (s : State) → next_of (place_boot b name ps s) ≡ boot_next b name (frames_of ps) s
-boots-is true name ps s = refl
-boots-is false name ps s = refl
+finish-is : (b : Option BoardEnd) (name : Text) (ps : List RunningFrame) (s : State) → next_of (place_finish b name ps s) ≡ finish_next b name (frames_of ps) s
+finish-is (Some finish) name ps s = refl
+finish-is None name ps s = refl
 
 -- and so is the outcome of the command that asks
 pub place_answered-is : (outcome : Outcome) (r : Request) (ps : List RunningFrame) (s : State) → next_of (place_answered outcome r ps s) ≡ answered outcome r (frames_of ps) s
-place_answered-is Success r ps s = boots-is r.effect.ends r.name ps (set_environment (sets_in r.words r.effect.sets) (logged Success r s))
+place_answered-is Success r ps s = finish-is r.effect.ends r.name ps (set_environment (sets_in r.words r.effect.sets) (logged Success r s))
 place_answered-is Failure r ps s = refl
 
 tell-is : (o : Option Bool) (r : Request) (ps : List RunningFrame) (s : State) → next_of (place_tell_or_ask o r ps s) ≡ tell_or_ask o r (frames_of ps) s

@@ -1,5 +1,6 @@
 -- The machine ends. Each move begins a step, or comes closer to the next step or the end; the bound limits the steps.
 use Rattle.std.proofs.Common.{ℕ, suc, Bool, true, false, List, [], ◌∷◌, length, Option, Some, None, refl, ◌≡◌, ◌<◌, ◌≤◌, ◌⊎◌, inl, inr, arith, ◌+◌, nat_lt, nat_le, nat_eq, ltb-true}
+use Rattle.device_list.specs.declared.finish.BoardEnd.{BoardEnd}
 use Rattle.hushlang.specs.Tree as tree
 use Rattle.hushlang.specs.Tree.{Script, Joined, Command, Arms, IsProperCommand, AreProperArms, HoldsCommand}
 use Rattle.hushlang.specs.Expansion.{joined, size, most_bytes}
@@ -10,7 +11,7 @@ use Rattle.device_list.specs.Called.{Called, BuiltIn, NoCommand, Device, called_
 use Rattle.commands.specs.BuiltInCommands.{ChangesVariables, WritesText, RunsTexts, Tests, Exits}
 use Rattle.rehearse_rules.specs.Execution.{Limits, CutDevices, CutSteps, Size, set_status, set_local, status_when, goes, holds, Request, test_effect, told, told_again, logged, set_environment, Unsupported, assign_local, request_of, test_request}
 use Rattle.rehearse_terms.specs.Outcomes.{Success}
-use Rattle.rehearse_machine.specs.Frames.{Frame, Lists, Linked, IfCondition, LoopCondition, LoopBody, ForBody, RunNames, RunText, Next, Go, Ask, Stop, tell_or_ask, boot_next, leave, begin_assign, begin_for, begin_arms, begin_tree, begin_text, begin_names, begin_exit, fitting, ask, begin_called, begin_fields, begin_command, move}
+use Rattle.rehearse_machine.specs.Frames.{Frame, Lists, Linked, IfCondition, LoopCondition, LoopBody, ForBody, RunNames, RunText, Next, Go, Ask, Stop, tell_or_ask, finish_next, leave, begin_assign, begin_for, begin_arms, begin_tree, begin_text, begin_names, begin_exit, fitting, ask, begin_called, begin_fields, begin_command, move}
 use Rattle.rehearse_machine.specs.MoveCounts.{command_depth, arms_depth, script_depth, block_weight, links_weight, arms_weight, tree_weight, text_weight, names_weight, weight}
 use Rattle.rehearse_machine.specs.Meaning.{AreProperFrames}
 use Rattle.rehearse_rules.specs.ByShell.{leaves_in, status_of_exit, asks_in, truth_in, fields_in, turns_in, skips_rest, status_of_loop, follows, assigned_in}
@@ -68,13 +69,13 @@ module _ (limits : Limits) where
   names-quiet [] fs s = refl
   names-quiet (name ∷ names) fs s = text-quiet (get s.memory.environment name) name names fs s
 
-  boot-quiet : (ends : Bool) (name : Text) (fs : List Frame) (t s : State) → s.steps ≡ t.steps → IsQuiet t (boot_next ends name fs s)
-  boot-quiet true name fs t s e = e
-  boot-quiet false name fs t s e = e
+  finish-quiet : (ends : Option BoardEnd) (name : Text) (fs : List Frame) (t s : State) → s.steps ≡ t.steps → IsQuiet t (finish_next ends name fs s)
+  finish-quiet (Some finish) name fs t s e = e
+  finish-quiet None name fs t s e = e
 
   tell-quiet : (o : Option Bool) (r : Request) (fs : List Frame) (s : State) → IsQuiet s (tell_or_ask o r fs s)
   tell-quiet None r fs s = refl
-  tell-quiet (Some true) r fs s = boot-quiet r.effect.ends r.name fs s (set_environment (sets_in r.words r.effect.sets) (logged Success (told_again r) s)) refl
+  tell-quiet (Some true) r fs s = finish-quiet r.effect.ends r.name fs s (set_environment (sets_in r.words r.effect.sets) (logged Success (told_again r) s)) refl
   tell-quiet (Some false) r fs s = refl
 
   ask-quiet : (r : Request) (fs : List Frame) (s : State) → IsQuiet s (ask limits r fs s)

@@ -1,5 +1,6 @@
 -- The machine's frames hold proper scripts, move after move.
 use Rattle.std.proofs.Common.{ℕ, suc, Bool, true, false, List, [], ◌∷◌, length, Option, Some, None, refl, ◌≡◌, nat_lt, nat_le, nat_eq}
+use Rattle.device_list.specs.declared.finish.BoardEnd.{BoardEnd}
 use Rattle.hushlang.specs.Tree as tree
 use Rattle.hushlang.specs.Tree.{Script, Command, Arms, IsProper, IsProperCommand, AreProperArms, HoldsCommand}
 use Rattle.hushlang.specs.Expansion.{fields, joined, size, most_bytes}
@@ -10,7 +11,7 @@ use Rattle.device_list.specs.Called.{Called, BuiltIn, NoCommand, Device, called_
 use Rattle.commands.specs.BuiltInCommands.{ChangesVariables, WritesText, RunsTexts, Tests, Exits}
 use Rattle.rehearse_rules.specs.Execution.{Limits, CutDevices, CutSteps, Size, set_status, set_local, status_when, goes, holds, Request, test_effect, told, told_again, logged, set_environment, Unsupported, assign_local, request_of, test_request}
 use Rattle.rehearse_terms.specs.Outcomes.{Success}
-use Rattle.rehearse_machine.specs.Frames.{Frame, Lists, Linked, IfCondition, LoopCondition, LoopBody, ForBody, RunNames, RunText, Next, Go, Stop, tell_or_ask, boot_next, leave, begin_assign, begin_for, begin_arms, begin_tree, begin_text, begin_names, begin_exit, fitting, ask, begin_called, begin_fields, begin_command, move}
+use Rattle.rehearse_machine.specs.Frames.{Frame, Lists, Linked, IfCondition, LoopCondition, LoopBody, ForBody, RunNames, RunText, Next, Go, Stop, tell_or_ask, finish_next, leave, begin_assign, begin_for, begin_arms, begin_tree, begin_text, begin_names, begin_exit, fitting, ask, begin_called, begin_fields, begin_command, move}
 use Rattle.hushlang_old.proofs.TreeByShellLemmas.{trees_in_are_proper}
 use Rattle.rehearse_machine.proofs.StepBoundLemmas.{block_proper}
 use Rattle.rehearse_machine.specs.Meaning.{AreProperFrames, IsProperNext}
@@ -46,13 +47,13 @@ module _ (limits : Limits) where
   names-proper [] fs s p = p
   names-proper (name ∷ names) fs s p = text-proper (get s.memory.environment name) name names fs s p
 
-  boot-proper : (ends : Bool) (name : Text) (fs : List Frame) (s : State) → AreProperFrames fs → IsProperNext (boot_next ends name fs s)
-  boot-proper true name fs s p = tt
-  boot-proper false name fs s p = p
+  finish-proper : (ends : Option BoardEnd) (name : Text) (fs : List Frame) (s : State) → AreProperFrames fs → IsProperNext (finish_next ends name fs s)
+  finish-proper (Some finish) name fs s p = tt
+  finish-proper None name fs s p = p
 
   tell-proper : (o : Option Bool) (request : Request) (fs : List Frame) (s : State) → AreProperFrames fs → IsProperNext (tell_or_ask o request fs s)
   tell-proper None request fs s p = p
-  tell-proper (Some true) request fs s p = boot-proper request.effect.ends request.name fs (set_environment (sets_in request.words request.effect.sets) (logged Success (told_again request) s)) p
+  tell-proper (Some true) request fs s p = finish-proper request.effect.ends request.name fs (set_environment (sets_in request.words request.effect.sets) (logged Success (told_again request) s)) p
   tell-proper (Some false) request fs s p = p
 
   ask-proper : (request : Request) (fs : List Frame) (s : State) → AreProperFrames fs → IsProperNext (ask limits request fs s)

@@ -1,16 +1,17 @@
 -- How far a run of a task is that has taken a word: it starts, takes outcomes, asks and ends.
 use Rattle.std.proofs.Common.{Bool, true, false, List, [], ◌∷◌, ◌++◌, Option, Some, None, refl, sym, ap, ◌∙◌, ◌≡◌, append_assoc, arith}
+use Rattle.device_list.specs.declared.finish.BoardEnd.{BoardEnd}
 use Rattle.hushlang.specs.Tree as tree
 use Rattle.hushlang.specs.Tree.{Script, IsProper}
 use Rattle.rehearse_terms.specs.Outcomes.{OutcomeWord, Outcome, Success, Failure}
 use Rattle.hushlang_old.specs.TreesByShell.{tree_in}
 use Rattle.rehearse_terms.specs.State.{Text, State, start}
 use Rattle.device_list.specs.Called.{sets_in}
-use Rattle.rehearse_rules.specs.Execution.{Booted, Request, take_outcome, boot, logged, set_environment}
+use Rattle.rehearse_rules.specs.Execution.{Finished, Request, take_outcome, finish, logged, set_environment}
 use Rattle.rehearse_rules.specs.ByShell.{unread}
 use Rattle.rehearse_rules.specs.Runs.{Task, run_on}
 use Rattle.hushlang_old.proofs.TreeByShellLemmas.{trees_in_are_proper}
-use Rattle.rehearse_machine.specs.Frames.{Frame, Lists, Next, Go, Ask, Stop, move, boot_next, answered, begun_text}
+use Rattle.rehearse_machine.specs.Frames.{Frame, Lists, Next, Go, Ask, Stop, move, finish_next, answered, begun_text}
 use Rattle.rehearse_machine.specs.Came.{settled}
 use Rattle.rehearse_machine.specs.Meaning.{with, full, continue, comes_to, AreProperFrames, StandsAt, AsksAt, AfterMove}
 use Rattle.rehearse_machine.proofs.StepBoundLemmas.{closed_exec, tree_answer}
@@ -42,12 +43,12 @@ module _ (task : Task) where
   pub begins : (o : Option Script) → tree_in task.limits.shell task.text ≡ o → AfterMove task [] (begun o)
   begins o e = after-is [] (begun o) (λ w. ap settled (read_as o e w) ∙ begins_by o (λ t f. trees_in_are_proper task.limits.shell task.text t (e ∙ f)) w)
 
-  boots-is : (w : OutcomeWord) (b : Bool) (name : Text) (fs : List Frame) (s : State) → continue task.limits fs (boot b name (with w s)) ≡ comes_to task.limits w (boot_next b name fs s)
-  boots-is w true name fs s = continue-ended task.limits fs (Booted name) (with w s)
-  boots-is w false name fs s = refl
+  finish-is : (w : OutcomeWord) (b : Option BoardEnd) (name : Text) (fs : List Frame) (s : State) → continue task.limits fs (finish b name (with w s)) ≡ comes_to task.limits w (finish_next b name fs s)
+  finish-is w (Some finish) name fs s = continue-ended task.limits fs (Finished finish name) (with w s)
+  finish-is w None name fs s = refl
 
   pub answered-is : (w : OutcomeWord) (outcome : Outcome) (r : Request) (fs : List Frame) (s : State) → continue task.limits fs (take_outcome r (outcome ∷ w) (with (outcome ∷ w) s)) ≡ comes_to task.limits w (answered outcome r fs s)
-  answered-is w Success r fs s = boots-is w r.effect.ends r.name fs (set_environment (sets_in r.words r.effect.sets) (logged Success r s))
+  answered-is w Success r fs s = finish-is w r.effect.ends r.name fs (set_environment (sets_in r.words r.effect.sets) (logged Success r s))
   answered-is w Failure r fs s = refl
 
   -- an outcome for the command that asks

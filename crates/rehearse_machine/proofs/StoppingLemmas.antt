@@ -1,6 +1,7 @@
 -- Where a text stops, and how an outcome continues it.
-use Rattle.std.proofs.Common.{ℕ, ◌+◌, Bool, true, false, List, [], ◌∷◌, Result, Ok, Err, refl, sym, ap, subst, ◌∙◌, ◌≡◌, ◌≤◌, None, arith}
+use Rattle.std.proofs.Common.{ℕ, ◌+◌, Bool, true, false, List, [], ◌∷◌, Result, Ok, Err, refl, sym, ap, subst, ◌∙◌, ◌≡◌, ◌≤◌, None, arith, Option, Some}
 use Rattle.std.specs.Prelude.{IfOk, OnOk}
+use Rattle.device_list.specs.declared.finish.BoardEnd.{BoardEnd}
 use Rattle.bootstore_state.specs.declared.store.StoreError.{StoreError}
 use Rattle.bootstore_state.specs.Moment.{RunningFrame, Moment}
 use Rattle.bootstore_state.specs.Record.{Record}
@@ -16,7 +17,7 @@ use Rattle.rehearse_machine.specs.declared.ask.Step.{Step}
 use Rattle.rehearse_machine.specs.declared.ask.Step.TheVariants as steps
 use Rattle.rehearse_machine.specs.declared.rehearsal.Stop.{Stop}
 use Rattle.rehearse_machine.specs.declared.rehearsal.Stop.TheVariants.{Asks, Ends}
-use Rattle.rehearse_machine.specs.Places.{PlaceNext, GoOn, AskOn, StopOn, next_of, frames_of, place_boot, place_answered}
+use Rattle.rehearse_machine.specs.Places.{PlaceNext, GoOn, AskOn, StopOn, next_of, frames_of, place_finish, place_answered}
 use Rattle.rehearse_machine.specs.AskingCommand.{found_again}
 use Rattle.rehearse_machine.specs.Came.{Came}
 use Rattle.rehearse_machine.specs.Meaning.{comes_to, IsProperNext, AreProperFrames}
@@ -66,32 +67,32 @@ asks (AskOn r ps s) = true
 asks (StopOn ending s) = false
 
 module _ (r : Request) (ps : List RunningFrame) where
-  boot_steps : (b : Bool) (s : State) → steps_of (place_boot b r.name ps s) ≡ s.steps
+  finish_steps : (b : Option BoardEnd) (s : State) → steps_of (place_finish b r.name ps s) ≡ s.steps
   unfolding steps_of
-  boot_steps true s = refl
-  boot_steps false s = refl
+  finish_steps (Some finish) s = refl
+  finish_steps None s = refl
 
   answered_steps : (o : Outcome) (s : State) → steps_of (place_answered o r ps s) ≡ s.steps
   unfolding steps_of
-  answered_steps Success s = boot_steps r.effect.ends (set_environment (sets_in r.words r.effect.sets) (logged Success r s))
+  answered_steps Success s = finish_steps r.effect.ends (set_environment (sets_in r.words r.effect.sets) (logged Success r s))
   answered_steps Failure s = refl
 
-  boot_asks : (b : Bool) (s : State) → asks (place_boot b r.name ps s) ≡ false
+  finish_asks : (b : Option BoardEnd) (s : State) → asks (place_finish b r.name ps s) ≡ false
   unfolding asks
-  boot_asks true s = refl
-  boot_asks false s = refl
+  finish_asks (Some finish) s = refl
+  finish_asks None s = refl
 
   answered_asks : (o : Outcome) (s : State) → asks (place_answered o r ps s) ≡ false
   unfolding asks
-  answered_asks Success s = boot_asks r.effect.ends (set_environment (sets_in r.words r.effect.sets) (logged Success r s))
+  answered_asks Success s = finish_asks r.effect.ends (set_environment (sets_in r.words r.effect.sets) (logged Success r s))
   answered_asks Failure s = refl
 
-  boot_sound : (b : Bool) (s : State) → AreProperFrames (frames_of ps) → IsProperNext (next_of (place_boot b r.name ps s))
-  boot_sound true s h = tt
-  boot_sound false s h = h
+  finish_sound : (b : Option BoardEnd) (s : State) → AreProperFrames (frames_of ps) → IsProperNext (next_of (place_finish b r.name ps s))
+  finish_sound (Some finish) s h = tt
+  finish_sound None s h = h
 
   answered_sound : (o : Outcome) (s : State) → AreProperFrames (frames_of ps) → IsProperNext (next_of (place_answered o r ps s))
-  answered_sound Success s h = boot_sound r.effect.ends (set_environment (sets_in r.words r.effect.sets) (logged Success r s)) h
+  answered_sound Success s h = finish_sound r.effect.ends (set_environment (sets_in r.words r.effect.sets) (logged Success r s)) h
   answered_sound Failure s h = h
 
 -- a command that asks is found again

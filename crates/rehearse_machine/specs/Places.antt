@@ -1,5 +1,6 @@
 -- Frames that hold a script and a place in it, as a store keeps them, and one move of the machine over them. Ours.
 use Rattle.std.specs.Prelude.{ℕ, zero, suc, nat_lt, nat_le, nat_eq, Bool, true, false, List, [], ◌∷◌, ◌++◌, length, drop, slice_get, Option, Some, None}
+use Rattle.device_list.specs.declared.finish.BoardEnd.{BoardEnd}
 use Rattle.hushlang.specs.Tree as tree
 use Rattle.hushlang.specs.Tree.{Script, AndOr, Joined, Command, Arms}
 use Rattle.hushlang.specs.Expansion.{joined, size, most_bytes}
@@ -16,7 +17,7 @@ use Rattle.rehearse_rules.specs.ByShell.{unread, leaves_in, status_of_exit, asks
 use Rattle.rehearse_rules.specs.Parameters.{parameters_in}
 use Rattle.device_list.specs.Called.{Called, BuiltIn, NoCommand, Device, called_by, sets_in}
 use Rattle.commands.specs.BuiltInCommands.{ChangesVariables, WritesText, RunsTexts, Tests, Exits, variables_changed, text_written}
-use Rattle.rehearse_rules.specs.Execution.{Limits, Ending, End, CutDevices, CutSteps, Unknown, Size, Booted, remember, set_status, set_local, begin_turn, status_when, goes, holds, Request, test_effect, outcome_when, told, told_again, logged, set_environment, Unsupported, assign_local, request_of, test_request}
+use Rattle.rehearse_rules.specs.Execution.{Limits, Ending, End, CutDevices, CutSteps, Unknown, Size, Finished, remember, set_status, set_local, begin_turn, status_when, goes, holds, Request, test_effect, outcome_when, told, told_again, logged, set_environment, Unsupported, assign_local, request_of, test_request}
 use Rattle.rehearse_machine.specs.Frames.{Frame, Lists, Linked, IfCondition, LoopCondition, LoopBody, ForBody, RunNames, RunText, Next, Go, Ask, Stop, begun_text}
 
 -- ---- parts of a script by their numbers
@@ -167,13 +168,13 @@ abbrev pub place_exit : Option ℕ → (other : ℕ) → List RunningFrame → S
 place_exit (Some status) other ps s = left (to_run ps) (set_status status s)
 place_exit None other ps s = GoOn ps (set_status other s)
 
-abbrev pub place_boot : Bool → Text → List RunningFrame → State → PlaceNext
-place_boot true name ps s = StopOn (Booted name) s
-place_boot false name ps s = GoOn ps s
+abbrev pub place_finish : Option BoardEnd → Text → List RunningFrame → State → PlaceNext
+place_finish (Some finish) name ps s = StopOn (Finished finish name) s
+place_finish None name ps s = GoOn ps s
 
 abbrev pub place_answered : Outcome → Request → List RunningFrame → State → PlaceNext
 place_answered Success request ps s =
-    place_boot request.effect.ends request.name ps (set_environment (sets_in request.words request.effect.sets) (logged Success request s))
+    place_finish request.effect.ends request.name ps (set_environment (sets_in request.words request.effect.sets) (logged Success request s))
 place_answered Failure request ps s = GoOn ps (logged Failure request s)
 
 -- a command that is told its answer again goes on with it; another one asks

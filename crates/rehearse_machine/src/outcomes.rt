@@ -52,8 +52,8 @@ pub(crate) fn answer<'d, S: Store>(
         return Ok(Step::Going);
     }
     store.set_status(statuses.success)?;
-    if effect.ends {
-        return Ok(Step::Ends(Halt::Booted(name)));
+    if let Some(finish) = effect.ends {
+        return Ok(Step::Ends(Halt::Finished(finish, name)));
     }
     Ok(Step::Going)
 }

@@ -86,7 +86,7 @@ fn ask_file<'d, S: Store>(
     let question = question_in(alloc, shell, words)?;
     let statuses = statuses_in(shell, words);
     let effect = Effect {
-        ends: false,
+        ends: None,
         stays: devices.test_stays(),
         always: None,
         sets: &[],

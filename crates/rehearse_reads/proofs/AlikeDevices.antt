@@ -1,9 +1,10 @@
 -- Steps and device commands go alike, as far as the bounds allow.
 use Rattle.std.proofs.Common.{◌≡◌, refl, sym, subst, ℕ, suc, ◌<◌, ◌≤◌, Bool, true, false, List, [], ◌∷◌, ◌++◌, map, length, Option, Some, None, inl, inr, length-append, arith, nat_lt, ltb-true, ltb-false, if◌then◌else◌}
+use Rattle.device_list.specs.declared.finish.BoardEnd.{BoardEnd}
 use Rattle.device_list.specs.Called.{sets_in}
 use Rattle.rehearse_terms.specs.Outcomes.{OutcomeWord, Outcome, Success, Failure}
 use Rattle.rehearse_terms.specs.State.{Text, State, LoggedCommand, answer_in}
-use Rattle.rehearse_rules.specs.Execution.{Limits, Answer, Ended, CutDevices, CutSteps, Booted, Request, begin, boot, with_outcome, take_outcome, told, told_again, tell_or_take, outcome_when, device, set_environment, logged, succeeds}
+use Rattle.rehearse_rules.specs.Execution.{Limits, Answer, Ended, CutDevices, CutSteps, Finished, Request, begin, finish, with_outcome, take_outcome, told, told_again, tell_or_take, outcome_when, device, set_environment, logged, succeeds}
 use Rattle.rehearse_rules.specs.Runs.{state_of}
 use Rattle.rehearse_rules.proofs.TakenOutcomes.{Track-of, KeepsAll}
 use Rattle.rehearse_reads.specs.Keys.{Key, Status, AnswerTo, Access, AreAmong, all_read, ReadsWithin, known_after}
@@ -57,14 +58,14 @@ module _ (limits : Limits) (i j : ℕ) (k l : List LoggedCommand) where
   told_alike : (known : List Key) (s t : State) (request : Request) → Near known s t → AreAmong (told_reads request) known → told request t.log ≡ told request s.log
   told_alike known s t request near h = told_by known s t (request.name ∷ request.words) request.effect.always request.effect.stays near h
 
-  boot_alike : (known : List Key) (ends : Bool) (name : Text) (s t : State) → Near known s t → Is known (boot ends name s) (boot ends name t)
-  boot_alike known true name s t near = ended_alike limits i j k l known (Booted name) s t near
-  boot_alike known false name s t near = normal_alike limits i j k l known s t near
+  finish_alike : (known : List Key) (ends : Option BoardEnd) (name : Text) (s t : State) → Near known s t → Is known (finish ends name s) (finish ends name t)
+  finish_alike known (Some finish) name s t near = ended_alike limits i j k l known (Finished finish name) s t near
+  finish_alike known None name s t near = normal_alike limits i j k l known s t near
 
   with_alike : (request : Request) (d : Outcome) (known : List Key) (s t : State) → Near known s t → Is (known_after known (outcome_accesses d request)) (with_outcome d request s) (with_outcome d request t)
   with_alike request Success known s t near =
       let sets : List (Text × Text) = sets_in request.words request.effect.sets in
-      boot_alike (known_after (Status ∷ known) (names_written (map (λ e. e.0) sets))) request.effect.ends request.name (set_environment sets (logged Success request s)) (set_environment sets (logged Success request t))
+      finish_alike (known_after (Status ∷ known) (names_written (map (λ e. e.0) sets))) request.effect.ends request.name (set_environment sets (logged Success request s)) (set_environment sets (logged Success request t))
       (near_set limits i j k l (Status ∷ known) (logged Success request s) (logged Success request t) sets (near_logged limits i j k l known s t Success request near))
   with_alike request Failure known s t near = normal_alike limits i j k l (Status ∷ known) (logged Failure request s) (logged Failure request t) (near_logged limits i j k l known s t Failure request near)
 
@@ -81,13 +82,13 @@ module _ (limits : Limits) (i j : ℕ) (k l : List LoggedCommand) where
   abbrev entry_of : Request → Outcome → LoggedCommand
   entry_of request d = record { success = succeeds d; words = request.name ∷ request.words; stays = request.effect.stays; again = request.again }
 
-  boot_needs : (b : Bool) (name : Text) (s : State) → devices_of (boot b name s) ≡ length s.log
-  boot_needs true name s = refl
-  boot_needs false name s = refl
+  finish_needs : (b : Option BoardEnd) (name : Text) (s : State) → devices_of (finish b name s) ≡ length s.log
+  finish_needs (Some how) name s = refl
+  finish_needs None name s = refl
 
   with_needs : (request : Request) (d : Outcome) (s : State) → length s.log < devices_of (with_outcome d request s)
   with_needs request Success s =
-      let a = boot_needs request.effect.ends request.name (set_environment (sets_in request.words request.effect.sets) (logged Success request s)) in
+      let a = finish_needs request.effect.ends request.name (set_environment (sets_in request.words request.effect.sets) (logged Success request s)) in
       let b = length-append s.log (entry_of request Success ∷ []) in
       omega arith
   with_needs request Failure s = let b = length-append s.log (entry_of request Failure ∷ []) in omega arith

@@ -19,7 +19,7 @@ use crate::line_pieces::{Piece, is_plain_text, is_plain_word, put_pieces, put_wo
 use crate::run_view::RunView;
 use bootstore_state::{LogEntry, Store, Variables};
 use output::{BytePage, Out, OutFault, flush, put};
-use rehearse_rules::Ending;
+use rehearse_rules::{Ending, finish_word};
 
 /// Puts the first line of a record, with the digits of its word.
 fn put_first<O: Out>(out: &mut O, page: &mut BytePage, word: &[u8]) -> Result<(), OutFault>
@@ -328,7 +328,7 @@ fn put_last<O: Out>(out: &mut O, page: &mut BytePage, ending: Ending<'_>) -> Res
         Ending::Syntax(name) => put_word_line(out, page, b"stop syntax ", name),
         Ending::Unsupported(name) => put_word_line(out, page, b"stop unsupported ", name),
         Ending::Size => put(out, page, b"stop size\n"),
-        Ending::Booted(name) => put_word_line(out, page, b"booted ", name),
+        Ending::Finished(finish, name) => put_word_line(out, page, finish_word(finish), name),
     }
 }
 

@@ -3,7 +3,7 @@ use Rattle.std.proofs.Common.{◌≡◌, ◌∙◌, refl, sym, ap, subst, ℕ, �
 use Rattle.bootstore_state.specs.Moment.{Moment}
 use Rattle.rehearse_terms.specs.Outcomes.{OutcomeWord, WordKind, Run, Success, Failure}
 use Rattle.rehearse_terms.specs.State.{Text, LoggedCommand, get}
-use Rattle.rehearse_rules.specs.Execution.{Limits, Ending, End, CutDevices, CutSteps, Unknown, Syntax, Unsupported, Size, Booted}
+use Rattle.rehearse_rules.specs.Execution.{Limits, Ending, End, CutDevices, CutSteps, Unknown, Syntax, Unsupported, Size, Finished}
 use Rattle.rehearse_machine.specs.Came.{Came, Over, Wants}
 use Rattle.rehearse_machine.specs.Machine.{asked_at}
 use Rattle.rehearse_reads.specs.Keys.{Key}
@@ -101,7 +101,7 @@ module _ (limits : Limits) (names : List Text) (m n : Moment) (keys : List Key) 
   never_by w (Syntax name) e h = h
   never_by w (Unsupported name) e h = h
   never_by w Size e h = h
-  never_by w (Booted name) e h = h
+  never_by w (Finished finish name) e h = h
 
   never_cut : (w : OutcomeWord) (c : Came) → asked_at limits m w ≡ c → CameCut limits m.steps n.steps m.log n.log names c → ⊥
   never_cut w (Over ending x) e h = never_by w ending (ap came_ending e) h

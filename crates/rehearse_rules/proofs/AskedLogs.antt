@@ -1,9 +1,10 @@
 -- Over a device list on which no answer stays, no command is told an answer again.
-use Rattle.std.proofs.Common.{None, ◌≡◌, ◌∙◌, Bool, true, false, not, cond, List, [], ◌∷◌, ◌++◌, length, map, refl, sym, ap, subst, nat_lt}
+use Rattle.std.proofs.Common.{None, ◌≡◌, ◌∙◌, Bool, true, false, not, cond, List, [], ◌∷◌, ◌++◌, length, map, refl, sym, ap, subst, nat_lt, Option, Some}
 use Rattle.std.proofs.lemmas.List.Elements.{filter-append}
+use Rattle.device_list.specs.declared.finish.BoardEnd.{BoardEnd}
 use Rattle.device_list.specs.Called.{sets_in}
 use Rattle.device_list.specs.DeviceList.{Effect}
-use Rattle.rehearse_rules.specs.Execution.{Limits, Answer, Ended, CutDevices, Request, take_outcome, device, logged, set_environment, boot}
+use Rattle.rehearse_rules.specs.Execution.{Limits, Answer, Ended, CutDevices, Request, take_outcome, device, logged, set_environment, finish}
 use Rattle.rehearse_rules.specs.Laws.{WholeLogIsWord}
 use Rattle.rehearse_terms.specs.Outcomes.{OutcomeWord, Success, Failure}
 use Rattle.rehearse_rules.specs.Runs.{run_on, state_of}
@@ -25,15 +26,15 @@ one_more log e is h =
     let one : asked_of (e ∷ []) ≡ e ∷ [] = ap (λ (b : Bool). cond (not b) (e ∷ []) []) is in
     filter-append (λ e. not e.again) log (e ∷ []) ∙ (λ i. h i ++ one i)
 
-asks-boot : (ends : Bool) (name : Text) (s : State) → AllAsked s → AllAsked (state_of (boot ends name s))
-asks-boot true name s h = h
-asks-boot false name s h = h
+asks-finish : (ends : Option BoardEnd) (name : Text) (s : State) → AllAsked s → AllAsked (state_of (finish ends name s))
+asks-finish (Some finish) name s h = h
+asks-finish None name s h = h
 
 asks-take : (r : Request) (w : OutcomeWord) (s : State) → r.again ≡ false → AllAsked s → AllAsked (state_of (take_outcome r w s))
 asks-take r [] s fresh h = h
 asks-take r (Success ∷ rest) s fresh h =
     let e : LoggedCommand = record { success = true; words = r.name ∷ r.words; stays = r.effect.stays; again = r.again } in
-    asks-boot r.effect.ends r.name (set_environment (sets_in r.words r.effect.sets) (logged Success r (record s { word = rest }))) (one_more s.log e fresh h)
+    asks-finish r.effect.ends r.name (set_environment (sets_in r.words r.effect.sets) (logged Success r (record s { word = rest }))) (one_more s.log e fresh h)
 asks-take r (Failure ∷ rest) s fresh h = one_more s.log (record { success = false; words = r.name ∷ r.words; stays = r.effect.stays; again = r.again }) fresh h
 
 abbrev AsksAnew : Effect → Type 0

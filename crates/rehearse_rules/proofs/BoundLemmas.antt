@@ -1,5 +1,6 @@
 -- No run goes past a bound, and none is cut before it.
 use Rattle.std.proofs.Common.{ℕ, zero, suc, Bool, true, false, List, [], ◌∷◌, length, Option, Some, None, refl, subst, ◌≡◌, ◌<◌, ◌≤◌, length-append, arith, ◌+◌, nat_lt, nat_le, nat_eq, ltb-true, ltb-false}
+use Rattle.device_list.specs.declared.finish.BoardEnd.{BoardEnd}
 use Rattle.hushlang.specs.Tree as tree
 use Rattle.hushlang.specs.Tree.{Script, AndOr, Joined, Command, Arms, IsProper, IsProperList, IsProperJoined, IsProperCommand, HasArm, AreProperArms, HoldsCommand}
 use Rattle.hushlang.specs.Expansion.{size, most_bytes}
@@ -10,7 +11,7 @@ use Rattle.rehearse_rules.specs.Parameters.{parameters_in}
 use Rattle.device_list.specs.Called.{Called, BuiltIn, Device, NoCommand, called_by, sets_in}
 use Rattle.commands.specs.BuiltInCommands.{ChangesVariables, WritesText, RunsTexts, Tests, Exits}
 use Rattle.rehearse_rules.specs.ByShell.{unread, leaves_in, status_of_exit, asks_in, truth_in, fields_in, turns_in, skips_rest, status_of_loop, follows, assigned_in}
-use Rattle.rehearse_rules.specs.Execution.{Limits, Answer, Normal, Exit, Ended, Dry, Ending, CutDevices, CutSteps, Size, go_on, set_status, status_when, goes, holds, begin, take_outcome, with_outcome, outcome_when, told, told_again, tell_or_take, device, Request, logged, set_environment, boot, text_end, run_text, run_all, command, simple, sized, assign, turns, begin_turn, for_each, exec_script, exec_list, exec_joined, exec_command, exec_arms, exec, Unsupported, assign_local, request_of, test_request, started_text}
+use Rattle.rehearse_rules.specs.Execution.{Limits, Answer, Normal, Exit, Ended, Dry, Ending, CutDevices, CutSteps, Size, go_on, set_status, status_when, goes, holds, begin, take_outcome, with_outcome, outcome_when, told, told_again, tell_or_take, device, Request, logged, set_environment, finish, text_end, run_text, run_all, command, simple, sized, assign, turns, begin_turn, for_each, exec_script, exec_list, exec_joined, exec_command, exec_arms, exec, Unsupported, assign_local, request_of, test_request, started_text}
 use Rattle.rehearse_rules.specs.Runs.{Task, run_on, state_of, steps}
 use Rattle.hushlang_old.proofs.TreeByShellLemmas.{trees_in_are_proper}
 use Rattle.rehearse_terms.specs.declared.shell.Shell.{Shell}
@@ -63,15 +64,15 @@ module _ (limits : Limits) where
   Ends-begin : (n : ℕ) (f : State → Answer) → ((t : State) → IsWithin t → limits.step_bound < n + t.steps → Ends (f t)) → EndsAll n (begin limits f)
   Ends-begin n f h s r = Ends-if (nat_lt s.steps limits.step_bound) (f (record s { steps = suc s.steps })) (Ended CutSteps s) (λ e. let l = ltb-true s.steps limits.step_bound e in let b = r.1 in h (record s { steps = suc s.steps }) (omega arith, r.0.1) (omega arith)) (λ e. let l = ltb-false s.steps limits.step_bound e in let a = r.0.0 in (r.0, omega arith))
 
-  boot-ends : (b : Bool) (name : Text) (t : State) → IsWithin t → Ends (boot b name t)
-  boot-ends true name t h = (h, tt)
-  boot-ends false name t h = h
+  finish-ends : (b : Option BoardEnd) (name : Text) (t : State) → IsWithin t → Ends (finish b name t)
+  finish-ends (Some finish) name t h = (h, tt)
+  finish-ends None name t h = h
 
   one_more : (s : State) (d : Outcome) (r : Request) (rest : OutcomeWord) → length s.log < limits.device_bound → IsWithin s → IsWithin (logged d r (record s { word = rest }))
   one_more s d r rest room h = let e = length-append s.log ((logged d r (record s { log = []; word = rest })).log) in (h.0, omega arith)
 
   with-ends : (s : State) (r : Request) (d : Outcome) → IsWithin (logged d r s) → Ends (with_outcome d r s)
-  with-ends s r Success h = boot-ends r.effect.ends r.name (set_environment (sets_in r.words r.effect.sets) (logged Success r s)) h
+  with-ends s r Success h = finish-ends r.effect.ends r.name (set_environment (sets_in r.words r.effect.sets) (logged Success r s)) h
   with-ends s r Failure h = h
 
   taken-ends : (s : State) (r : Request) (w : OutcomeWord) → length s.log < limits.device_bound → IsWithin s → Ends (take_outcome r w s)

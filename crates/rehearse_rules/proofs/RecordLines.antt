@@ -2,12 +2,14 @@
 use Rattle.std.proofs.Common.{ℕ, zero, suc, Bool, true, false, cond, List, [], ◌∷◌, ◌++◌, map, length, take, drop, Option, Some, None, refl, sym, ap, subst, ◌∙◌, ◌≡◌, ◌≢◌, ◌≤◌, append_assoc, append-nil, length-append, arith, ◌+◌, ◌/◌, ◌%◌, flat_map, nat_eq, nat_lt, nat_le, ◌&&◌, codes, ne_eqb, decimal}
 use Rattle.std.specs.Prelude.{⊤}
 use Rattle.std.specs.Fmt.{digits, digits_onto, digit_glyph}
+use Rattle.device_list.specs.declared.finish.BoardEnd.{BoardEnd}
+use Rattle.device_list.specs.declared.finish.BoardEnd.TheVariants.{Boots, Restarts, Halts}
 use Rattle.rehearse_terms.specs.Outcomes.{OutcomeWord, Success, Failure}
 use Rattle.rehearse_terms.specs.State.{Text, Variables, get, State, LoggedCommand}
-use Rattle.rehearse_rules.specs.Execution.{Ending, End, CutDevices, CutSteps, Unknown, Syntax, Unsupported, Size, Booted}
+use Rattle.rehearse_rules.specs.Execution.{Ending, End, CutDevices, CutSteps, Unknown, Syntax, Unsupported, Size, Finished}
 use Rattle.text.specs.Escapes.{hex_digit, escaped, text_form, word_escaped, word_form}
 use Rattle.text.specs.Words.{joined_words}
-use Rattle.rehearse_rules.specs.Listing.{digit_when, outcome_digit, spelled, line, device_line, text_lines, variable_line, asked_line, variable_lines, last_line, inner_lines, record_lines}
+use Rattle.rehearse_rules.specs.Listing.{finish_word, digit_when, outcome_digit, spelled, line, device_line, text_lines, variable_line, asked_line, variable_lines, last_line, inner_lines, record_lines}
 use Rattle.rehearse_rules.specs.Resuming.{ended_lines, is_last_line, is_first_line, Point, point_in, resume_point_of}
 
 -- no byte of it is a newline
@@ -146,7 +148,9 @@ last-is-last (Unknown name) = refl
 last-is-last (Syntax name) = refl
 last-is-last (Unsupported name) = refl
 last-is-last Size = refl
-last-is-last (Booted name) = refl
+last-is-last (Finished Boots name) = refl
+last-is-last (Finished Restarts name) = refl
+last-is-last (Finished Halts name) = refl
 
 -- how many bytes the lines take
 abbrev pub bytes_of : List Text → ℕ
@@ -190,6 +194,11 @@ decimal-line : (n : ℕ) → IsOneLine (decimal n)
 unfolding digits
 decimal-line n = digits_onto-line 64 n [] tt
 
+finish-line : (finish : BoardEnd) → IsOneLine (finish_word finish)
+finish-line Boots = (refl, (refl, (refl, (refl, (refl, (refl, (refl, tt)))))))
+finish-line Restarts = (refl, (refl, (refl, (refl, (refl, (refl, (refl, (refl, (refl, (refl, tt))))))))))
+finish-line Halts = (refl, (refl, (refl, (refl, (refl, (refl, (refl, tt)))))))
+
 last-line : (e : Ending) → IsOneLine (last_line e)
 last-line (End status) = (refl, (refl, (refl, (refl, decimal-line status))))
 last-line CutDevices = (refl, (refl, (refl, (refl, (refl, (refl, (refl, (refl, (refl, (refl, (refl, tt)))))))))))
@@ -198,7 +207,7 @@ last-line (Unknown name) = OneLine-append (codes "stop unknown ") (word_form nam
 last-line (Syntax name) = OneLine-append (codes "stop syntax ") (word_form name) (refl, (refl, (refl, (refl, (refl, (refl, (refl, (refl, (refl, (refl, (refl, (refl, tt)))))))))))) (word-line name)
 last-line (Unsupported name) = OneLine-append (codes "stop unsupported ") (word_form name) (refl, (refl, (refl, (refl, (refl, (refl, (refl, (refl, (refl, (refl, (refl, (refl, (refl, (refl, (refl, (refl, (refl, tt))))))))))))))))) (word-line name)
 last-line Size = (refl, (refl, (refl, (refl, (refl, (refl, (refl, (refl, (refl, tt)))))))))
-last-line (Booted name) = OneLine-append (codes "booted ") (word_form name) (refl, (refl, (refl, (refl, (refl, (refl, (refl, tt))))))) (word-line name)
+last-line (Finished finish name) = OneLine-append (finish_word finish) (word_form name) (finish-line finish) (word-line name)
 
 inner-lines : (ms : List Text) (l : Text) → AreInner ms → IsOneLine l → AreLines (ms ++ l ∷ [])
 inner-lines [] l h k = (k, tt)

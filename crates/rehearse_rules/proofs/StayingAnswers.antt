@@ -4,11 +4,12 @@ use Rattle.std.proofs.lemmas.List.{map-append, append-nil}
 use Rattle.std.proofs.lemmas.List.Elements.{filter-append}
 use Rattle.std.proofs.lemmas.Slice.Eq.{bytes_eq-Decides}
 use Rattle.std.specs.Map.{lookup}
+use Rattle.device_list.specs.declared.finish.BoardEnd.{BoardEnd}
 use Rattle.device_list.specs.Called.{sets_in}
 use Rattle.device_list.specs.DeviceList.{Effect}
 use Rattle.rehearse_terms.specs.Outcomes.{Outcome, OutcomeWord, Success, Failure}
 use Rattle.rehearse_terms.specs.State.{Text, LoggedCommand, State, asked_of, answers_in, same_words, answer_in, start}
-use Rattle.rehearse_rules.specs.Execution.{Limits, Answer, Ended, CutDevices, Request, succeeds, outcome_when, told, told_again, tell_or_take, take_outcome, with_outcome, device, logged, set_environment, boot}
+use Rattle.rehearse_rules.specs.Execution.{Limits, Answer, Ended, CutDevices, Request, succeeds, outcome_when, told, told_again, tell_or_take, take_outcome, with_outcome, device, logged, set_environment, finish}
 use Rattle.rehearse_rules.specs.Laws.{AnswersStay}
 use Rattle.rehearse_rules.specs.Runs.{Task, run_on, state_of}
 use Rattle.rehearse_rules.proofs.KeptLogs.{KeepsLog, run-keeps}
@@ -91,16 +92,16 @@ Fitting log = AllFit [] log
 abbrev FittingAnswer : Answer → Type 0
 FittingAnswer a = Fitting (state_of a).log
 
-boot-fits : (ends : Bool) (name : Text) (s : State) → Fitting s.log → FittingAnswer (boot ends name s)
-boot-fits true name s h = h
-boot-fits false name s h = h
+finish-fits : (ends : Option BoardEnd) (name : Text) (s : State) → Fitting s.log → FittingAnswer (finish ends name s)
+finish-fits (Some finish) name s h = h
+finish-fits None name s h = h
 
 -- what is logged
 abbrev entry : Outcome → Request → LoggedCommand
 entry outcome r = record { success = succeeds outcome; words = r.name ∷ r.words; stays = r.effect.stays; again = r.again }
 
 outcome-fits : (outcome : Outcome) (r : Request) (s : State) → Fitting s.log → FitsBehind s.log (entry outcome r) → FittingAnswer (with_outcome outcome r s)
-outcome-fits Success r s h fits = boot-fits r.effect.ends r.name (set_environment (sets_in r.words r.effect.sets) (logged Success r s)) (one_more [] s.log (entry Success r) h fits)
+outcome-fits Success r s h fits = finish-fits r.effect.ends r.name (set_environment (sets_in r.words r.effect.sets) (logged Success r s)) (one_more [] s.log (entry Success r) h fits)
 outcome-fits Failure r s h fits = one_more [] s.log (entry Failure r) h fits
 
 takes-fits : (r : Request) (w : OutcomeWord) (s : State) → Fitting s.log → ((outcome : Outcome) → FitsBehind s.log (entry outcome r)) → FittingAnswer (take_outcome r w s)

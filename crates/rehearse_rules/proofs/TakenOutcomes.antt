@@ -2,6 +2,7 @@
 use Rattle.std.proofs.Common.{ℕ, zero, suc, Bool, true, false, not, cond, List, [], ◌∷◌, ◌++◌, length, Option, Some, None, refl, sym, ap, ◌∙◌, ◌≡◌, ◌≢◌, ◌<◌, ◌≤◌, map, append_assoc, append-nil, length-append, arith, ◌+◌, nat_lt, nat_le, nat_eq, ltb-true}
 use Rattle.std.proofs.lemmas.List.{map-append}
 use Rattle.std.proofs.lemmas.List.Elements.{filter-append}
+use Rattle.device_list.specs.declared.finish.BoardEnd.{BoardEnd}
 use Rattle.rehearse_terms.specs.Outcomes.{OutcomeWord, Outcome, Success, Failure}
 use Rattle.hushlang.specs.Tree as tree
 use Rattle.hushlang.specs.Tree.{Script, AndOr, Joined, Command, Arms}
@@ -12,7 +13,7 @@ use Rattle.hushlang_old.specs.TreesByShell.{tree_in, lacks_end_in}
 use Rattle.device_list.specs.Called.{Called, BuiltIn, Device, NoCommand, called_by, sets_in}
 use Rattle.commands.specs.BuiltInCommands.{ChangesVariables, WritesText, RunsTexts, Tests, Exits, variables_changed, text_written}
 use Rattle.rehearse_rules.specs.ByShell.{unread, leaves_in, status_of_exit, asks_in, truth_in, fields_in, turns_in, skips_rest, status_of_nothing, status_of_no_block, status_of_loop, follows, assigned_in}
-use Rattle.rehearse_rules.specs.Execution.{Limits, Answer, Normal, Exit, Ended, Dry, Ending, CutDevices, CutSteps, Unknown, Size, go_on, remember, set_status, status_when, goes, holds, begin, take_outcome, with_outcome, outcome_when, told, told_again, tell_or_take, device, Request, logged, set_environment, boot, text_end, run_text, run_all, command, simple, sized, assign, turns, begin_turn, for_each, exec_script, exec_list, exec_joined, exec_command, exec_arms, exec, succeeds, Unsupported, assign_local, request_of, test_request, started_text}
+use Rattle.rehearse_rules.specs.Execution.{Limits, Answer, Normal, Exit, Ended, Dry, Ending, CutDevices, CutSteps, Unknown, Size, go_on, remember, set_status, status_when, goes, holds, begin, take_outcome, with_outcome, outcome_when, told, told_again, tell_or_take, device, Request, logged, set_environment, finish, text_end, run_text, run_all, command, simple, sized, assign, turns, begin_turn, for_each, exec_script, exec_list, exec_joined, exec_command, exec_arms, exec, succeeds, Unsupported, assign_local, request_of, test_request, started_text}
 use Rattle.rehearse_rules.specs.Runs.{state_of}
 
 -- the state with these outcomes after its own
@@ -180,21 +181,21 @@ module _ (limits : Limits) where
   Keeps-begin f h s = Keeps-if limits.device_bound s (nat_lt s.steps limits.step_bound) (λ t. f (record t { steps = suc t.steps })) (Ended CutSteps) (Keeps-counted limits.device_bound s f (h (record s { steps = suc s.steps }))) (Keeps-ended limits.device_bound s CutSteps)
 
   -- a device command
-  boot-track : (b : Bool) (name : Text) (s t : State) → GoesTo s t → Track limits.device_bound s (boot b name t)
-  boot-track true name s t g = g
-  boot-track false name s t g = g
+  finish-track : (b : Option BoardEnd) (name : Text) (s t : State) → GoesTo s t → Track limits.device_bound s (finish b name t)
+  finish-track (Some finish) name s t g = g
+  finish-track None name s t g = g
 
-  boot-extends : (x : OutcomeWord) (b : Bool) (name : Text) (t : State) → Extends x (boot b name t) (boot b name (more x t))
-  boot-extends x true name t = refl
-  boot-extends x false name t = refl
+  finish-extends : (x : OutcomeWord) (b : Option BoardEnd) (name : Text) (t : State) → Extends x (finish b name t) (finish b name (more x t))
+  finish-extends x (Some finish) name t = refl
+  finish-extends x None name t = refl
 
-  boot-less : (b : Bool) (name : Text) (x : OutcomeWord) (t : State) → t.word ≡ x → length (state_of (boot b name t)).word < suc (length x)
-  boot-less true name x t e = let l = ap length e in omega arith
-  boot-less false name x t e = let l = ap length e in omega arith
+  finish-less : (b : Option BoardEnd) (name : Text) (x : OutcomeWord) (t : State) → t.word ≡ x → length (state_of (finish b name t)).word < suc (length x)
+  finish-less (Some finish) name x t e = let l = ap length e in omega arith
+  finish-less None name x t e = let l = ap length e in omega arith
 
-  boot-steps : (b : Bool) (name : Text) (t : State) → (state_of (boot b name t)).steps ≡ t.steps
-  boot-steps true name t = refl
-  boot-steps false name t = refl
+  finish-steps : (b : Option BoardEnd) (name : Text) (t : State) → (state_of (finish b name t)).steps ≡ t.steps
+  finish-steps (Some finish) name t = refl
+  finish-steps None name t = refl
 
   -- its entry in the log
   abbrev entry : Outcome → Request → LoggedCommand
@@ -211,11 +212,11 @@ module _ (limits : Limits) where
   with-track s t r Success g =
       let l : State = logged Success r t in
       let u : State = set_environment (sets_in r.words r.effect.sets) l in
-      boot-track r.effect.ends r.name s u (GoesTo-trans s l u g (remembers l (λ m. (set_environment (sets_in r.words r.effect.sets) (record l { memory = m })).memory)))
+      finish-track r.effect.ends r.name s u (GoesTo-trans s l u g (remembers l (λ m. (set_environment (sets_in r.words r.effect.sets) (record l { memory = m })).memory)))
   with-track s t r Failure g = g
 
   with-extends : (t : State) (r : Request) (d : Outcome) (x : OutcomeWord) → Extends x (with_outcome d r t) (with_outcome d r (more x t))
-  with-extends t r Success x = boot-extends x r.effect.ends r.name (set_environment (sets_in r.words r.effect.sets) (logged Success r t))
+  with-extends t r Success x = finish-extends x r.effect.ends r.name (set_environment (sets_in r.words r.effect.sets) (logged Success r t))
   with-extends t r Failure x = refl
 
   asked : (s : State) (r : Request) (rest : OutcomeWord) → r.again ≡ false → length s.log < limits.device_bound → s.word ≡ rest → Track limits.device_bound s (take_outcome r rest s)
@@ -226,7 +227,7 @@ module _ (limits : Limits) where
   asked-extends s r [] [] = (λ ne. absurd (ne refl), omega arith)
   asked-extends s r [] (Success ∷ x) =
       let t : State = set_environment (sets_in r.words r.effect.sets) (logged Success r (record s { word = x })) in
-      (λ ne. boot-less r.effect.ends r.name x t refl, let e = boot-steps r.effect.ends r.name t in omega arith)
+      (λ ne. finish-less r.effect.ends r.name x t refl, let e = finish-steps r.effect.ends r.name t in omega arith)
   asked-extends s r [] (Failure ∷ x) = (λ ne. omega arith, omega arith)
   asked-extends s r (d ∷ rest) x = with-extends (record s { word = rest }) r d x
 

@@ -1,11 +1,12 @@
 -- Worked examples, computed: what a device command is told again, and what it takes from the word.
 use Rattle.std.proofs.Common.{◌≡◌, ℕ, Bool, true, false, List, [], ◌∷◌, Some, None, codes, refl, map}
+use Rattle.device_list.specs.declared.finish.BoardEnd.TheVariants.{Boots}
 use Rattle.rehearse_terms.specs.Outcomes.{OutcomeWord, Success, Failure}
 use Rattle.rehearse_terms.specs.State.{Text, Variables, LoggedCommand, State, start}
 use Rattle.device_list.specs.DeviceList.{Variable, Literal, Effect, only}
 use Rattle.device_list.specs.DeviceLaws.{quiet}
 use Rattle.rehearse_terms.specs.declared.shell.Shell.TheVariants.{Profile}
-use Rattle.rehearse_rules.specs.Execution.{Limits, Normal, Ended, Dry, Booted, CutDevices, Request, told, tell_or_take, device, test_effect, request_of}
+use Rattle.rehearse_rules.specs.Execution.{Limits, Normal, Ended, Dry, Finished, CutDevices, Request, told, tell_or_take, device, test_effect, request_of}
 
 abbrev steady : Effect
 steady = record quiet { stays = true }
@@ -91,10 +92,10 @@ failure_sets_nothing : tell_or_take (Some false) (request setting) (at [] []) �
 failure_sets_nothing = refl
 
 -- and a final command boots
-success_boots : tell_or_take (Some true) (request (record steady { ends = true })) (at [] []) ≡ Ended (Booted (codes "load")) (then_at (entry true true true ∷ []) [] 0 unchanged)
+success_boots : tell_or_take (Some true) (request (record steady { ends = Some Boots })) (at [] []) ≡ Ended (Finished Boots (codes "load")) (then_at (entry true true true ∷ []) [] 0 unchanged)
 success_boots = refl
 
-failure_goes_on : tell_or_take (Some false) (request (record steady { ends = true })) (at [] []) ≡ Normal (then_at (entry false true true ∷ []) [] 1 unchanged)
+failure_goes_on : tell_or_take (Some false) (request (record steady { ends = Some Boots })) (at [] []) ≡ Normal (then_at (entry false true true ∷ []) [] 1 unchanged)
 failure_goes_on = refl
 
 -- ---- the bound counts what is told: one more in the log, or none

@@ -1,5 +1,6 @@
 -- How a run ends. Ours.
 use Rattle.std.specs.Prelude.{ℕ}
+use Rattle.device_list.specs.declared.finish.BoardEnd.{BoardEnd}
 use Rattle.rehearse_terms.specs.State.{Text}
 
 pub data Ending : Type 0 where
@@ -16,5 +17,5 @@ pub data Ending : Type 0 where
   Unsupported : (name : Text) → Ending
   -- words expand to too many bytes
   Size : Ending
-  -- a final device command succeeded
-  Booted : (name : Text) → Ending
+  -- a device command succeeded that ends the run: the board boots, restarts or halts
+  Finished : BoardEnd → (name : Text) → Ending

@@ -13,7 +13,7 @@ halt_shown (halts.Unknown name) = spec.Unknown name.items
 halt_shown (halts.Syntax name) = spec.Syntax name.items
 halt_shown (halts.Unsupported name) = spec.Unsupported name.items
 halt_shown halts.Size = spec.Size
-halt_shown (halts.Booted name) = spec.Booted name.items
+halt_shown (halts.Finished finish name) = spec.Finished finish name.items
 
 abbrev pub ending_shown : Ending → spec.Ending
 ending_shown (endings.End status) = spec.End status
@@ -23,4 +23,4 @@ ending_shown (endings.Unknown name) = spec.Unknown name.now
 ending_shown (endings.Syntax name) = spec.Syntax name.now
 ending_shown (endings.Unsupported name) = spec.Unsupported name.now
 ending_shown endings.Size = spec.Size
-ending_shown (endings.Booted name) = spec.Booted name.now
+ending_shown (endings.Finished finish name) = spec.Finished finish name.now

@@ -1,6 +1,7 @@
 -- What a script does to a state, for the outcomes that its word still holds (U-Boot documentation, doc/usage/cmdline
 -- and doc/usage/cmd). The bounds are ours, and so is how a run ends that meets one.
 use Rattle.std.specs.Prelude.{ℕ, zero, suc, nat_lt, nat_le, nat_eq, Bool, true, false, not, List, [], ◌∷◌, ◌++◌, length, Option, Some, None, if◌then◌else◌}
+use Rattle.device_list.specs.declared.finish.BoardEnd.{BoardEnd}
 use Rattle.hushlang.specs.Tree as tree
 use Rattle.hushlang.specs.Tree.{Script, AndOr, Joined, Command, Arms}
 use Rattle.hushlang.specs.Expansion.{size, most_bytes}
@@ -10,7 +11,7 @@ use Rattle.rehearse_terms.specs.Outcomes.{Outcome, Success, Failure, OutcomeWord
 use Rattle.hushlang_old.specs.TreesByShell.{tree_in, lacks_end_in}
 use Rattle.rehearse_terms.specs.State.{Text, Variables, get, with_value, Memory, LoggedCommand, answer_in, State}
 use Rattle.rehearse_terms.specs.declared.shell.Shell.{Shell}
-pub use Rattle.rehearse_rules.specs.Ending.{Ending, End, CutDevices, CutSteps, Unknown, Syntax, Unsupported, Size, Booted}
+pub use Rattle.rehearse_rules.specs.Ending.{Ending, End, CutDevices, CutSteps, Unknown, Syntax, Unsupported, Size, Finished}
 use Rattle.rehearse_rules.specs.Parameters.{parameters_in}
 use Rattle.rehearse_rules.specs.ByShell.{unread, leaves_in, status_of_exit, asks_in, question_in, truth_in, truth_if, fields_in, turns_in, skips_rest, status_of_nothing, status_of_no_block, status_of_loop, status_in_turn, follows, assigned_in, locals_in}
 use Rattle.device_list.specs.DeviceList.{Effect, Devices}
@@ -103,7 +104,7 @@ status_after Failure request = request.on_failure
 
 -- `test -e` changes nothing; its answers stay if the list says so
 abbrev pub test_effect : Devices → Effect
-test_effect devices = record { ends = false; stays = devices.test_stays; always = None; sets = [] }
+test_effect devices = record { ends = None; stays = devices.test_stays; always = None; sets = [] }
 
 -- the question of a `test`: its status says whether the words hold
 abbrev pub test_request : Limits → (name : Text) → (words : List Text) → Request
@@ -137,15 +138,15 @@ with_all (e ∷ es) variables = with_all es (with_value variables e.0 e.1)
 abbrev pub set_environment : List (Text × Text) → State → State
 set_environment sets = remember (λ m. record m { environment = with_all sets m.environment })
 
--- a final command ends the run
-abbrev pub boot : (ends : Bool) → (name : Text) → State → Answer
-boot true name s = Ended (Booted name) s
-boot false name s = Normal s
+-- a command that ends the run, or another one
+abbrev pub finish : Option BoardEnd → (name : Text) → State → Answer
+finish (Some how) name s = Ended (Finished how name) s
+finish None name s = Normal s
 
 -- a device command with its outcome
 abbrev pub with_outcome : Outcome → Request → State → Answer
 with_outcome Success request s =
-    boot request.effect.ends request.name
+    finish request.effect.ends request.name
     (set_environment (sets_in request.words request.effect.sets) (logged Success request s))
 with_outcome Failure request s = Normal (logged Failure request s)
 

@@ -1,11 +1,13 @@
 -- The text that a rehearsal writes. Ours.
 use Rattle.std.specs.Prelude.{ℕ, nat_le, Bool, true, false, List, [], ◌∷◌, ◌++◌, map, flat_map, length, take, Option, Some, None, codes, decimal}
+use Rattle.device_list.specs.declared.finish.BoardEnd.{BoardEnd}
+use Rattle.device_list.specs.declared.finish.BoardEnd.TheVariants.{Boots, Restarts, Halts}
 use Rattle.text.specs.Bytes as ascii
 use Rattle.text.specs.Escapes.{text_form, word_form}
 use Rattle.text.specs.Words.{joined_words}
 use Rattle.rehearse_terms.specs.Outcomes.{Outcome, OutcomeWord}
 use Rattle.rehearse_terms.specs.State.{Text, Variables, get, State, LoggedCommand}
-use Rattle.rehearse_rules.specs.Execution.{Ending, End, CutDevices, CutSteps, Unknown, Syntax, Unsupported, Size, Booted, succeeds}
+use Rattle.rehearse_rules.specs.Execution.{Ending, End, CutDevices, CutSteps, Unknown, Syntax, Unsupported, Size, Finished, succeeds}
 use Rattle.rehearse_rules.specs.Runs.{Task, run_on, state_of, ending_of}
 use Rattle.rehearse_terms.specs.declared.wanted.Page.{Page}
 
@@ -51,6 +53,12 @@ abbrev pub variable_lines : Variables → (names : List Text) → List Text
 variable_lines environment [] = map variable_line environment
 variable_lines environment (name ∷ names) = map (asked_line environment) (name ∷ names)
 
+-- how a device command ended the run
+abbrev pub finish_word : BoardEnd → Text
+finish_word Boots = codes "booted "
+finish_word Restarts = codes "restarted "
+finish_word Halts = codes "halted "
+
 abbrev pub last_line : Ending → Text
 last_line (End status) = codes "end " ++ decimal status
 last_line CutDevices = codes "cut devices"
@@ -59,7 +67,7 @@ last_line (Unknown name) = codes "stop unknown " ++ word_form name
 last_line (Syntax name) = codes "stop syntax " ++ word_form name
 last_line (Unsupported name) = codes "stop unsupported " ++ word_form name
 last_line Size = codes "stop size"
-last_line (Booted name) = codes "booted " ++ word_form name
+last_line (Finished finish name) = finish_word finish ++ word_form name
 
 -- the lines between the first and the last of a record
 abbrev pub inner_lines : State → (names : List Text) → List Text

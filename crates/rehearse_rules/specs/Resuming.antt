@@ -36,6 +36,7 @@ ended_lines part (b ∷ bytes) =
 abbrev pub is_last_line : Text → Bool
 is_last_line l = starts_with nat_eq l (codes "end ") || starts_with nat_eq l (codes "cut ")
     || starts_with nat_eq l (codes "stop ") || starts_with nat_eq l (codes "booted ")
+    || starts_with nat_eq l (codes "restarted ") || starts_with nat_eq l (codes "halted ")
 
 -- a line that starts a record
 abbrev pub is_first_line : Text → Bool

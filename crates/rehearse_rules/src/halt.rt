@@ -1,5 +1,8 @@
 //! How a run ends.
 ghost use Rattle.std.specs.Prelude.{◌≡◌};
+ghost use Rattle.rehearse_rules.specs.Listing.{finish_word};
+
+use device_list::BoardEnd;
 
 /// How a run has ended, with the name that it is about.
 #[derive(Debug, Drop)]
@@ -18,8 +21,8 @@ pub enum Halt {
     Unsupported(Vec<u8>),
     /// Words expand to too many bytes.
     Size,
-    /// A final device command succeeded.
-    Booted(Vec<u8>),
+    /// A device command succeeded that ends the run so.
+    Finished(BoardEnd, Vec<u8>),
 }
 
 /// How a run ends, borrowed.
@@ -39,8 +42,19 @@ pub enum Ending<'v> {
     Unsupported(&'v [u8]),
     /// Words expand to too many bytes.
     Size,
-    /// A final device command succeeded.
-    Booted(&'v [u8]),
+    /// A device command succeeded that ends the run so.
+    Finished(BoardEnd, &'v [u8]),
+}
+
+/// The word with which a listing says that a run ended so, with the space after it.
+pub fn finish_word(finish: BoardEnd) -> &'static [u8]
+    ensures { result.now ≡ finish_word finish }
+{
+    match finish {
+        BoardEnd::Boots => b"booted ",
+        BoardEnd::Restarts => b"restarted ",
+        BoardEnd::Halts => b"halted ",
+    }
 }
 
 impl Halt {
@@ -58,7 +72,7 @@ impl Halt {
             Halt::Syntax(name) => Ending::Syntax(name),
             Halt::Unsupported(name) => Ending::Unsupported(name),
             Halt::Size => Ending::Size,
-            Halt::Booted(name) => Ending::Booted(name),
+            Halt::Finished(finish, name) => Ending::Finished(*finish, name),
         }
     }
 }

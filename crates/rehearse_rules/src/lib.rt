@@ -7,6 +7,6 @@ pub mod laws;
 mod reading;
 mod rehearse_error;
 
-pub use halt::{Ending, Halt};
+pub use halt::{Ending, Halt, finish_word};
 pub use reading::read_devices;
 pub use rehearse_error::RehearseError;

@@ -35,6 +35,8 @@ fn ends_record(line: &[u8]) -> bool
         || line.starts_with(b"cut ")
         || line.starts_with(b"stop ")
         || line.starts_with(b"booted ")
+        || line.starts_with(b"restarted ")
+        || line.starts_with(b"halted ")
 }
 
 /// The word of a line that starts a record.

@@ -2,13 +2,14 @@
 -- first device command; `0` means that it succeeded.
 use Rattle.std.proofs.Common.{ℕ, Bool, true, [], ◌∷◌, ◌+◌, ◌-◌, ◌^◌, List, Some, None, Option, codes, refl, ◌≡◌, map, length, nat_eq}
 use Rattle.std.specs.Fmt.{digits}
+use Rattle.device_list.specs.declared.finish.BoardEnd.TheVariants.{Boots, Restarts, Halts}
 use Rattle.hushlang.specs.Expansion.{fields, joined, atoms}
 use Rattle.rehearse_terms.specs.Outcomes.{OutcomeWord, Success, Failure, failures}
 use Rattle.device_list.specs.DeviceLaws.{quiet}
 use Rattle.device_list.specs.DeviceList.{only}
 use Rattle.hushlang.specs.Trees.{tree_of}
 use Rattle.rehearse_terms.specs.State.{Text}
-use Rattle.rehearse_rules.specs.Execution.{Ending, End, CutDevices, CutSteps, Unknown, Syntax, Unsupported, Size, Booted}
+use Rattle.rehearse_rules.specs.Execution.{Ending, End, CutDevices, CutSteps, Unknown, Syntax, Unsupported, Size, Finished}
 use Rattle.rehearse_rules.specs.Runs.{Task, all_runs}
 use Rattle.rehearse_rules.proofs.ExampleRehearsals.{only_load, limits, bootcmd}
 use Rattle.rehearse_states.specs.Endings.{RunEnd, Row, ending_eq, end_eq, fewer, joined as with_further, with_row, gather, endings, of_both}
@@ -127,17 +128,17 @@ asked_each_time = refl
 abbrev kinds : List Ending
 kinds =
     End 0 ∷ End 1 ∷ CutDevices ∷ CutSteps ∷ Unknown (codes "a") ∷ Unknown (codes "b") ∷ Syntax (codes "a") ∷ Syntax (codes "b")
-    ∷ Unsupported (codes "a") ∷ Unsupported (codes "b") ∷ Size ∷ Booted (codes "a") ∷ Booted (codes "b") ∷ []
+    ∷ Unsupported (codes "a") ∷ Unsupported (codes "b") ∷ Size ∷ Finished Boots (codes "a") ∷ Finished Boots (codes "b") ∷ Finished Restarts (codes "a") ∷ Finished Halts (codes "a") ∷ []
 
 -- to which of the kinds an ending is equal
 abbrev equals : Ending → List Bool
 equals e = map (ending_eq e) kinds
 
--- true at one place of thirteen
+-- true at one place of fifteen
 abbrev only_at : ℕ → List Bool
-only_at n = map (nat_eq n) (0 ∷ 1 ∷ 2 ∷ 3 ∷ 4 ∷ 5 ∷ 6 ∷ 7 ∷ 8 ∷ 9 ∷ 10 ∷ 11 ∷ 12 ∷ [])
+only_at n = map (nat_eq n) (0 ∷ 1 ∷ 2 ∷ 3 ∷ 4 ∷ 5 ∷ 6 ∷ 7 ∷ 8 ∷ 9 ∷ 10 ∷ 11 ∷ 12 ∷ 13 ∷ 14 ∷ [])
 
-each_equals_itself : map equals kinds ≡ map only_at (0 ∷ 1 ∷ 2 ∷ 3 ∷ 4 ∷ 5 ∷ 6 ∷ 7 ∷ 8 ∷ 9 ∷ 10 ∷ 11 ∷ 12 ∷ [])
+each_equals_itself : map equals kinds ≡ map only_at (0 ∷ 1 ∷ 2 ∷ 3 ∷ 4 ∷ 5 ∷ 6 ∷ 7 ∷ 8 ∷ 9 ∷ 10 ∷ 11 ∷ 12 ∷ 13 ∷ 14 ∷ [])
 each_equals_itself = refl
 
 -- how runs end: the ending alone, a value alone, and both
@@ -220,7 +221,7 @@ too_great_together = refl
 -- ---- lines
 
 -- two commands fail for the first ending, and none for the second
-lines_of_rows : endings_text [] (λ w. elim w [ [] ↦ [] | d ∷ v ↦ (codes "load" ∷ codes "a b" ∷ []) ∷ (codes "b" ∷ []) ∷ [] ]) (row (Booted (codes "go")) 3 (Success ∷ Failure ∷ []) [] ∷ row (Syntax (codes "b")) 1 (Failure ∷ []) (Failure ∷ []) ∷ []) 4 17 ≡ codes "ends 3 first 01 fewest 0 . booted go\nends 1 first 1 fewest 1 1 stop syntax b\nfails load a\\x20b\nfails b\nall 4 states 17\n"
+lines_of_rows : endings_text [] (λ w. elim w [ [] ↦ [] | d ∷ v ↦ (codes "load" ∷ codes "a b" ∷ []) ∷ (codes "b" ∷ []) ∷ [] ]) (row (Finished Boots (codes "go")) 3 (Success ∷ Failure ∷ []) [] ∷ row (Syntax (codes "b")) 1 (Failure ∷ []) (Failure ∷ []) ∷ []) 4 17 ≡ codes "ends 3 first 01 fewest 0 . booted go\nends 1 first 1 fewest 1 1 stop syntax b\nfails load a\\x20b\nfails b\nall 4 states 17\n"
 unfolding digits
 lines_of_rows = refl
 

@@ -1,16 +1,29 @@
 -- Rows of lists of runs: of two lists, of runs after one outcome, of both sides of a device command.
-use Rattle.std.proofs.Common.{ℕ, zero, suc, Bool, true, false, cond, ◌||◌, ◌&&◌, Option, Some, None, List, [], ◌∷◌, ◌++◌, map, filter, refl, sym, ap, subst, ◌∙◌, ◌≡◌, inl, inr, arith, ◌+◌, nat_le, eqb-true, eq-eqb}
-use Rattle.std.proofs.lemmas.Bool.{le-leb, lt-leb, leb-true, leb-false}
+use Rattle.std.proofs.Common.{ℕ, zero, suc, Bool, true, false, cond, ◌||◌, ◌&&◌, Option, Some, None, List, [], ◌∷◌, ◌++◌, map, filter, refl, sym, ap, subst, ◌∙◌, ◌≡◌, inl, inr, arith, ◌+◌, nat_le, eqb-true, eq-eqb, bytes_eq}
+use Rattle.std.proofs.lemmas.Bool.{and_parts, le-leb, lt-leb, leb-true, leb-false}
 use Rattle.std.proofs.lemmas.List.{map-append}
 use Rattle.std.proofs.lemmas.List.Elements.{filter-append}
 use Rattle.std.proofs.lemmas.Slice.Eq.{bytes_eq-Decides}
 use Rattle.std.specs.List.{list_any}
+use Rattle.device_list.specs.declared.finish.BoardEnd.{BoardEnd}
+use Rattle.device_list.specs.declared.finish.BoardEnd.TheVariants.{Boots, Restarts, Halts}
 use Rattle.rehearse_terms.specs.Outcomes.{OutcomeWord, Outcome, Success, Failure, WordKind, Run, Short, Long, is_run_kind, words, beyond, runs_within, IsChoice, failures}
 use Rattle.rehearse_terms.specs.State.{Text}
-use Rattle.rehearse_rules.specs.Execution.{Ending, End, CutDevices, CutSteps, Unknown, Syntax, Unsupported, Size, Booted}
-use Rattle.rehearse_states.specs.Endings.{ending_eq, RunEnd, value_eq, values_eq, end_eq, fewer, Row, joined, with_row, merge, one_run, gather, rows_within, in_front, of_both, HasRows, ends, asks}
+use Rattle.rehearse_rules.specs.Execution.{Ending, End, CutDevices, CutSteps, Unknown, Syntax, Unsupported, Size, Finished}
+use Rattle.rehearse_states.specs.Endings.{same_finish, ending_eq, RunEnd, value_eq, values_eq, end_eq, fewer, Row, joined, with_row, merge, one_run, gather, rows_within, in_front, of_both, HasRows, ends, asks}
 
 -- ---- endings
+
+finish_same : (f g : BoardEnd) → same_finish f g ≡ true → f ≡ g
+finish_same Boots Boots h = refl
+finish_same Restarts Restarts h = refl
+finish_same Halts Halts h = refl
+finish_same Boots Restarts h = absurd (let e = h in cc)
+finish_same Boots Halts h = absurd (let e = h in cc)
+finish_same Restarts Boots h = absurd (let e = h in cc)
+finish_same Restarts Halts h = absurd (let e = h in cc)
+finish_same Halts Boots h = absurd (let e = h in cc)
+finish_same Halts Restarts h = absurd (let e = h in cc)
 
 pub ending_same : (a b : Ending) → ending_eq a b ≡ true → a ≡ b
 ending_same (End a) (End b) h = ap End (eqb-true a b h)
@@ -20,7 +33,7 @@ ending_same (End a) (Unknown b) h = absurd (let f = h in cc)
 ending_same (End a) (Syntax b) h = absurd (let f = h in cc)
 ending_same (End a) (Unsupported b) h = absurd (let f = h in cc)
 ending_same (End a) Size h = absurd (let f = h in cc)
-ending_same (End a) (Booted b) h = absurd (let f = h in cc)
+ending_same (End a) (Finished f b) h = absurd (let f = h in cc)
 ending_same CutDevices CutDevices h = refl
 ending_same CutDevices (End b) h = absurd (let f = h in cc)
 ending_same CutDevices CutSteps h = absurd (let f = h in cc)
@@ -28,7 +41,7 @@ ending_same CutDevices (Unknown b) h = absurd (let f = h in cc)
 ending_same CutDevices (Syntax b) h = absurd (let f = h in cc)
 ending_same CutDevices (Unsupported b) h = absurd (let f = h in cc)
 ending_same CutDevices Size h = absurd (let f = h in cc)
-ending_same CutDevices (Booted b) h = absurd (let f = h in cc)
+ending_same CutDevices (Finished f b) h = absurd (let f = h in cc)
 ending_same CutSteps CutSteps h = refl
 ending_same CutSteps (End b) h = absurd (let f = h in cc)
 ending_same CutSteps CutDevices h = absurd (let f = h in cc)
@@ -36,7 +49,7 @@ ending_same CutSteps (Unknown b) h = absurd (let f = h in cc)
 ending_same CutSteps (Syntax b) h = absurd (let f = h in cc)
 ending_same CutSteps (Unsupported b) h = absurd (let f = h in cc)
 ending_same CutSteps Size h = absurd (let f = h in cc)
-ending_same CutSteps (Booted b) h = absurd (let f = h in cc)
+ending_same CutSteps (Finished f b) h = absurd (let f = h in cc)
 ending_same (Unknown a) (Unknown b) h = ap Unknown ((bytes_eq-Decides a b).0 h)
 ending_same (Unknown a) (End b) h = absurd (let f = h in cc)
 ending_same (Unknown a) CutDevices h = absurd (let f = h in cc)
@@ -44,7 +57,7 @@ ending_same (Unknown a) CutSteps h = absurd (let f = h in cc)
 ending_same (Unknown a) (Syntax b) h = absurd (let f = h in cc)
 ending_same (Unknown a) (Unsupported b) h = absurd (let f = h in cc)
 ending_same (Unknown a) Size h = absurd (let f = h in cc)
-ending_same (Unknown a) (Booted b) h = absurd (let f = h in cc)
+ending_same (Unknown a) (Finished f b) h = absurd (let f = h in cc)
 ending_same (Syntax a) (Syntax b) h = ap Syntax ((bytes_eq-Decides a b).0 h)
 ending_same (Syntax a) (End b) h = absurd (let f = h in cc)
 ending_same (Syntax a) CutDevices h = absurd (let f = h in cc)
@@ -52,7 +65,7 @@ ending_same (Syntax a) CutSteps h = absurd (let f = h in cc)
 ending_same (Syntax a) (Unknown b) h = absurd (let f = h in cc)
 ending_same (Syntax a) (Unsupported b) h = absurd (let f = h in cc)
 ending_same (Syntax a) Size h = absurd (let f = h in cc)
-ending_same (Syntax a) (Booted b) h = absurd (let f = h in cc)
+ending_same (Syntax a) (Finished f b) h = absurd (let f = h in cc)
 ending_same (Unsupported a) (Unsupported b) h = ap Unsupported ((bytes_eq-Decides a b).0 h)
 ending_same (Unsupported a) (End b) h = absurd (let f = h in cc)
 ending_same (Unsupported a) CutDevices h = absurd (let f = h in cc)
@@ -60,7 +73,7 @@ ending_same (Unsupported a) CutSteps h = absurd (let f = h in cc)
 ending_same (Unsupported a) (Unknown b) h = absurd (let f = h in cc)
 ending_same (Unsupported a) (Syntax b) h = absurd (let f = h in cc)
 ending_same (Unsupported a) Size h = absurd (let f = h in cc)
-ending_same (Unsupported a) (Booted b) h = absurd (let f = h in cc)
+ending_same (Unsupported a) (Finished f b) h = absurd (let f = h in cc)
 ending_same Size Size h = refl
 ending_same Size (End b) h = absurd (let f = h in cc)
 ending_same Size CutDevices h = absurd (let f = h in cc)
@@ -68,15 +81,17 @@ ending_same Size CutSteps h = absurd (let f = h in cc)
 ending_same Size (Unknown b) h = absurd (let f = h in cc)
 ending_same Size (Syntax b) h = absurd (let f = h in cc)
 ending_same Size (Unsupported b) h = absurd (let f = h in cc)
-ending_same Size (Booted b) h = absurd (let f = h in cc)
-ending_same (Booted a) (Booted b) h = ap Booted ((bytes_eq-Decides a b).0 h)
-ending_same (Booted a) (End b) h = absurd (let f = h in cc)
-ending_same (Booted a) CutDevices h = absurd (let f = h in cc)
-ending_same (Booted a) CutSteps h = absurd (let f = h in cc)
-ending_same (Booted a) (Unknown b) h = absurd (let f = h in cc)
-ending_same (Booted a) (Syntax b) h = absurd (let f = h in cc)
-ending_same (Booted a) (Unsupported b) h = absurd (let f = h in cc)
-ending_same (Booted a) Size h = absurd (let f = h in cc)
+ending_same Size (Finished f b) h = absurd (let f = h in cc)
+ending_same (Finished f a) (Finished g b) h =
+    let parts = and_parts (same_finish f g) (bytes_eq a b) h in
+    (λ i. Finished (finish_same f g parts.0 i) ((bytes_eq-Decides a b).0 parts.1 i))
+ending_same (Finished f a) (End b) h = absurd (let f = h in cc)
+ending_same (Finished f a) CutDevices h = absurd (let f = h in cc)
+ending_same (Finished f a) CutSteps h = absurd (let f = h in cc)
+ending_same (Finished f a) (Unknown b) h = absurd (let f = h in cc)
+ending_same (Finished f a) (Syntax b) h = absurd (let f = h in cc)
+ending_same (Finished f a) (Unsupported b) h = absurd (let f = h in cc)
+ending_same (Finished f a) Size h = absurd (let f = h in cc)
 
 pub ending_itself : (a : Ending) → ending_eq a a ≡ true
 ending_itself (End a) = eq-eqb a a refl
@@ -86,7 +101,9 @@ ending_itself (Unknown a) = (bytes_eq-Decides a a).1 refl
 ending_itself (Syntax a) = (bytes_eq-Decides a a).1 refl
 ending_itself (Unsupported a) = (bytes_eq-Decides a a).1 refl
 ending_itself Size = refl
-ending_itself (Booted a) = (bytes_eq-Decides a a).1 refl
+ending_itself (Finished Boots a) = (bytes_eq-Decides a a).1 refl
+ending_itself (Finished Restarts a) = (bytes_eq-Decides a a).1 refl
+ending_itself (Finished Halts a) = (bytes_eq-Decides a a).1 refl
 
 -- ---- how runs end
 

@@ -2,10 +2,18 @@
 -- the variables that are asked for are told apart. Ours.
 use Rattle.std.specs.Prelude.{◌≡◌, ℕ, ◌+◌, nat_eq, nat_le, Bool, true, false, cond, ◌&&◌, List, [], ◌∷◌, map, Option, Some, None}
 use Rattle.std.specs.Str.{bytes_eq}
+use Rattle.device_list.specs.declared.finish.BoardEnd.{BoardEnd}
+use Rattle.device_list.specs.declared.finish.BoardEnd.TheVariants.{Boots, Restarts, Halts}
 use Rattle.rehearse_terms.specs.Outcomes.{OutcomeWord, Outcome, Success, Failure, WordKind, Run, Short, Long, failures, runs_within, beyond}
-use Rattle.rehearse_rules.specs.Execution.{Ending, End, CutDevices, CutSteps, Unknown, Syntax, Unsupported, Size, Booted}
+use Rattle.rehearse_rules.specs.Execution.{Ending, End, CutDevices, CutSteps, Unknown, Syntax, Unsupported, Size, Finished}
 use Rattle.rehearse_terms.specs.State.{Text, Variables, get}
 use Rattle.rehearse_rules.specs.Runs.{Task, run_on, state_of, ending_of, all_runs}
+
+abbrev pub same_finish : BoardEnd → BoardEnd → Bool
+same_finish Boots Boots = true
+same_finish Restarts Restarts = true
+same_finish Halts Halts = true
+same_finish one other = false
 
 abbrev pub ending_eq : Ending → Ending → Bool
 ending_eq (End a) (End b) = nat_eq a b
@@ -15,7 +23,7 @@ ending_eq (Unknown a) (Unknown b) = bytes_eq a b
 ending_eq (Syntax a) (Syntax b) = bytes_eq a b
 ending_eq (Unsupported a) (Unsupported b) = bytes_eq a b
 ending_eq Size Size = true
-ending_eq (Booted a) (Booted b) = bytes_eq a b
+ending_eq (Finished one a) (Finished other b) = same_finish one other && bytes_eq a b
 ending_eq _ _ = false
 
 -- how a run ends, and the values that it leaves of some variables; none for one that is not set

@@ -15,7 +15,7 @@ use crate::flow::Node;
 use crate::rows::{Row, failures};
 use crate::value_lines::put_values;
 use bootstore_state::StoreError;
-use rehearse_rules::Halt;
+use rehearse_rules::{Halt, finish_word};
 use std::alloc::Global;
 use text::Escaped;
 
@@ -107,8 +107,8 @@ pub fn put_ending(text: &mut Vec<u8>, halt: &Halt) -> Result<(), StoreError>
             put_word(text, name)
         }
         Halt::Size => put(text, b"stop size"),
-        Halt::Booted(name) => {
-            put(text, b"booted ")?;
+        Halt::Finished(finish, name) => {
+            put(text, finish_word(*finish))?;
             put_word(text, name)
         }
     }

@@ -30,7 +30,7 @@ pub fn same_halt(a: &Halt, b: &Halt) -> bool
         (Halt::Syntax(x), Halt::Syntax(y)) => x == y,
         (Halt::Unsupported(x), Halt::Unsupported(y)) => x == y,
         (Halt::Size, Halt::Size) => true,
-        (Halt::Booted(x), Halt::Booted(y)) => x == y,
+        (Halt::Finished(one, x), Halt::Finished(other, y)) => one == other && x == y,
         _ => false,
     }
 }
@@ -47,7 +47,7 @@ pub(crate) fn copy_halt(halt: &Halt) -> Result<Halt, StoreError>
         Halt::Syntax(name) => Halt::Syntax(name.clone()?),
         Halt::Unsupported(name) => Halt::Unsupported(name.clone()?),
         Halt::Size => Halt::Size,
-        Halt::Booted(name) => Halt::Booted(name.clone()?),
+        Halt::Finished(finish, name) => Halt::Finished(*finish, name.clone()?),
     })
 }
 

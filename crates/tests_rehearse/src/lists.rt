@@ -2,7 +2,7 @@
 
 use crate::calls::devices_of;
 use crate::case::Case;
-use device_list::{Devices, Effect, LeftSide, RightSide, Setting};
+use device_list::{BoardEnd, Devices, Effect, LeftSide, RightSide, Setting};
 use std::alloc::{AllocError, Global};
 use tests_rows::{shown, unescaped, words_of};
 
@@ -45,7 +45,12 @@ fn only_answer(always: Option<bool>) -> &'static str {
 
 /// An effect: `final` if it ends the run, else `sets`, the only answer if it has one, and its settings.
 fn effect_of(alloc: Global, effect: Effect<'_>) -> Result<String, AllocError> {
-    let start = if effect.ends { "final" } else { "sets" };
+    let start = match effect.ends {
+        Some(BoardEnd::Boots) => "final",
+        Some(BoardEnd::Restarts) => "restart",
+        Some(BoardEnd::Halts) => "halt",
+        None => "sets",
+    };
     let mut line = String::from_str(alloc, start)?;
     line.push_str(only_answer(effect.always))?;
     for setting in effect.sets {

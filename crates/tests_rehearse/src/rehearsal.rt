@@ -6,6 +6,7 @@ use crate::case::Case;
 use bootstore_copies::Plain;
 use bootstore_state::Store;
 use bootstore_trail::Trail;
+use device_list::BoardEnd;
 use output::Over;
 use rehearse_runs::{Ending, Runs};
 use std::alloc::Global;
@@ -200,7 +201,11 @@ fn name_of(ending: Ending<'_>) -> &'static str {
         Ending::Syntax(_) => "stop syntax",
         Ending::Unsupported(_) => "stop unsupported",
         Ending::Size => "stop size",
-        Ending::Booted(_) => "booted",
+        Ending::Finished(finish, _) => match finish {
+            BoardEnd::Boots => "booted",
+            BoardEnd::Restarts => "restarted",
+            BoardEnd::Halts => "halted",
+        },
     }
 }
 

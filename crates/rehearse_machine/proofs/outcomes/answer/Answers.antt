@@ -9,7 +9,7 @@ use Rattle.rehearse_rules.specs.Execution.{succeeds}
 use Rattle.rehearse_machine.specs.MovesShown.{request_shown}
 use Rattle.rehearse_rules.specs.declared.halt.Halt.TheVariants as halts
 use Rattle.rehearse_machine.specs.declared.ask.Step.TheVariants as steps
-use Rattle.rehearse_machine.proofs.OutcomeLemmas.{logged_state, logged_frames, logged_keeps, success_does, failure_does, booted, stayed, after_failure, after_success}
+use Rattle.rehearse_machine.proofs.OutcomeLemmas.{logged_state, logged_frames, logged_keeps, success_does, failure_does, finished, stayed, after_failure, after_success}
 use Rattle.rehearse_machine.proofs.outcomes.answer.Goals as goal
 
 pub returns-then-not-success : goal.returns-then-not-success
@@ -33,8 +33,8 @@ returns-then-not-success g c outcome is =
     (logged_keeps outcome request set mid late entry words refl refl is c.in_ok-device.ensures.ok c.args.ask.statuses.failure code c.in_ok-set_status.ensures.ok)
     are succeeds_is
 
-pub returns-then-effect : goal.returns-then-effect
-returns-then-effect g c outcome is =
+pub returns-in-Some : goal.returns-in-Some
+returns-in-Some g c outcome is =
     let request = request_shown c.args.ask in
     let old = g.S.Store.record_of c.args.store.now in
     let set = g.S.Store.record_of c.set_all.new.store in
@@ -52,8 +52,8 @@ returns-then-effect g c outcome is =
     (logged_state outcome request set mid late entry words refl refl is c.in_ok-device.ensures.ok c.args.ask.statuses.success code c.in_ok-set_status-2.ensures.ok)
     (logged_frames outcome request set mid late entry words refl refl is c.in_ok-device.ensures.ok c.args.ask.statuses.success code c.in_ok-set_status-2.ensures.ok)
     (logged_keeps outcome request set mid late entry words refl refl is c.in_ok-device.ensures.ok c.args.ask.statuses.success code c.in_ok-set_status-2.ensures.ok)
-    (steps.Ends (halts.Booted c.args.ask.name)) are succeeds_is
-    (λ w. booted request.effect.ends request.name late.present.frames (state_at late.present w) c.if-effect.true)
+    (steps.Ends (halts.Finished c.in-Some.finish c.args.ask.name)) are succeeds_is
+    (λ w. finished request.effect.ends c.in-Some.finish request.name late.present.frames (state_at late.present w) c.in-Some.is)
 
 pub returns : goal.returns
 returns g c outcome is =
@@ -75,4 +75,4 @@ returns g c outcome is =
     (logged_frames outcome request set mid late entry words refl refl is c.in_ok-device.ensures.ok c.args.ask.statuses.success code c.in_ok-set_status-2.ensures.ok)
     (logged_keeps outcome request set mid late entry words refl refl is c.in_ok-device.ensures.ok c.args.ask.statuses.success code c.in_ok-set_status-2.ensures.ok)
     steps.Going are succeeds_is
-    (λ w. stayed request.effect.ends request.name late.present.frames (state_at late.present w) c.if-effect.false)
+    (λ w. stayed request.effect.ends request.name late.present.frames (state_at late.present w) c.in_default.is)
