@@ -92,10 +92,10 @@ goes_on() {
         last=$line
         case $line in
         'run '*) word=${line#run } ;;
-        'end '* | 'cut '* | 'stop '* | 'booted '*) after=$word ;;
+        'end '* | 'cut '* | 'stop '* | 'booted '* | 'restarted '* | 'halted '*) after=$word ;;
         esac
     done <<<"${output%$'\n'}"
-    [[ -z $output || $last =~ ^(end|cut|stop|booted)\  ]] || fail "a record in part: $last"
+    [[ -z $output || $last =~ ^(end|cut|stop|booted|restarted|halted)\  ]] || fail "a record in part: $last"
     "$program" "${words[@]}" ${after:+--after "$after"} >rest
     texts rest
     [ "$output$rest" = "$ample" ] || fail 'another rest of the listing'

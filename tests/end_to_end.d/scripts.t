@@ -4,7 +4,7 @@ Scripts that run in place of a variable.
 
   $ printf 'if probe; then\n  setenv a "${b}"; run more\nelse\n  reset\nfi\n' >boot.cmd
   $ printf 'b=7\nmore=setenv c 8\nbootcmd=false\nboot.cmd=true\n' >rest.txt
-  $ printf 'probe\nfinal reset\n' >reset.list
+  $ printf 'probe\nrestart reset\n' >reset.list
   $ printf 'if probe; then true; else reset; fi' >end.cmd
   $ printf 'if true' >'bad cmd'
   $ script_image boot.cmd >boot.scr; script_image end.cmd >end.scr
@@ -23,7 +23,7 @@ boot.cmd, with --text rest.txt
   dev 0 reset
   unset a
   unset c
-  booted reset
+  restarted reset
   run 11
   dev 1 probe
   dev 1 reset
@@ -44,7 +44,7 @@ boot.cmd, with -i rest.img
   dev 0 reset
   unset a
   unset c
-  booted reset
+  restarted reset
   run 11
   dev 1 probe
   dev 1 reset
@@ -65,7 +65,7 @@ boot.cmd, with -c rest.config
   dev 0 reset
   unset a
   unset c
-  booted reset
+  restarted reset
   run 11
   dev 1 probe
   dev 1 reset
@@ -86,7 +86,7 @@ boot.scr, with --text rest.txt
   dev 0 reset
   unset a
   unset c
-  booted reset
+  restarted reset
   run 11
   dev 1 probe
   dev 1 reset
@@ -107,7 +107,7 @@ boot.scr, with -i rest.img
   dev 0 reset
   unset a
   unset c
-  booted reset
+  restarted reset
   run 11
   dev 1 probe
   dev 1 reset
@@ -128,7 +128,7 @@ boot.scr, with -c rest.config
   dev 0 reset
   unset a
   unset c
-  booted reset
+  restarted reset
   run 11
   dev 1 probe
   dev 1 reset
@@ -165,7 +165,7 @@ a script that is none
 the endings of a script
   $ ubtool endings --script end.scr -d reset.list
   ends 1 first 0 fewest 0 0 end 0
-  ends 1 first 10 fewest 1 10 booted reset
+  ends 1 first 10 fewest 1 10 restarted reset
   fails probe
   ends 1 first 11 fewest 2 11 end 1
   fails probe
@@ -175,7 +175,7 @@ the endings of a script
 the causes of a script
   $ ubtool causes --script end.scr -d reset.list
   cause 0 end 0
-  cause 1 booted reset
+  cause 1 restarted reset
   fails probe
   cause 2 end 1
   fails probe
@@ -184,7 +184,7 @@ the causes of a script
 the endings of a script, by profile
   $ ubtool causes --script end.cmd --shell profile -d reset.list
   cause 0 end 0
-  cause 1 booted reset
+  cause 1 restarted reset
   fails probe
   cause 2 end 1
   fails probe
@@ -193,7 +193,7 @@ the endings of a script, by profile
 the endings of a script, by old-2023.01
   $ ubtool causes --script end.cmd --shell old-2023.01 -d reset.list
   cause 0 end 0
-  cause 1 booted reset
+  cause 1 restarted reset
   fails probe
   cause 2 end 1
   fails probe
@@ -202,7 +202,7 @@ the endings of a script, by old-2023.01
 the endings of a script, by old-2025.01
   $ ubtool causes --script end.cmd --shell old-2025.01 -d reset.list
   cause 0 end 0
-  cause 1 booted reset
+  cause 1 restarted reset
   fails probe
   cause 2 end 1
   fails probe
@@ -262,7 +262,7 @@ bytes behind the image
   $ { cat end.scr && echo 'false'; } >longer.scr
   $ ubtool causes --script longer.scr -d reset.list
   cause 0 end 0
-  cause 1 booted reset
+  cause 1 restarted reset
   fails probe
   cause 2 end 1
   fails probe

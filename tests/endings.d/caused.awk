@@ -16,7 +16,7 @@ function needless(w,   v) {
 }
 /^run / { failures = 0; failed = "" }
 /^dev 1 / { failed = failed "fails " substr($0, 7) "\n"; failures++ }
-/^(end|cut|stop|booted) / { last[++runs] = $0; why[runs] = failed; count[runs] = failures }
+/^(end|cut|stop|booted|restarted|halted) / { last[++runs] = $0; why[runs] = failed; count[runs] = failures }
 END {
     for (w = 1; w <= runs; w++)
         if (!needless(w)) printf "cause %d %s\n%s", count[w], last[w], why[w]

@@ -3,7 +3,7 @@
 /^run / { word = $2; failed = left = "" }
 values && /^(var|unset) / { left = left $0 "\n" }
 /^dev 1 / { failed = failed "fails " substr($0, 7) "\n" }
-/^(end|cut|stop|booted) / {
+/^(end|cut|stop|booted|restarted|halted) / {
     fails = gsub(/1/, "1", word)
     key = $0 "\n" left
     if (!(key in runs)) { order[++endings] = key; first[key] = word; least[key] = fails + 1 }

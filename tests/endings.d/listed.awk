@@ -37,4 +37,4 @@ NR == FNR { next }
     if (call in answered) next
     answered[call] = 1
 }
-/^(run|dev|var|unset|end|cut|stop|booted) /
+/^(run|dev|var|unset|end|cut|stop|booted|restarted|halted) /

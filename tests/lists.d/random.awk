@@ -38,7 +38,7 @@ function settings(called, most,    text, left) {
 function name() {
     if (chance(2))
         return one_of("echo test setenv m*")
-    return chance(80) ? one_of("load mmc") : one_of("final steady sub call absent env")
+    return chance(80) ? one_of("load mmc") : one_of("final restart halt steady sub call absent env")
 }
 
 function pattern(    text, left) {
@@ -51,7 +51,7 @@ function pattern(    text, left) {
 
 function clauses(    text, left) {
     for (left = int(rand() * 3); left > 0; left--)
-        text = text " " (chance(50) ? setting(2) : one_of("final steady always always" (chance(2) ? " known" : "")))
+        text = text " " (chance(50) ? setting(2) : one_of("final restart halt steady always always" (chance(2) ? " known" : "")))
     gsub(/always/, "always " int(rand() * 2 + (chance(2) ? 1 : 0)), text)
     return text
 }
@@ -69,7 +69,7 @@ function line(    form) {
         return one_of("# \t ") (chance(50) ? "load" : "")
     if (form < 10)
         return "steady test" (chance(3) ? " a=1" : "")
-    return (chance(25) ? "final " : "") (chance(30) ? "steady " : "") \
+    return (chance(35) ? one_of("final final restart halt") " " : "") (chance(30) ? "steady " : "") \
         (chance(40) ? "sub " name() " " one_of("0 1 ab" (chance(5) ? " a=b" : "")) settings(1, 2) : name() settings(0, 3))
 }
 
@@ -79,7 +79,7 @@ function call(    of) {
         return "test -e mmc 0 " one_of("f g")
     if (of < 3)
         return "env exists " one_of("a b p")
-    return (chance(85) ? one_of("load mmc") : one_of("final steady sub call absent")) some_words(3)
+    return (chance(85) ? one_of("load mmc") : one_of("final halt steady sub call absent")) some_words(3)
 }
 
 BEGIN {

@@ -76,8 +76,8 @@ function read_call(words, from, many,    at, colon, fixed, name, word, set, wait
                 return "bad line"
             always = word
             waits = 0
-        } else if (word == "final" && !final)
-            final = 1
+        } else if (word in finishes && final == "")
+            final = finishes[word]
         else if (word == "steady" && !stays)
             stays = 1
         else if (word == "always" && always == "")
@@ -94,7 +94,7 @@ function read_call(words, from, many,    at, colon, fixed, name, word, set, wait
     if (name in built_in)
         return "built-in command"
     call_pattern[name, ++calls[name]] = fixed
-    call_effect[name, calls[name]] = (final + 0) "\n" (stays + 0) "\n" always "\n" sets
+    call_effect[name, calls[name]] = final "\n" (stays + 0) "\n" always "\n" sets
     return ""
 }
 
@@ -102,10 +102,9 @@ function read_call(words, from, many,    at, colon, fixed, name, word, set, wait
 function read_command(words, many,    at, final, stays, name, first, key, set, sets) {
     at = 1
     first = ""
-    if (words[at] == "final" && at < many && !index(words[at + 1], "=")) {
-        final = 1
-        at++
-    }
+    final = ""
+    if (words[at] in finishes && at < many && !index(words[at + 1], "="))
+        final = finishes[words[at++]]
     if (words[at] == "steady" && at < many && !index(words[at + 1], "=")) {
         stays = 1
         at++
@@ -126,7 +125,8 @@ function read_command(words, many,    at, final, stays, name, first, key, set, s
         return "built-in command"
     key = name SUBSEP first
     is_there[key] = 1
-    is_final[key] = is_final[key] || final
+    if (is_final[key] == "")
+        is_final[key] = final
     is_steady[key] = is_steady[key] || stays
     all_sets[key] = all_sets[key] sets
     return ""
@@ -173,7 +173,7 @@ function fits(pattern, words, many,    parts, count, at, part) {
     return many == count + 1
 }
 
-# what the list says of a call: final, steady, always and the settings in lines; or none
+# what the list says of a call: how it ends the run, steady, always and the settings in lines; or none
 function effect_of(words, many,    name, at, key) {
     name = words[1]
     for (at = 1; at <= calls[name]; at++)
@@ -182,7 +182,7 @@ function effect_of(words, many,    name, at, key) {
     key = name SUBSEP (many > 1 ? words[2] : "")
     if (!(key in is_there))
         key = name SUBSEP ""
-    return key in is_there ? is_final[key] + 0 "\n" is_steady[key] + 0 "\n\n" all_sets[key] : ""
+    return key in is_there ? is_final[key] "\n" is_steady[key] + 0 "\n\n" all_sets[key] : ""
 }
 
 # the word of a call that `@..` means, with an `=` in front; or none
@@ -219,7 +219,7 @@ function run(commands, count,    at, words, many, effect, parts, size, stays, an
             status = words[3] in env ? 0 : 1
             continue
         }
-        effect = words[1] == "test" ? "0\n" test_stays + 0 "\n\n" : effect_of(words, many)
+        effect = words[1] == "test" ? "\n" test_stays + 0 "\n\n" : effect_of(words, many)
         if (effect == "") {
             ending = "stop unknown " words[1]
             break
@@ -243,8 +243,8 @@ function run(commands, count,    at, words, many, effect, parts, size, stays, an
         text = text "dev " answer " " key "\n"
         if (answer == "0") {
             set_all(parts, 4, size, words, many)
-            if (parts[1])
-                ending = "booted " words[1]
+            if (parts[1] != "")
+                ending = parts[1] " " words[1]
         }
     }
     if (ending == "")
@@ -273,6 +273,9 @@ BEGIN {
     split("setenv run test echo true false exit", names, " ")
     for (at in names)
         built_in[names[at]] = 1
+    finishes["final"] = "booted"
+    finishes["restart"] = "restarted"
+    finishes["halt"] = "halted"
     for (number = 1; number <= count; number++) {
         print "== " number
         split("", calls); split("", call_pattern); split("", call_effect)

@@ -61,7 +61,7 @@ two slots of an update service
 A board that is made: its script, as a variable, and its device list.
 
   $ by_board() {
-  >     printf '%s\n' "bootcmd=$1" >board.env; printf '%s\n' load dhcp 'final bootm' 'final reset' >list
+  >     printf '%s\n' "bootcmd=$1" >board.env; printf '%s\n' load dhcp 'final bootm' 'restart reset' >list
   >     marked report --text board.env -d list "${@:2}" -o board.html && by_part board.html verdict
   > }
 

@@ -47,7 +47,7 @@ function many(number, thing) {
 # class_of(ENDING): good where the board boots, again where it starts anew or is switched off, bad where it is left at the
 # prompt, open where the rehearsal does not know.
 function class_of(ending) {
-    if (ending ~ /^booted (reset|poweroff)$/) return "again"
+    if (ending ~ /^(restarted|halted) /) return "again"
     if (ending ~ /^booted /) return "good"
     return ending ~ /^end / ? "bad" : "open"
 }
@@ -55,8 +55,8 @@ function class_of(ending) {
 # said_of(ENDING): the ending in words, as HTML.
 function said_of(ending,    words) {
     split(ending, words, " ")
-    if (ending == "booted reset") return "Starts the board anew"
-    if (ending == "booted poweroff") return "Switches the board off"
+    if (words[1] == "restarted") return "Starts the board anew, by " code(words[2])
+    if (words[1] == "halted") return "Halts the board, by " code(words[2])
     if (words[1] == "booted") return "Boots by " code(words[2])
     if (ending == "end 0") return "Ends at U-Boot's prompt"
     if (words[1] == "end") return "Ends at U-Boot's prompt, with status " html(words[2])

@@ -31,7 +31,7 @@ sub(/^var /, "") {
 }
 /^(more |done$)/ { print "listing\t" $1; next }
 { line[++lines] = $0 }
-/^(end|cut|stop|booted) / { finish($0) }
+/^(end|cut|stop|booted|restarted|halted) / { finish($0) }
 END {
     for (it in counts) print "count\t" it "\t" counts[it]
     for (i = 1; i <= number_both; i++) print "both\t" both_words[i] "\t" both[both_words[i]]
