@@ -113,6 +113,7 @@ A line of the device list is one of these:
   NAME                a command that succeeds or fails
   NAME VAR=VALUE ..   one that sets variables when it succeeds
   final NAME ..       one that boots, and so ends the run
+  restart NAME ..     one that restarts the board; halt NAME .. halts it
   steady NAME ..      one that answers as before to the same words
   sub NAME WORD ..    its calls with this first word alone
   call NAME WORD .. : CLAUSE ..   its calls that fit these words
@@ -124,12 +125,12 @@ A line of the device list is one of these:
 They go together as in 'final steady sub NAME WORD VAR=VALUE'. In a sub line,
 @1=VALUE or @last=VALUE sets the variable that a word of the call names. In a
 call line, a word that ends with * is any that starts so, and a last ** any
-number of words; the clauses are final, steady, always 0 (it succeeds), always 1
-(it fails), VAR=VALUE, and VAR=@N for the Nth word. The line 'steady test' is
-about 'test -e'. With --steady each command and 'test -e' is steady, whatever
-the list says. Lines given of one VAR with other values are alternatives, each
-with each of another VAR, and --given K is the Kth. Lines that begin with # are
-skipped.
+number of words; the clauses are final, restart, halt, steady, always 0 (it
+succeeds), always 1 (it fails), VAR=VALUE, and VAR=@N for the Nth word. The line
+'steady test' is about 'test -e'. With --steady each command and 'test -e' is
+steady, whatever the list says. Lines given of one VAR with other values are
+alternatives, each with each of another VAR, and --given K is the Kth. Lines
+that begin with # are skipped.
 
 Examples:
   ubtool rehearse -d devices.txt
