@@ -1,6 +1,6 @@
--- The status that `exit` and its words have in U-Boot 2023.01 (cmd/exit.c, `do_exit`, and cmd_process of common/command.c):
--- 0 without a word, else whether the number of the word is 0 in 32 bits. More than one word is an error of usage.
-use Rattle.std.specs.Prelude.{ℕ, ◌%◌, ◌^◌, ◌==◌, ◌&&◌, List, [], ◌∷◌, if◌then◌else◌}
+-- What `exit` and its words say in U-Boot 2023.01 and 2025.01 (cmd/exit.c, `do_exit`, and cmd_process of common/command.c). More
+-- than one word is an error of usage, with status 1, which ends nothing.
+use Rattle.std.specs.Prelude.{ℕ, ◌%◌, ◌^◌, ◌==◌, ◌&&◌, nat_le, nat_lt, Bool, true, List, [], ◌∷◌, if◌then◌else◌, Option, Some, None, is_some, unwrap_or}
 use Rattle.text.specs.Bytes as ascii
 use Rattle.commands.specs.Hexadecimal.{in_word}
 use Rattle.commands.specs.Verdict.{Text, begins_hexadecimal, behind_first, read_in}
@@ -12,7 +12,37 @@ exit_number (b ∷ bytes) =
     if b == ascii.digit_zero && begins_hexadecimal bytes then read_in 16 (behind_first bytes)
     else read_in 10 (b ∷ bytes)
 
+-- ---- 2023.01: a command with a status, which ends nothing
+
+-- 0 without a word, else whether the number of the word is 0 in 32 bits
 abbrev pub uboot_exit_status : List Text → ℕ
 uboot_exit_status [] = 0
 uboot_exit_status (word ∷ []) = if in_word (exit_number word) % 2 ^ 32 == 0 then 0 else 1
 uboot_exit_status (word ∷ v ∷ ws) = 1
+
+-- ---- 2025.01: for the number n `do_exit` returns -n-2, which the old shell takes for an end with status n (`run_list_real`)
+
+-- whether -n-2 is a number of 32 bits
+abbrev pub ends_text : Text → Bool
+ends_text word = nat_lt (in_word (exit_number word)) 2147483647
+
+-- the status that a word names, if it is 0 or 1. Another one is not followed: behind a text that a `run` has started it is the
+-- status of the `run` if `exit` has ended the text, and else 1 (`parse_stream_outer`), which is not told apart here
+abbrev pub status_named : Text → Option ℕ
+status_named word = let number = in_word (exit_number word) in if nat_le number 1 then Some number else None
+
+-- the status with which the text ends, if it ends
+abbrev pub newer_exit : List Text → Option ℕ
+newer_exit [] = Some 0
+newer_exit (word ∷ []) = status_named word
+newer_exit (word ∷ v ∷ ws) = None
+
+-- the status of an `exit` that does not end the text
+abbrev pub newer_exit_status : List Text → ℕ
+newer_exit_status words = unwrap_or (newer_exit words) 1
+
+-- whether the words are followed
+abbrev pub follows_exit : List Text → Bool
+follows_exit [] = true
+follows_exit (word ∷ []) = is_some (status_named word)
+follows_exit (word ∷ v ∷ ws) = true

@@ -1,4 +1,4 @@
-//! The status of an `exit` that is a command like others, as in U-Boot 2023.01.
+//! What `exit` and its words say in U-Boot 2023.01 and 2025.01.
 ghost use Rattle.std.specs.Prelude.{◌≡◌};
 ghost use Rattle.commands.specs.Hexadecimal.{in_word};
 ghost use Rattle.commands.specs.UBootExit as says;
@@ -18,7 +18,7 @@ fn exit_number(word: &[u8]) -> u64
     }
 }
 
-/// The status that `exit` and its words have.
+/// The status that `exit` and its words have in 2023.01, where it is a command like others.
 pub fn uboot_exit_status(words: &[Vec<u8>]) -> u8
     ensures { result ≡ says.uboot_exit_status (bytes_of_words words.now) }
 {
@@ -32,5 +32,52 @@ pub fn uboot_exit_status(words: &[Vec<u8>]) -> u8
             }
         }
         _ => 1,
+    }
+}
+
+/// Whether `exit` with a word ends a text in 2025.01, where its number plays no part.
+pub fn ends_text(word: &[u8]) -> bool
+    ensures { result ≡ says.ends_text word.now }
+{
+    exit_number(word) < 2_147_483_647
+}
+
+/// The status that a word of `exit` names in 2025.01, if it is 0 or 1.
+fn status_named(word: &[u8]) -> Option<u8>
+    ensures { result ≡ says.status_named word.now }
+{
+    let number = exit_number(word);
+    if number > 1 {
+        return None;
+    }
+    Some(number as u8)
+}
+
+/// The status with which `exit` and its words end a text in 2025.01, if they end it.
+pub fn newer_exit(words: &[Vec<u8>]) -> Option<u8>
+    ensures { result ≡ says.newer_exit (bytes_of_words words.now) }
+{
+    match words {
+        [] => Some(0),
+        [word] => status_named(word),
+        [_, _, ..] => None,
+    }
+}
+
+/// The status of an `exit` of 2025.01 that does not end the text.
+pub fn newer_exit_status(words: &[Vec<u8>]) -> u8
+    ensures { result ≡ says.newer_exit_status (bytes_of_words words.now) }
+{
+    newer_exit(words).unwrap_or(1)
+}
+
+/// Whether the words of an `exit` of 2025.01 are followed: they name no number above 1.
+pub fn follows_exit(words: &[Vec<u8>]) -> bool
+    ensures { result ≡ says.follows_exit (bytes_of_words words.now) }
+{
+    match words {
+        [] => true,
+        [word] => status_named(word).is_some(),
+        [_, _, ..] => true,
     }
 }
