@@ -4,3 +4,4 @@ pub mod OldTreeLemmas
 pub mod TreeByShellLemmas
 mod OldFieldsExamples
 mod OldTreesExamples
+mod PlainExitLemmas

@@ -8,7 +8,7 @@ use Rattle.hushlang.specs.Grammar.{max_nesting}
 use Rattle.hushlang.specs.declared.tree.Op.{Op}
 use Rattle.hushlang.specs.declared.tree.Op.TheVariants.{And}
 use Rattle.hushlang_old.specs.OldTokens.{FoundWord, Token, Word, Ends, Joins, old_tokens}
-use Rattle.hushlang_old.specs.OldTrees.{Block, no_command, with_command, list_ended, body_of, Compound, Condition, Arm, Else, Test, Body, Name, In, Words, Do, Each, Building, nothing_built, command_of, command_ended, joined_by, opened, entered, ended, entered_by, has_lists, next_part, begun_by, goes_on, reserved_read, with_word, is_void, is_assignment, changes_shell, command_begun, reserved_in, first_word, is_constant_word, is_constant_with, begun_behind, further_word, command_word, word_of_for, is_in, is_do, name_in, named, word_at, word_in, word_of, list_separated, end_at, end_in, has_command, in_header, join_in, read_token, read_tokens, tree_in, tree_of_tokens, old_tree_of}
+use Rattle.hushlang_old.specs.OldTrees.{Block, no_command, with_command, list_ended, body_of, Compound, Condition, Arm, Else, Test, Body, Name, In, Words, Do, Each, Building, nothing_built, drops_number, command_of, command_ended, joined_by, opened, entered, ended, entered_by, has_lists, next_part, begun_by, goes_on, reserved_read, with_word, is_void, is_assignment, changes_shell, command_begun, reserved_in, first_word, is_constant_word, is_constant_with, begun_behind, further_word, command_word, word_of_for, is_in, is_do, name_in, named, word_at, word_in, word_of, list_separated, end_at, end_in, has_command, in_header, join_in, read_token, read_tokens, tree_in, tree_of_tokens, old_tree_of}
 use Rattle.hushlang_old.specs.declared.reserved.Reserved.{Reserved}
 use Rattle.hushlang_old.specs.declared.reserved.Reserved.TheVariants as r
 
@@ -128,14 +128,14 @@ with_ended (Some first) b f h = (lists_more b.lists (tree.Starts first (joins b.
 list_ended_block : (b : Block) → IsBlock b → IsBlock (list_ended b)
 list_ended_block b h = with_ended b.first b h.1 h
 
-command_proper : (assigning : Bool) (words : List FoundWord) → IsProperCommand (command_of assigning words)
-command_proper true words = tt
-command_proper false words = tt
+command_proper : (assigning within : Bool) (words : List FoundWord) → IsProperCommand (command_of assigning within words)
+command_proper true within words = tt
+command_proper false within words = tt
 
 ended_words : (words : List FoundWord) (b : Building) → IsBuilding b → IsBuilding (elim words [
   | [] ↦ record b { closed = false }
   | word ∷ words ↦ record b {
-    block = with_command (command_of b.assigning (word ∷ words)) b.block;
+    block = with_command (command_of b.assigning (drops_number b) (word ∷ words)) b.block;
     words = [];
     assigning = false;
     behind = false;
@@ -143,7 +143,7 @@ ended_words : (words : List FoundWord) (b : Building) → IsBuilding b → IsBui
   }
 ])
 ended_words [] b h = h
-ended_words (word ∷ words) b h = (with_command_block (command_of b.assigning (word ∷ words)) b.block (command_proper b.assigning (word ∷ words)) h.0, h.1)
+ended_words (word ∷ words) b h = (with_command_block (command_of b.assigning (drops_number b) (word ∷ words)) b.block (command_proper b.assigning (drops_number b) (word ∷ words)) h.0, h.1)
 
 command_ended_building : (b : Building) → IsBuilding b → IsBuilding (command_ended b)
 command_ended_building b h = ended_words b.words b h
@@ -298,10 +298,10 @@ built_by : (built : Option Building) → MayBe built → IsTree (elim built [ No
 built_by None h = tt
 built_by (Some b) h = tree_by b.opens b h
 
-text_by : (tokens : Option (List Token)) → IsTree (elim tokens [ None ↦ None | Some tokens ↦ tree_of_tokens tokens ])
-text_by None = tt
-text_by (Some tokens) = built_by (read_tokens tokens nothing_built) (tokens_by tokens nothing_built ((tt, tt, tt), tt))
+text_by : (newer : Bool) (tokens : Option (List Token)) → IsTree (elim tokens [ None ↦ None | Some tokens ↦ tree_of_tokens newer tokens ])
+text_by newer None = tt
+text_by newer (Some tokens) = built_by (read_tokens tokens (nothing_built newer)) (tokens_by tokens (nothing_built newer) ((tt, tt, tt), tt))
 
-pub old_trees_are_proper : (text : List ℕ) (script : Script) → old_tree_of text ≡ Some script → IsProper script
+pub old_trees_are_proper : (newer : Bool) (text : List ℕ) (script : Script) → old_tree_of newer text ≡ Some script → IsProper script
 unfolding old_tree_of
-old_trees_are_proper text script e = subst IsTree e (text_by (old_tokens text))
+old_trees_are_proper newer text script e = subst IsTree e (text_by newer (old_tokens text))

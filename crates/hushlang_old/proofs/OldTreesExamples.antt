@@ -5,6 +5,7 @@ use Rattle.std.specs.Prelude.{codes}
 use Rattle.std.specs.List.{flat_map}
 use Rattle.hushlang.specs.Tree.{Script, Empty, Runs, Starts, Alone, Joins, Simple, Assign, If, Arm, Else, NoElse, Loop, For, Bytes, Mark, Var, Status, Word}
 use Rattle.hushlang.specs.Trees.{tree_of}
+use Rattle.hushlang.specs.Expansion.{atoms, fields}
 use Rattle.hushlang_old.specs.OldTrees.{old_tree_of, lacks_end}
 
 abbrev Text : Type 0
@@ -15,7 +16,7 @@ abbrev Pair : Type 0
 Pair = Text × Text
 
 abbrev by_shell : List Pair → List (Option Script)
-by_shell pairs = map (λ pair. old_tree_of pair.0) pairs
+by_shell pairs = map (λ pair. old_tree_of false pair.0) pairs
 
 abbrev by_profile : List Pair → List (Option Script)
 by_profile pairs = map (λ pair. tree_of pair.1) pairs
@@ -51,7 +52,7 @@ words_read = refl
 abbrev one : Word → Option Script
 one word = Some (Runs (Starts (Simple (word ∷ [])) Alone) Empty)
 
-own_words : map old_tree_of (codes "a\\\nb" ∷ codes "a\\" ∷ codes "${?}" ∷ [])
+own_words : map (old_tree_of false) (codes "a\\\nb" ∷ codes "a\\" ∷ codes "${?}" ∷ [])
     ≡ one (Bytes (codes "a\nb") ∷ []) ∷ one (Bytes (codes "a\n") ∷ []) ∷ one (Var (codes "?") true ∷ []) ∷ []
 unfolding old_tree_of
 own_words = refl
@@ -87,12 +88,28 @@ a = Runs (Starts (Simple ((Bytes (codes "a") ∷ []) ∷ [])) Alone) Empty
 abbrev nothing : Script
 nothing = Runs (Starts (Simple []) Alone) Empty
 
-empty_blocks : map old_tree_of (codes "if a; then # b\nfi" ∷ codes "if a; then fi" ∷ codes "if a; then; elif a; then a; else; fi" ∷ codes "while a; do done" ∷ codes "for x in y; do\ndone" ∷ [])
+empty_blocks : map (old_tree_of false) (codes "if a; then # b\nfi" ∷ codes "if a; then fi" ∷ codes "if a; then; elif a; then a; else; fi" ∷ codes "while a; do done" ∷ codes "for x in y; do\ndone" ∷ [])
     ≡ Some (Runs (Starts (If (Arm a nothing NoElse)) Alone) Empty) ∷ Some (Runs (Starts (If (Arm a nothing NoElse)) Alone) Empty)
     ∷ Some (Runs (Starts (If (Arm a nothing (Arm a a (Else nothing)))) Alone) Empty)
     ∷ Some (Runs (Starts (Loop false a nothing) Alone) Empty) ∷ Some (Runs (Starts (For (codes "x") ((Bytes (codes "y") ∷ []) ∷ []) nothing) Alone) Empty) ∷ []
 unfolding old_tree_of
 empty_blocks = refl
+
+-- ---- `exit` in 2025.01, as a sandbox of that version has it
+
+-- Each text is read there as the other one is in 2023.01: within a compound command an `exit` loses its number, unless a variable is
+-- in its words, more words are there, or its number is none that ends the text.
+abbrev exits : List Pair
+exits =
+    (codes "exit 3; if exit 0x5; then b; fi && exit 4", codes "exit 3; if exit; then b; fi && exit 4")
+    ∷ (codes "if a; then 'exit' \"5x\"; else exit foo || exit ''; fi", codes "if a; then exit; else exit || exit; fi")
+    ∷ (codes "while \\exit -1; do x=1 exit 2147483646; done", codes "while exit; do x=1 exit; done")
+    ∷ (codes "for x in exit 3; do until exit 1; do a; done; done", codes "for x in exit 3; do until exit; do a; done; done")
+    ∷ alike (codes "if a; then exit; exit $x; exit $?; exit 1 2; exit 2147483647; $e 3; exits 3; fi") ∷ []
+
+exits_read : map (λ pair. old_tree_of true pair.0) exits ≡ map (λ pair. old_tree_of false pair.1) exits
+unfolding old_tree_of fields atoms
+exits_read = refl
 
 -- ---- texts that are not followed
 
@@ -105,7 +122,7 @@ broken_words =
     codes "'a" ∷ codes "\"a" ∷ codes "${a" ∷ codes "${a:-b}" ∷ codes "${}" ∷ codes "a & b" ∷ codes "a | b" ∷ codes "a &| b" ∷ codes "a &" ∷ codes "'a\\' b"
     ∷ codes "\"it's\"" ∷ (97 ∷ 3 ∷ []) ∷ (97 ∷ 4 ∷ []) ∷ (97 ∷ 128 ∷ []) ∷ (39 ∷ 200 ∷ 39 ∷ []) ∷ (92 ∷ 200 ∷ []) ∷ []
 
-broken_words_refused : map old_tree_of broken_words ≡ nothing_of broken_words
+broken_words_refused : map (old_tree_of false) broken_words ≡ nothing_of broken_words
 unfolding old_tree_of
 broken_words_refused = refl
 
@@ -115,7 +132,7 @@ broken_commands =
     codes "&& a" ∷ codes "a && && b" ∷ codes "\"\" a" ∷ codes "x=$a load" ∷ codes "x=1 load $a" ∷ codes "x=1 load a $?" ∷ codes "HUSH_VERSION=1" ∷ codes "x=1 HUSH_NO_EVAL=1"
     ∷ codes "in" ∷ codes "fi" ∷ codes "'done'" ∷ []
 
-broken_commands_refused : map old_tree_of broken_commands ≡ nothing_of broken_commands
+broken_commands_refused : map (old_tree_of false) broken_commands ≡ nothing_of broken_commands
 unfolding old_tree_of
 broken_commands_refused = refl
 
@@ -127,7 +144,7 @@ broken_compounds =
     ∷ codes "for $x in a; do b; done" ∷ codes "for HUSH_VERSION in a; do b; done" ∷ codes "for x; in a; do b; done" ∷ codes "for; x in a; do b; done" ∷ codes "for x on a; do b; done" ∷ codes "for x in fi; do b; done"
     ∷ codes "for x in a && b; do c; done" ∷ codes "for x in a; b; do c; done" ∷ []
 
-broken_compounds_refused : map old_tree_of broken_compounds ≡ nothing_of broken_compounds
+broken_compounds_refused : map (old_tree_of false) broken_compounds ≡ nothing_of broken_compounds
 unfolding old_tree_of
 broken_compounds_refused = refl
 
@@ -140,7 +157,7 @@ abbrev with_end : List Text
 with_end =
     codes "" ∷ codes "a; b" ∷ codes "if a; then b; fi" ∷ codes "fi" ∷ codes "'a" ∷ codes "if 'a" ∷ codes "if a; then b; fi fi" ∷ codes "if a; b; fi; if c" ∷ codes "for" ∷ codes "for x" ∷ codes "if ${a:-b}; then" ∷ codes "if a && " ∷ []
 
-ends_missing : map lacks_end without_end ++ map lacks_end with_end ≡ map (λ text. true) without_end ++ map (λ text. false) (drop 1 with_end) ++ true ∷ []
+ends_missing : map (lacks_end false) without_end ++ map (lacks_end false) with_end ≡ map (λ text. true) without_end ++ map (λ text. false) (drop 1 with_end) ++ true ∷ []
 unfolding lacks_end
 ends_missing = refl
 
@@ -148,6 +165,6 @@ ends_missing = refl
 abbrev nested : ℕ → Text
 nested levels = flat_map {X = ℕ} (λ level. codes "if a; then ") (replicate levels 0) ++ codes "a" ++ flat_map {X = ℕ} (λ level. codes "; fi") (replicate levels 0)
 
-nesting : map is_some (old_tree_of (nested 64) ∷ old_tree_of (nested 65) ∷ []) ≡ true ∷ false ∷ []
+nesting : map is_some (old_tree_of false (nested 64) ∷ old_tree_of false (nested 65) ∷ []) ≡ true ∷ false ∷ []
 unfolding old_tree_of
 nesting = refl

@@ -13,8 +13,8 @@ use Rattle.rehearse_terms.specs.declared.shell.Shell.TheVariants.{Profile, Old20
 
 pub trees_in_are_proper : (shell : Shell) (text : List ℕ) (script : Script) → tree_in shell text ≡ Some script → IsProper script
 trees_in_are_proper Profile text script e = trees_are_proper text script e
-trees_in_are_proper Old2023 text script e = old_trees_are_proper text script e
-trees_in_are_proper Old2025 text script e = old_trees_are_proper text script e
+trees_in_are_proper Old2023 text script e = old_trees_are_proper false text script e
+trees_in_are_proper Old2025 text script e = old_trees_are_proper true text script e
 
 closed_by : (opens : List (Compound × Block)) (tree script : Script) → elim opens [ [] ↦ Some tree | first ∷ more ↦ None ] ≡ Some script → elim opens [ [] ↦ false | first ∷ more ↦ true ] ≡ false
 closed_by [] tree script e = refl
@@ -24,15 +24,15 @@ built_closed : (built : Option Building) (script : Script) → elim built [ None
 built_closed None script e = refl
 built_closed (Some b) script e = closed_by b.opens (runs b.block.lists) script e
 
-tokens_closed : (tokens : Option (List Token)) (script : Script) → elim tokens [ None ↦ None | Some ts ↦ tree_of_tokens ts ] ≡ Some script → elim tokens [ None ↦ false | Some ts ↦ are_open ts ] ≡ false
-tokens_closed None script e = refl
-tokens_closed (Some ts) script e = built_closed (read_tokens ts nothing_built) script e
+tokens_closed : (newer : Bool) (tokens : Option (List Token)) (script : Script) → elim tokens [ None ↦ None | Some ts ↦ tree_of_tokens newer ts ] ≡ Some script → elim tokens [ None ↦ false | Some ts ↦ are_open newer ts ] ≡ false
+tokens_closed newer None script e = refl
+tokens_closed newer (Some ts) script e = built_closed (read_tokens ts (nothing_built newer)) script e
 
-old_has_end : (text : List ℕ) (script : Script) → old_tree_of text ≡ Some script → lacks_end text ≡ false
+old_has_end : (newer : Bool) (text : List ℕ) (script : Script) → old_tree_of newer text ≡ Some script → lacks_end newer text ≡ false
 unfolding old_tree_of lacks_end
-old_has_end text script e = tokens_closed (old_tokens text) script e
+old_has_end newer text script e = tokens_closed newer (old_tokens text) script e
 
 pub read_has_end : (shell : Shell) (text : List ℕ) (script : Script) → tree_in shell text ≡ Some script → lacks_end_in shell text ≡ false
 read_has_end Profile text script e = refl
-read_has_end Old2023 text script e = old_has_end text script e
-read_has_end Old2025 text script e = old_has_end text script e
+read_has_end Old2023 text script e = old_has_end false text script e
+read_has_end Old2025 text script e = old_has_end true text script e

@@ -2,7 +2,8 @@
 -- token. A block without a command has one without words: it does nothing and keeps the status. A text that has a
 -- construct that is not followed here has no tree: a fault; a condition without a command; an operator without a command in front of
 -- it; a word straight behind a compound command; `then` straight in front of `elif`; an assignment in front of a command
--- where either has a variable; and the names `HUSH_VERSION` and `HUSH_NO_EVAL`, by which the shell changes.
+-- where either has a variable; and the names `HUSH_VERSION` and `HUSH_NO_EVAL`, by which the shell changes. 2023.01 and 2025.01
+-- read the same; but what `exit` does in 2025.01 depends on where it stands, and that is in its tree.
 use Rattle.std.specs.Prelude.{ℕ, ◌+◌, ◌==◌, Bool, true, false, not, ◌&&◌, ◌||◌, List, [], ◌∷◌, ◌++◌, length, map, take, drop, nat_lt, if◌then◌else◌, Option, Some, None, is_some, unwrap_or, codes, bytes_eq}
 use Rattle.std.specs.List.{list_all, prefix_len}
 use Rattle.text.specs.Bytes as ascii
@@ -11,9 +12,10 @@ use Rattle.hushlang.specs.Tree.{Piece, Script, AndOr, Joined, Command, Arms}
 use Rattle.hushlang.specs.TreesShown.{runs, joins, arms as all_arms}
 use Rattle.hushlang.specs.Grammar.{max_nesting}
 use Rattle.hushlang.specs.WordPieces.{in_piece}
-use Rattle.hushlang.specs.KnownFields.{is_constant}
+use Rattle.hushlang.specs.KnownFields.{is_constant, known_fields}
 use Rattle.hushlang.specs.declared.tree.Op.{Op}
 use Rattle.hushlang.specs.declared.tree.Op.TheVariants.{And, Or}
+use Rattle.commands.specs.UBootExit.{ends_text}
 use Rattle.hushlang_old.specs.OldFields.{has_bytes}
 use Rattle.hushlang_old.specs.OldTokens.{FoundWord, Token, Word, Ends, Joins, is_letter, is_name_byte, read, read_open, old_tokens}
 use Rattle.hushlang_old.specs.declared.reserved.Reserved.{Reserved}
@@ -148,10 +150,11 @@ pub data Compound : Type 0 where
   Do : (name : List ℕ) → (words : List tree.Word) → Compound
   Each : (name : List ℕ) → (words : List tree.Word) → Compound
 
--- the block on the way; each open compound command with the block that it stands in, the innermost first; the words on the way,
--- whether all of them are assignments, and whether assignments are in front of them; and whether a compound command has just
--- ended
+-- whether the text is read for 2025.01; the block on the way; each open compound command with the block that it stands in, the
+-- innermost first; the words on the way, whether all of them are assignments, and whether assignments are in front of them; and
+-- whether a compound command has just ended
 pub record Building : Type 0 where
+  pub newer : Bool
   pub block : Block
   pub opens : List (Compound × Block)
   pub words : List FoundWord
@@ -159,21 +162,51 @@ pub record Building : Type 0 where
   pub behind : Bool
   pub closed : Bool
 
-abbrev pub nothing_built : Building
-nothing_built = record { block = no_command; opens = []; words = []; assigning = false; behind = false; closed = false }
+abbrev pub nothing_built : (newer : Bool) → Building
+nothing_built newer = record {
+  newer = newer;
+  block = no_command;
+  opens = [];
+  words = [];
+  assigning = false;
+  behind = false;
+  closed = false;
+}
+
+abbrev pub is_open : Building → Bool
+is_open b = elim b.opens [ [] ↦ false | first ∷ opens ↦ true ]
+
+-- ---- `exit` in 2025.01
+
+-- the fields of an `exit` with a number; no variable is in its words
+abbrev pub is_plain_exit : Option (List (List ℕ)) → Bool
+is_plain_exit (Some (name ∷ number ∷ [])) = bytes_eq name (codes "exit") && ends_text number
+is_plain_exit fields = false
+
+abbrev pub exit_alone : List tree.Word
+exit_alone = (tree.Bytes (codes "exit") ∷ []) ∷ []
+
+-- Within a compound command an `exit` ends the text as one without a number does: each list that it passes on its way out gives
+-- the status 0 to the next (`run_list_real`, by its return value -2).
+abbrev pub without_number : (within : Bool) → List tree.Word → List tree.Word
+without_number within words = if within && is_plain_exit (known_fields words) then exit_alone else words
+
+-- whether `exit` loses its number here
+abbrev pub drops_number : Building → Bool
+drops_number b = b.newer && is_open b
 
 -- ---- the end of a command
 
-abbrev pub command_of : (assigning : Bool) → List FoundWord → Command
-command_of true words = tree.Assign (map value_of words)
-command_of false words = tree.Simple (map word_of words)
+abbrev pub command_of : (assigning within : Bool) → List FoundWord → Command
+command_of true within words = tree.Assign (map value_of words)
+command_of false within words = tree.Simple (without_number within (map word_of words))
 
 -- the words on the way are a command (`done_command`)
 abbrev pub command_ended : Building → Building
 command_ended b = elim b.words [
   | [] ↦ record b { closed = false }
   | word ∷ words ↦ record b {
-    block = with_command (command_of b.assigning (word ∷ words)) b.block;
+    block = with_command (command_of b.assigning (drops_number b) (word ∷ words)) b.block;
     words = [];
     assigning = false;
     behind = false;
@@ -355,20 +388,18 @@ read_tokens (token ∷ tokens) b = elim (read_token token b) [ None ↦ None | S
 abbrev pub tree_in : Building → Option Script
 tree_in b = elim b.opens [ [] ↦ Some (runs b.block.lists) | first ∷ opens ↦ None ]
 
-abbrev pub tree_of_tokens : List Token → Option Script
-tree_of_tokens tokens = elim (read_tokens tokens nothing_built) [ None ↦ None | Some b ↦ tree_in b ]
+abbrev pub tree_of_tokens : (newer : Bool) → List Token → Option Script
+tree_of_tokens newer tokens = elim (read_tokens tokens (nothing_built newer)) [ None ↦ None | Some b ↦ tree_in b ]
 
-unfoldable pub old_tree_of : (text : List ℕ) → Option Script
+-- the tree of a text in 2023.01, or in 2025.01
+unfoldable pub old_tree_of : (newer : Bool) → (text : List ℕ) → Option Script
 unfolding old_tokens read read_open reserved_bytes assignment read_token
-old_tree_of text = elim (old_tokens text) [ None ↦ None | Some tokens ↦ tree_of_tokens tokens ]
+old_tree_of newer text = elim (old_tokens text) [ None ↦ None | Some tokens ↦ tree_of_tokens newer tokens ]
 
 -- whether the text ends in a compound command that is open
-abbrev pub is_open : Building → Bool
-is_open b = elim b.opens [ [] ↦ false | first ∷ opens ↦ true ]
+abbrev pub are_open : (newer : Bool) → List Token → Bool
+are_open newer tokens = elim (read_tokens tokens (nothing_built newer)) [ None ↦ false | Some b ↦ is_open b ]
 
-abbrev pub are_open : List Token → Bool
-are_open tokens = elim (read_tokens tokens nothing_built) [ None ↦ false | Some b ↦ is_open b ]
-
-unfoldable pub lacks_end : (text : List ℕ) → Bool
+unfoldable pub lacks_end : (newer : Bool) → (text : List ℕ) → Bool
 unfolding old_tokens read read_open reserved_bytes assignment read_token
-lacks_end text = elim (old_tokens text) [ None ↦ false | Some tokens ↦ are_open tokens ]
+lacks_end newer text = elim (old_tokens text) [ None ↦ false | Some tokens ↦ are_open newer tokens ]

@@ -63,6 +63,7 @@ when false b = None
 
 abbrev pub building : Building → says.Building
 building b = record {
+  newer = b.newer;
   block = block b.block;
   opens = opens b.opens;
   words = map tokens.word b.words.items;

@@ -11,7 +11,8 @@ use crate::found_words::{
     changes_shell, is_assignment, is_constant_word, name_in, reserved_in, values_of, words_of,
 };
 use crate::old_tokens::{FoundWord, Token};
-use crate::open_commands::{Arms, Block, Compound, Opens, body_of, call_of};
+use crate::open_commands::{Arms, Block, Compound, Opens, body_of};
+use crate::plain_exit::simple_call;
 use crate::reserved::Reserved;
 use hushlang::{AndOr, Command, Op, Script};
 use std::alloc::{AllocError, Global};
@@ -21,12 +22,13 @@ use std::rc::Rc;
 /// How deep compound commands may be nested.
 const MAX_NESTING: usize = 64;
 
-/// The block on the way; the compound commands that are open; the words on the way, whether all of
-/// them are assignments, and whether assignments are in front of them; and whether a compound command
-/// has just ended.
+/// Whether the text is read for 2025.01; the block on the way; the compound commands that are open;
+/// the words on the way, whether all of them are assignments, and whether assignments are in front of
+/// them; and whether a compound command has just ended.
 #[derive(Drop)]
 pub(crate) struct Building {
     alloc: Global,
+    newer: bool,
     block: Block,
     opens: Opens,
     words: Vec<FoundWord>,
@@ -49,11 +51,13 @@ fn begun_by(alloc: Global, word: Reserved) -> Option<Compound>
 }
 
 impl Building {
-    pub(crate) fn new(alloc: Global) -> Building
-        ensures { shown.building result ≡ says.nothing_built }
+    /// Nothing is built yet. `newer` says whether the text is read for 2025.01.
+    pub(crate) fn new(alloc: Global, newer: bool) -> Building
+        ensures { shown.building result ≡ says.nothing_built newer }
     {
         Building {
             alloc,
+            newer,
             block: Block::new(alloc),
             opens: Opens::new(alloc),
             words: Vec::new(alloc),
@@ -67,7 +71,8 @@ impl Building {
     #[tactic(auto, using(hushlang::proofs::ViewLemmas::what_it_says))]
     fn take_command(&mut self) -> Result<Command, AllocError>
         ensures command { IfOk result (λ command. view.command command
-            ≡ says.command_of self.old.assigning (map tokens.word self.old.words.items)) }
+            ≡ says.command_of self.old.assigning (says.drops_number (shown.building self.old))
+            (map tokens.word self.old.words.items)) }
         ensures after { OnOk result (shown.building self.new
             ≡ shown.without_words (shown.building self.old)) }
     {
@@ -77,7 +82,8 @@ impl Building {
             return Ok(Command::Assign(values_of(self.alloc, words)?));
         }
         let words = words_of(self.alloc, words)?;
-        Ok(Command::Simple(call_of(self.alloc, words)?))
+        let within = self.newer && self.is_open();
+        Ok(Command::Simple(simple_call(self.alloc, within, words)?))
     }
 
     /// The words on the way are a command.

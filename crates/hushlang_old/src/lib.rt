@@ -8,6 +8,7 @@ mod old_tokens;
 mod old_trees;
 mod old_words;
 mod open_commands;
+mod plain_exit;
 mod rereading;
 mod reserved;
 mod trees_by_shell;

@@ -10,12 +10,12 @@ use crate::old_tokens::{Token, old_tokens};
 use hushlang::Script;
 use std::alloc::{AllocError, Global};
 
-/// What is built of tokens, if all of them are followed.
-fn build(alloc: Global, found: Vec<Token>) -> Result<Option<Building>, AllocError>
+/// What is built of tokens, if all of them are followed. `newer` says whether for 2025.01.
+fn build(alloc: Global, newer: bool, found: Vec<Token>) -> Result<Option<Building>, AllocError>
     ensures { IfOk result (λ built. option_map shown.building built
-        ≡ says.read_tokens (tokens.tokens found) says.nothing_built) }
+        ≡ says.read_tokens (tokens.tokens found) (says.nothing_built newer)) }
 {
-    let mut building = Building::new(alloc);
+    let mut building = Building::new(alloc, newer);
     for token in found.into_iter() {
         let followed = building.read_token(token)?;
         if !followed {
@@ -26,34 +26,38 @@ fn build(alloc: Global, found: Vec<Token>) -> Result<Option<Building>, AllocErro
 }
 
 /// The tree of tokens.
-fn tree_of_tokens(alloc: Global, found: Vec<Token>) -> Result<Option<Script>, AllocError>
+fn tree_of_tokens(
+    alloc: Global,
+    newer: bool,
+    found: Vec<Token>,
+) -> Result<Option<Script>, AllocError>
     ensures { IfOk result (λ script. option_map view.script script
-        ≡ says.tree_of_tokens (tokens.tokens found)) }
+        ≡ says.tree_of_tokens newer (tokens.tokens found)) }
 {
-    match build(alloc, found)? {
+    match build(alloc, newer, found)? {
         Some(building) => Ok(building.into_tree()),
         None => Ok(None),
     }
 }
 
 /// Whether tokens end in a compound command that is open.
-fn are_open(alloc: Global, found: Vec<Token>) -> Result<bool, AllocError>
-    ensures { IfOk result (λ is. is ≡ says.are_open (tokens.tokens found)) }
+fn are_open(alloc: Global, newer: bool, found: Vec<Token>) -> Result<bool, AllocError>
+    ensures { IfOk result (λ is. is ≡ says.are_open newer (tokens.tokens found)) }
 {
-    match build(alloc, found)? {
+    match build(alloc, newer, found)? {
         Some(building) => Ok(building.is_open()),
         None => Ok(false),
     }
 }
 
-/// Reads the tree of a text as U-Boot's old shell does. A text that has a construct that is not
-/// followed has none.
+/// Reads the tree of a text as U-Boot's old shell does, that of 2023.01 or a newer one, that of
+/// 2025.01. A text that has a construct that is not followed has none. Errors: memory ran out.
 #[tactic(auto, unfolding(crate::specs::OldTrees::old_tree_of))]
-pub fn read_old(alloc: Global, text: &[u8]) -> Result<Option<Script>, AllocError>
-    ensures { IfOk result (λ found. option_map view.script found ≡ says.old_tree_of text.now) }
+pub fn read_old(alloc: Global, newer: bool, text: &[u8]) -> Result<Option<Script>, AllocError>
+    ensures { IfOk result (λ found. option_map view.script found ≡ says.old_tree_of newer text.now) }
 {
     match old_tokens(alloc, text)? {
-        Some(tokens) => tree_of_tokens(alloc, tokens),
+        Some(tokens) => tree_of_tokens(alloc, newer, tokens),
         None => Ok(None),
     }
 }
@@ -61,11 +65,11 @@ pub fn read_old(alloc: Global, text: &[u8]) -> Result<Option<Script>, AllocError
 /// Whether a text has no tree since it ends in a compound command that is open. To U-Boot's old shell
 /// that is a fault. Errors: memory ran out.
 #[tactic(auto, unfolding(crate::specs::OldTrees::lacks_end))]
-pub fn lacks_end(alloc: Global, text: &[u8]) -> Result<bool, AllocError>
-    ensures { IfOk result (λ lacks. lacks ≡ says.lacks_end text.now) }
+pub fn lacks_end(alloc: Global, newer: bool, text: &[u8]) -> Result<bool, AllocError>
+    ensures { IfOk result (λ lacks. lacks ≡ says.lacks_end newer text.now) }
 {
     match old_tokens(alloc, text)? {
-        Some(tokens) => are_open(alloc, tokens),
+        Some(tokens) => are_open(alloc, newer, tokens),
         None => Ok(false),
     }
 }

@@ -28,7 +28,8 @@ pub fn read_text(alloc: Global, shell: Shell, text: &[u8]) -> Result<Option<Scri
 {
     match shell {
         Shell::Profile => read_profile(alloc, text),
-        Shell::Old2023 | Shell::Old2025 => read_old(alloc, text),
+        Shell::Old2023 => read_old(alloc, false, text),
+        Shell::Old2025 => read_old(alloc, true, text),
     }
 }
 
@@ -39,6 +40,7 @@ pub fn text_lacks_end(alloc: Global, shell: Shell, text: &[u8]) -> Result<bool, 
 {
     match shell {
         Shell::Profile => Ok(false),
-        Shell::Old2023 | Shell::Old2025 => lacks_end(alloc, text),
+        Shell::Old2023 => lacks_end(alloc, false, text),
+        Shell::Old2025 => lacks_end(alloc, true, text),
     }
 }

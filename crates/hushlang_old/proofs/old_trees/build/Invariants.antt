@@ -8,4 +8,4 @@ use Rattle.hushlang_old.proofs.old_trees.build.Given as goal
 abbrev pub invariant-loop-token : goal.invariant-loop-token
 invariant-loop-token l =
     says.read_tokens (map tokens.token (into_iter_items l.token-iterator)) (shown.building l.building)
-    ≡ says.read_tokens (tokens.tokens l.fn.found) says.nothing_built
+    ≡ says.read_tokens (tokens.tokens l.fn.found) (says.nothing_built l.fn.newer)
