@@ -10,7 +10,7 @@ use Rattle.rehearse_terms.specs.State.{Text, get, State, start}
 use Rattle.rehearse_rules.specs.Parameters.{parameters_in}
 use Rattle.device_list.specs.Called.{Called, BuiltIn, Device, NoCommand, called_by, sets_in}
 use Rattle.commands.specs.BuiltInCommands.{ChangesVariables, WritesText, RunsTexts, Tests, Exits}
-use Rattle.rehearse_rules.specs.ByShell.{unread, leaves_in, status_of_exit, asks_in, truth_in, fields_in, turns_in, skips_rest, status_of_loop, follows, assigned_in}
+use Rattle.rehearse_rules.specs.ByShell.{unread, leaves_in, status_of_exit, asks_in, truth_in, fields_in, turns_in, skips_rest, status_of_loop, follows, assigned_in, reads_again}
 use Rattle.rehearse_rules.specs.Execution.{Limits, Answer, Normal, Exit, Ended, Dry, Ending, CutDevices, CutSteps, Size, go_on, set_status, status_when, goes, holds, begin, take_outcome, with_outcome, outcome_when, told, told_again, tell_or_take, device, Request, logged, set_environment, finish, text_end, run_text, run_all, command, simple, sized, assign, turns, begin_turn, for_each, exec_script, exec_list, exec_joined, exec_command, exec_arms, exec, Unsupported, assign_local, request_of, test_request, started_text}
 use Rattle.rehearse_rules.specs.Runs.{Task, run_on, state_of, steps}
 use Rattle.hushlang_old.proofs.TreeByShellLemmas.{trees_in_are_proper}
@@ -125,19 +125,19 @@ module _ (limits : Limits) where
     leave-ends (Some k) other t h = h
     leave-ends None other t h = h
 
-    command-ends : (b : Called) (name : Text) (ws : List Text) (t : State) → IsWithin t → limits.step_bound < n + t.steps → Ends (command limits script b name ws t)
-    command-ends (BuiltIn (ChangesVariables change)) name ws t h r = h
-    command-ends (BuiltIn RunsTexts) name [] t h r = h
-    command-ends (BuiltIn RunsTexts) name (w ∷ ws) t h r = run-ends (w ∷ ws) t h r
-    command-ends (BuiltIn Tests) name ws t h r = Ends-if (asks_in limits.shell ws) (device limits (test_request limits name ws) t) (Normal (set_status (status_when (truth_in limits.shell ws)) t)) (λ e. device-ends t (test_request limits name ws) h) (λ e. h)
-    command-ends (BuiltIn (WritesText written)) name ws t h r = h
-    command-ends (BuiltIn Exits) name ws t h r = leave-ends (leaves_in limits.shell ws) (status_of_exit limits.shell ws) t h
-    command-ends (Device effect) name ws t h r = device-ends t (request_of name ws effect) h
-    command-ends NoCommand name ws t h r = (h, tt)
+    command-ends : (again : Bool) (b : Called) (name : Text) (ws : List Text) (t : State) → IsWithin t → limits.step_bound < n + t.steps → Ends (command limits again script b name ws t)
+    command-ends again (BuiltIn (ChangesVariables change)) name ws t h r = h
+    command-ends again (BuiltIn RunsTexts) name [] t h r = h
+    command-ends again (BuiltIn RunsTexts) name (w ∷ ws) t h r = run-ends (w ∷ ws) t h r
+    command-ends again (BuiltIn Tests) name ws t h r = Ends-if (asks_in limits.shell ws) (device limits (test_request limits name ws) t) (Normal (set_status (status_when (truth_in limits.shell ws)) t)) (λ e. device-ends t (test_request limits name ws) h) (λ e. h)
+    command-ends again (BuiltIn (WritesText written)) name ws t h r = h
+    command-ends again (BuiltIn Exits) name ws t h r = leave-ends (leaves_in limits.shell again ws) (status_of_exit limits.shell ws) t h
+    command-ends again (Device effect) name ws t h r = device-ends t (request_of name ws effect) h
+    command-ends again NoCommand name ws t h r = (h, tt)
 
-    simple-ends : (fs : List Text) (t : State) → IsWithin t → limits.step_bound < n + t.steps → Ends (simple limits script fs t)
-    simple-ends [] t h r = h
-    simple-ends (name ∷ ws) t h r = Ends-if (follows limits.shell limits.devices name ws) (command limits script (called_by limits.devices name ws) name ws t) (Ended (Unsupported name) t) (λ e. command-ends (called_by limits.devices name ws) name ws t h r) (λ e. (h, tt))
+    simple-ends : (again : Bool) (fs : List Text) (t : State) → IsWithin t → limits.step_bound < n + t.steps → Ends (simple limits again script fs t)
+    simple-ends again [] t h r = h
+    simple-ends again (name ∷ ws) t h r = Ends-if (follows limits.shell limits.devices name ws) (command limits again script (called_by limits.devices name ws) name ws t) (Ended (Unsupported name) t) (λ e. command-ends again (called_by limits.devices name ws) name ws t h r) (λ e. (h, tt))
 
   -- over the tree, with n steps left
   module _ (n : ℕ) (text : Script → State → Answer) (kept : (a : Script) → KeepsAll limits (text a)) (ends : (a : Script) → IsProper a → (t : State) → IsWithin t → limits.step_bound < n + t.steps → Ends (text a t)) where
@@ -172,7 +172,7 @@ module _ (limits : Limits) where
       joined-ends (tree.Joins op c rest) p s r = Ends-if (goes op s.memory.status) (go_on (exec_command limits n text c s) (exec_joined limits n text rest)) (skipped limits (exec_joined limits n text rest) s) (λ x. Ends-go_on s (exec_command limits n text c s) (exec_joined limits n text rest) (Keeps-one limits n text kept c s).0 (one-ends c p.0 s r) (λ t w e. joined-ends rest p.1 t (w, let b = r.1 in omega arith))) (λ x. Ends-if (skips_rest limits.shell) (Normal s) (exec_joined limits n text rest s) (λ y. r.0) (λ y. joined-ends rest p.1 s r))
 
       one-ends : (a : Command) → IsProperCommand a → EndsAll n (exec_command limits n text a)
-      one-ends (tree.Simple words) p s r = Ends-begin n (λ t. sized (fields_in limits.shell (parameters_in t.memory) words) (simple limits text) t) (λ t h q. Ends-sized (fields_in limits.shell (parameters_in t.memory) words) (simple limits text) t h (simple-ends n text kept ends (fields_in limits.shell (parameters_in t.memory) words) t h q)) s r
+      one-ends (tree.Simple words) p s r = Ends-begin n (λ t. sized (fields_in limits.shell (parameters_in t.memory) words) (simple limits (reads_again words) text) t) (λ t h q. Ends-sized (fields_in limits.shell (parameters_in t.memory) words) (simple limits (reads_again words) text) t h (simple-ends n text kept ends (reads_again words) (fields_in limits.shell (parameters_in t.memory) words) t h q)) s r
       one-ends (tree.Assign pairs) p s r = Ends-begin n (assign limits.shell pairs) (λ t h q. Ends-assign pairs t h) s r
       one-ends (tree.If arms) p s r = arm-ends arms p s r
       one-ends (tree.Loop until c b) p s r = turns-end n until (exec_script limits n text c) (exec_script limits n text b) (Keeps-script limits n text kept c) (Keeps-script limits n text kept b) (block-ends c p.0) (block-ends b p.1) (Grew-block limits n text kept c p.0) 0 s r.0 r.1 r.1

@@ -12,13 +12,13 @@ use Rattle.builtins.specs.Builtins.{Builtin, builtin_of}
 use Rattle.commands.specs.KnownCommands.{Known, known_of}
 use Rattle.commands.specs.Computed.{Computed, computes}
 use Rattle.device_list.specs.Called.{Called, BuiltIn, listed_by, other_called, called_by}
-use Rattle.commands.specs.BuiltInCommands.{Deed, ChangesVariables, WritesText, RunsTexts, Tests, Exits, deed_of, carried, asks_device}
+use Rattle.commands.specs.BuiltInCommands.{Deed, ChangesVariables, WritesText, RunsTexts, Tests, Exits, deed_of, carried, asks_device, exit_status}
 use Rattle.commands.specs.Verdict.{verdict}
 use Rattle.device_list.specs.DeviceList.{Devices, computed_by}
-use Rattle.rehearse_rules.specs.ByShell.{asks_in, truth_in, fields_in, turns_in, skips_rest, status_of_nothing, status_of_no_block, follows, question_in, truth_if}
+use Rattle.rehearse_rules.specs.ByShell.{reads_again, leaves_in, status_of_exit, asks_in, truth_in, fields_in, turns_in, skips_rest, status_of_nothing, status_of_no_block, follows, question_in, truth_if}
 use Rattle.rehearse_terms.specs.declared.shell.Shell.{Shell}
 use Rattle.rehearse_terms.specs.declared.shell.Shell.TheVariants.{Profile}
-use Rattle.rehearse_rules.specs.Execution.{Limits, Answer, Normal, Ended, CutDevices, CutSteps, Request, tell_or_take, device, go_on, set_status, status_when, goes, begin, command, simple, sized, turns, for_each, text_end, run_text, run_all, exec_script, exec_list, exec_joined, exec_command, exec_arms, exec, Unsupported, assign, started_text}
+use Rattle.rehearse_rules.specs.Execution.{Limits, Answer, Normal, Exit, Ended, CutDevices, CutSteps, Request, tell_or_take, device, go_on, set_status, status_when, goes, begin, command, simple, sized, turns, for_each, text_end, run_text, run_all, exec_script, exec_list, exec_joined, exec_command, exec_arms, exec, Unsupported, assign, started_text}
 use Rattle.rehearse_rules.specs.GivenExecution.{Others, asked_anew, given_builtin, given_simple, given_script, given_list, given_joined, given_command, given_arms, given_exec, given_run_on}
 
 -- what a part of a script does to states
@@ -47,19 +47,19 @@ module _ (bounds : Limits) (devices : Devices) (f g : Script → Does) (same : f
 
 -- in each script, a command that is not built in does what is given
 abbrev pub AreGiven : Limits → Devices → Others → Type 0
-AreGiven bounds devices others = (f : Script → Does) (name : Text) (words : List Text) (s : State)
-    → command (limits bounds devices) f (other_called devices name words) name words s ≡ others name words s
+AreGiven bounds devices others = (again : Bool) (f : Script → Does) (name : Text) (words : List Text) (s : State)
+    → command (limits bounds devices) again f (other_called devices name words) name words s ≡ others name words s
 
 -- the same if no command is computed
 abbrev pub AreGivenByList : Limits → Devices → Others → Type 0
-AreGivenByList bounds devices others = (f : Script → Does) (name : Text) (words : List Text) (s : State)
-    → command (limits bounds devices) f (listed_by devices name words) name words s ≡ others name words s
+AreGivenByList bounds devices others = (again : Bool) (f : Script → Does) (name : Text) (words : List Text) (s : State)
+    → command (limits bounds devices) again f (listed_by devices name words) name words s ≡ others name words s
 
 pub given_by_list : (bounds : Limits) (devices : Devices) (others : Others) → devices.known ≡ [] → AreGivenByList bounds devices others → AreGiven bounds devices others
-given_by_list bounds devices others none given f name words s =
+given_by_list bounds devices others none given again f name words s =
     ap (λ (names : List Text). let o : Option Computed = cond (list_any (bytes_eq name) names) (elim (known_of name) [ Some known ↦ computes known words | None ↦ None ]) None in
-    let c : Called = elim o [ Some computed ↦ BuiltIn (ChangesVariables (λ ws. carried computed)) | None ↦ listed_by devices name words ] in command (limits bounds devices) f c name words s) none
-    ∙ given f name words s
+    let c : Called = elim o [ Some computed ↦ BuiltIn (ChangesVariables (λ ws. carried computed)) | None ↦ listed_by devices name words ] in command (limits bounds devices) again f c name words s) none
+    ∙ given again f name words s
 
 -- a built-in command is not computed
 not_known : (name : Text) (builtin : Builtin) → builtin_of name ≡ Some builtin → known_of name ≡ None
@@ -96,6 +96,10 @@ called_apart devices name words = by (builtin_of name) refl
         ∙ none_if (list_any (bytes_eq name) devices.known) in
         (λ i. chosen devices name words (none i) (e i))
 
+-- how `exit` ends, or with which status it does not
+abbrev ended_by : Option ℕ → (other : ℕ) → State → Answer
+ended_by leaves other s = elim leaves [ Some status ↦ Exit (set_status status s) | None ↦ Normal (set_status other s) ]
+
 -- a device command whose answers do not stay asks each time
 pub asks_anew : (bounds : Limits) (request : Request) (s : State) → request.effect.stays ≡ false → request.effect.always ≡ None → device bounds request s ≡ asked_anew bounds request s
 asks_anew bounds request s e none =
@@ -117,8 +121,8 @@ module _ (bounds : Limits) (own : bounds.shell ≡ Profile) (devices : Devices) 
       on_failure = status_when (truth_if shell false words);
     }
 
-    test-same : (name : Text) (words : List Text) (s : State) → command (limits bounds devices) f (BuiltIn Tests) name words s ≡ given_builtin bounds g Tests name words s
-    test-same name words s =
+    test-same : (again : Bool) (name : Text) (words : List Text) (s : State) → command (limits bounds devices) again f (BuiltIn Tests) name words s ≡ given_builtin bounds g Tests name words s
+    test-same again name words s =
         ap (λ (sh : Shell). let a : Answer = elim (asks_in sh words) [
           | true ↦ device (limits bounds devices) (asked_in sh devices.test_stays name words) s
           | false ↦ Normal (set_status (status_when (truth_in sh words)) s)
@@ -128,27 +132,31 @@ module _ (bounds : Limits) (own : bounds.shell ≡ Profile) (devices : Devices) 
           | false ↦ Normal (set_status (status_when (verdict words)) s)
         ] in a) test
 
-    builtin-same : (d : Deed) (name : Text) (words : List Text) (s : State) → command (limits bounds devices) f (BuiltIn d) name words s ≡ given_builtin bounds g d name words s
-    builtin-same (ChangesVariables change) name words s = refl
-    builtin-same (WritesText written) name words s = refl
-    builtin-same RunsTexts name [] s = refl
-    builtin-same RunsTexts name (w ∷ ws) s = λ i. run_all-same bounds devices f g same (w ∷ ws) i s
-    builtin-same Tests name words s = test-same name words s
-    builtin-same Exits name words s = refl
+    -- ubtool's own language looks at no more than the words
+    exit-same : (again : Bool) (words : List Text) (s : State) → ended_by (leaves_in bounds.shell again words) (status_of_exit bounds.shell words) s ≡ ended_by (exit_status words) 1 s
+    exit-same again words s = ap (λ (sh : Shell). ended_by (leaves_in sh again words) (status_of_exit sh words) s) own
 
-    simple-same : (fs : List Text) (s : State) → simple (limits bounds devices) f fs s ≡ given_simple bounds others g fs s
-    simple-same [] s = λ i. Normal (set_status (status_of_nothing (own i) s.memory.status) s)
-    simple-same (name ∷ words) s =
+    builtin-same : (again : Bool) (d : Deed) (name : Text) (words : List Text) (s : State) → command (limits bounds devices) again f (BuiltIn d) name words s ≡ given_builtin bounds g d name words s
+    builtin-same again (ChangesVariables change) name words s = refl
+    builtin-same again (WritesText written) name words s = refl
+    builtin-same again RunsTexts name [] s = refl
+    builtin-same again RunsTexts name (w ∷ ws) s = λ i. run_all-same bounds devices f g same (w ∷ ws) i s
+    builtin-same again Tests name words s = test-same again name words s
+    builtin-same again Exits name words s = exit-same again words s ∙ sym (exit-same false words s)
+
+    simple-same : (again : Bool) (fs : List Text) (s : State) → simple (limits bounds devices) again f fs s ≡ given_simple bounds others g fs s
+    simple-same again [] s = λ i. Normal (set_status (status_of_nothing (own i) s.memory.status) s)
+    simple-same again (name ∷ words) s =
         ap (λ (sh : Shell). let a : Answer = elim (follows sh devices name words) [
-          | true ↦ command (limits bounds devices) f (called_by devices name words) name words s
+          | true ↦ command (limits bounds devices) again f (called_by devices name words) name words s
           | false ↦ Ended (Unsupported name) s
         ] in a) own
-        ∙ ap (λ (c : Called). command (limits bounds devices) f c name words s) (called_apart devices name words) ∙ by (builtin_of name)
+        ∙ ap (λ (c : Called). command (limits bounds devices) again f c name words s) (called_apart devices name words) ∙ by (builtin_of name)
       where
-        by : (b : Option Builtin) → ◌≡◌ {A = Answer} (command (limits bounds devices) f (elim b [ Some builtin ↦ BuiltIn (deed_of builtin) | None ↦ other_called devices name words ]) name words s)
+        by : (b : Option Builtin) → ◌≡◌ {A = Answer} (command (limits bounds devices) again f (elim b [ Some builtin ↦ BuiltIn (deed_of builtin) | None ↦ other_called devices name words ]) name words s)
             (elim b [ Some builtin ↦ given_builtin bounds g (deed_of builtin) name words s | None ↦ others name words s ])
-        by (Some builtin) = builtin-same (deed_of builtin) name words s
-        by None = given f name words s
+        by (Some builtin) = builtin-same again (deed_of builtin) name words s
+        by None = given again f name words s
 
   -- ---- the tree
 
@@ -169,7 +177,7 @@ module _ (bounds : Limits) (own : bounds.shell ≡ Profile) (devices : Devices) 
       ]
 
       one-same : (a : Command) → exec_command (limits bounds devices) left f a ≡ given_command bounds others left g a
-      one-same (tree.Simple words) = λ i s. begin (limits bounds devices) (λ t. sized (fields_in (own i) (parameters_in t.memory) words) (λ fs u. simple-same f g same fs u i) t) s
+      one-same (tree.Simple words) = λ i s. begin (limits bounds devices) (λ t. sized (fields_in (own i) (parameters_in t.memory) words) (λ fs u. simple-same f g same (reads_again words) fs u i) t) s
       one-same (tree.Assign values) = λ i s. begin (limits bounds devices) (assign (own i) values) s
       one-same (tree.If arms) = arms-same arms
       one-same (tree.Loop until cond body) = λ i s. turns (own i) left until (script-same cond i) (script-same body i) 0 s

@@ -1,5 +1,5 @@
 -- A command begins a step, and so does each block: the steps only grow.
-use Rattle.rehearse_rules.specs.ByShell.{fields_in, turns_in}
+use Rattle.rehearse_rules.specs.ByShell.{fields_in, reads_again, turns_in}
 use Rattle.std.proofs.Common.{ℕ, zero, suc, Bool, true, false, ◌<◌, ◌≤◌, arith, nat_lt, nat_eq}
 use Rattle.hushlang.specs.Tree as tree
 use Rattle.hushlang.specs.Tree.{Script, AndOr, Command, Arms, IsProperList, IsProperCommand, HasArm, HoldsCommand}
@@ -47,7 +47,7 @@ module _ (limits : Limits) (left : ℕ) (text : Script → State → Answer) (ke
 
   mutual
     pub Grew-command : (a : Command) → IsProperCommand a → (s : State) → Grew s.steps (exec_command limits left text a s)
-    Grew-command (tree.Simple words) p s = Grew-begin (nat_lt s.steps limits.step_bound) s (λ t. sized (fields_in limits.shell (parameters_in t.memory) words) (simple limits text) t) (λ t. Keeps-sized limits (fields_in limits.shell (parameters_in t.memory) words) (simple limits text) (Keeps-simple limits text kept) t)
+    Grew-command (tree.Simple words) p s = Grew-begin (nat_lt s.steps limits.step_bound) s (λ t. sized (fields_in limits.shell (parameters_in t.memory) words) (simple limits (reads_again words) text) t) (λ t. Keeps-sized limits (fields_in limits.shell (parameters_in t.memory) words) (simple limits (reads_again words) text) (Keeps-simple limits text kept (reads_again words)) t)
     Grew-command (tree.Assign pairs) p s = Grew-begin (nat_lt s.steps limits.step_bound) s (assign limits.shell pairs) (Keeps-assign limits pairs)
     Grew-command (tree.If arms) p s = Grew-if arms p s
     Grew-command (tree.Loop until c b) p s = Grew-turns left until (exec_script limits left text c) (exec_script limits left text b) (Keeps-script limits left text kept c) (Keeps-script limits left text kept b) (Grew-block c p.0) 0 s

@@ -10,7 +10,7 @@ use Rattle.commands.specs.BuiltInCommands.{ChangesVariables, WritesText, RunsTex
 use Rattle.device_list.specs.DeviceList.{Effect, computed_by, effect_of}
 use Rattle.rehearse_rules.proofs.TakenOutcomes.{skipped}
 use Rattle.rehearse_terms.specs.declared.shell.Shell.{Shell}
-use Rattle.rehearse_rules.specs.ByShell.{unread, leaves_in, status_of_exit, asks_in, truth_in, fields_in, turns_in, skips_rest, status_of_loop, follows, assigned_in}
+use Rattle.rehearse_rules.specs.ByShell.{unread, reads_again, leaves_in, status_of_exit, asks_in, truth_in, fields_in, turns_in, skips_rest, status_of_loop, follows, assigned_in}
 use Rattle.rehearse_rules.specs.Execution.{Limits, Answer, Normal, Exit, Ended, Dry, CutSteps, Size, Request, go_on, set_status, status_when, goes, holds, begin, device, test_effect, text_end, run_text, run_all, command, simple, sized, assign, turns, begin_turn, for_each, exec_script, exec_list, exec_joined, exec_command, exec_arms, exec, Unsupported, assign_local, request_of, test_request, started_text}
 use Rattle.rehearse_rules.specs.Runs.{state_of}
 use Rattle.rehearse_terms.specs.State.{Text, get, LoggedCommand, State}
@@ -97,23 +97,23 @@ module _ (P : List LoggedCommand → Type 0) where
       keeps-leave (Some n) other s h = h
       keeps-leave None other s h = h
 
-      keeps-command : (c : Called) (name : Text) (words : List Text) → IsAllowed c → KeepsLog (command limits script c name words)
-      keeps-command (BuiltIn (ChangesVariables change)) name words allowed s h = h
-      keeps-command (BuiltIn RunsTexts) name [] allowed s h = h
-      keeps-command (BuiltIn RunsTexts) name (w ∷ ws) allowed s h = keeps-run (w ∷ ws) s h
-      keeps-command (BuiltIn Tests) name words allowed s h =
+      keeps-command : (again : Bool) (c : Called) (name : Text) (words : List Text) → IsAllowed c → KeepsLog (command limits again script c name words)
+      keeps-command again (BuiltIn (ChangesVariables change)) name words allowed s h = h
+      keeps-command again (BuiltIn RunsTexts) name [] allowed s h = h
+      keeps-command again (BuiltIn RunsTexts) name (w ∷ ws) allowed s h = keeps-run (w ∷ ws) s h
+      keeps-command again (BuiltIn Tests) name words allowed s h =
           let r : Request = test_request limits name words in
           keeps-if (asks_in limits.shell words) (device limits r s) (Normal (set_status (status_when (truth_in limits.shell words)) s)) (step r refl test s h) h
-      keeps-command (BuiltIn (WritesText written)) name words allowed s h = h
-      keeps-command (BuiltIn Exits) name words allowed s h = keeps-leave (leaves_in limits.shell words) (status_of_exit limits.shell words) s h
-      keeps-command (Device effect) name words allowed s h = step (request_of name words effect) refl allowed s h
-      keeps-command NoCommand name words allowed s h = h
+      keeps-command again (BuiltIn (WritesText written)) name words allowed s h = h
+      keeps-command again (BuiltIn Exits) name words allowed s h = keeps-leave (leaves_in limits.shell again words) (status_of_exit limits.shell words) s h
+      keeps-command again (Device effect) name words allowed s h = step (request_of name words effect) refl allowed s h
+      keeps-command again NoCommand name words allowed s h = h
 
-      keeps-simple : (fs : List Text) → KeepsLog (simple limits script fs)
-      keeps-simple [] s h = h
-      keeps-simple (name ∷ words) s h =
-          keeps-if (follows limits.shell limits.devices name words) (command limits script (called_by limits.devices name words) name words s) (Ended (Unsupported name) s)
-          (keeps-command (called_by limits.devices name words) name words (called_allowed name words) s h) h
+      keeps-simple : (again : Bool) (fs : List Text) → KeepsLog (simple limits again script fs)
+      keeps-simple again [] s h = h
+      keeps-simple again (name ∷ words) s h =
+          keeps-if (follows limits.shell limits.devices name words) (command limits again script (called_by limits.devices name words) name words s) (Ended (Unsupported name) s)
+          (keeps-command again (called_by limits.devices name words) name words (called_allowed name words) s h) h
 
     -- ---- the tree
 
@@ -144,7 +144,7 @@ module _ (P : List LoggedCommand → Type 0) where
             (keeps-if (skips_rest limits.shell) (Normal s) (exec_joined limits left text rest s) h (keeps-joined rest s h))
 
         keeps-one : (a : Command) → KeepsLog (exec_command limits left text a)
-        keeps-one (tree.Simple words) s h = keeps-begin (λ t. sized (fields_in limits.shell (parameters_in t.memory) words) (simple limits text) t) (λ t. keeps-sized (fields_in limits.shell (parameters_in t.memory) words) (simple limits text) (keeps-simple text keeps) t) s h
+        keeps-one (tree.Simple words) s h = keeps-begin (λ t. sized (fields_in limits.shell (parameters_in t.memory) words) (simple limits (reads_again words) text) t) (λ t. keeps-sized (fields_in limits.shell (parameters_in t.memory) words) (simple limits (reads_again words) text) (keeps-simple text keeps (reads_again words)) t) s h
         keeps-one (tree.Assign pairs) s h = keeps-begin (assign limits.shell pairs) (keeps-assign limits.shell pairs) s h
         keeps-one (tree.If arms) s h = keeps-arms arms s h
         keeps-one (tree.Loop until c b) s h = keeps-turns left until (exec_script limits left text c) (exec_script limits left text b) (keeps-script c) (keeps-script b) 0 s h

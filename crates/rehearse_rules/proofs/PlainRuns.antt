@@ -48,19 +48,19 @@ module _ (task : PlainTask) where
   limits = (task_over (quiet_names task.names) task).limits
 
   -- a command that is not built in
-  other-same : (f : Script → Does) (b : Bool) (name : Text) (words : List Text) (s : State)
-      → ◌≡◌ {A = Answer} (command limits f (elim (cond b (Some quiet) None) [ Some effect ↦ Device effect | None ↦ NoCommand ]) name words s)
+  other-same : (again : Bool) (f : Script → Does) (b : Bool) (name : Text) (words : List Text) (s : State)
+      → ◌≡◌ {A = Answer} (command limits again f (elim (cond b (Some quiet) None) [ Some effect ↦ Device effect | None ↦ NoCommand ]) name words s)
       (elim b [ true ↦ ask task (name ∷ words) s | false ↦ Ended (Unknown name) s ])
-  other-same f false name words s = refl
-  other-same f true name words s = λ i. elim (nat_lt (length s.log) task.device_bound) [
+  other-same again f false name words s = refl
+  other-same again f true name words s = λ i. elim (nat_lt (length s.log) task.device_bound) [
     | true ↦ take-quiet name words s.word s i
     | false ↦ Ended CutDevices s
   ]
 
   others-same : AreGivenByList (bounds_alone task) (quiet_names task.names) (plain_others task)
-  others-same f name words s =
-      ap (λ (e : Option Effect). command limits f (elim e [ Some effect ↦ Device effect | None ↦ NoCommand ]) name words s) (effect-quiet task.names name words)
-      ∙ other-same f (list_any (bytes_eq name) task.names) name words s
+  others-same again f name words s =
+      ap (λ (e : Option Effect). command limits again f (elim e [ Some effect ↦ Device effect | None ↦ NoCommand ]) name words s) (effect-quiet task.names name words)
+      ∙ other-same again f (list_any (bytes_eq name) task.names) name words s
 
   run-plain : (w : OutcomeWord) → run_on (task_over (quiet_names task.names) task) w ≡ plain_run_on task w
   run-plain w = run-same (bounds_alone task) refl (quiet_names task.names) refl (plain_others task) (given_by_list (bounds_alone task) (quiet_names task.names) (plain_others task) refl others-same) task.environment task.name task.text w

@@ -12,7 +12,7 @@ use Rattle.hushlang.specs.Expansion.{size, most_bytes}
 use Rattle.hushlang_old.specs.TreesByShell.{tree_in, lacks_end_in}
 use Rattle.device_list.specs.Called.{Called, BuiltIn, Device, NoCommand, called_by, sets_in}
 use Rattle.commands.specs.BuiltInCommands.{ChangesVariables, WritesText, RunsTexts, Tests, Exits, variables_changed, text_written}
-use Rattle.rehearse_rules.specs.ByShell.{unread, leaves_in, status_of_exit, asks_in, truth_in, fields_in, turns_in, skips_rest, status_of_nothing, status_of_no_block, status_of_loop, follows, assigned_in}
+use Rattle.rehearse_rules.specs.ByShell.{unread, leaves_in, status_of_exit, asks_in, truth_in, fields_in, turns_in, skips_rest, status_of_nothing, status_of_no_block, status_of_loop, follows, assigned_in, reads_again}
 use Rattle.rehearse_rules.specs.Execution.{Limits, Answer, Normal, Exit, Ended, Dry, Ending, CutDevices, CutSteps, Unknown, Size, go_on, remember, set_status, status_when, goes, holds, begin, take_outcome, with_outcome, outcome_when, told, told_again, tell_or_take, device, Request, logged, set_environment, finish, text_end, run_text, run_all, command, simple, sized, assign, turns, begin_turn, for_each, exec_script, exec_list, exec_joined, exec_command, exec_arms, exec, succeeds, Unsupported, assign_local, request_of, test_request, started_text}
 use Rattle.rehearse_rules.specs.Runs.{state_of}
 
@@ -283,19 +283,19 @@ module _ (limits : Limits) where
     Keeps-leave (Some n) other s = Keeps-exit limits.device_bound s (λ m. record m { status = n })
     Keeps-leave None other s = Keeps-normal limits.device_bound s (λ m. record m { status = other })
 
-    pub Keeps-command : (b : Called) (name : Text) (ws : List Text) → KeepsAll (command limits script b name ws)
-    Keeps-command (BuiltIn (ChangesVariables change)) name ws s = Keeps-normal limits.device_bound s (variables_changed change ws)
-    Keeps-command (BuiltIn RunsTexts) name [] s = Keeps-normal limits.device_bound s (λ m. record m { status = 1 })
-    Keeps-command (BuiltIn RunsTexts) name (w ∷ ws) s = Keeps-run (w ∷ ws) s
-    Keeps-command (BuiltIn Tests) name ws s = Keeps-if limits.device_bound s (asks_in limits.shell ws) (device limits (test_request limits name ws)) (λ t. Normal (set_status (status_when (truth_in limits.shell ws)) t)) (Keeps-device (test_request limits name ws) refl s) (Keeps-normal limits.device_bound s (λ m. record m { status = status_when (truth_in limits.shell ws) }))
-    Keeps-command (BuiltIn (WritesText written)) name ws s = Keeps-normal limits.device_bound s (text_written written ws)
-    Keeps-command (BuiltIn Exits) name ws s = Keeps-leave (leaves_in limits.shell ws) (status_of_exit limits.shell ws) s
-    Keeps-command (Device effect) name ws s = Keeps-device (request_of name ws effect) refl s
-    Keeps-command NoCommand name ws s = Keeps-ended limits.device_bound s (Unknown name)
+    pub Keeps-command : (again : Bool) (b : Called) (name : Text) (ws : List Text) → KeepsAll (command limits again script b name ws)
+    Keeps-command again (BuiltIn (ChangesVariables change)) name ws s = Keeps-normal limits.device_bound s (variables_changed change ws)
+    Keeps-command again (BuiltIn RunsTexts) name [] s = Keeps-normal limits.device_bound s (λ m. record m { status = 1 })
+    Keeps-command again (BuiltIn RunsTexts) name (w ∷ ws) s = Keeps-run (w ∷ ws) s
+    Keeps-command again (BuiltIn Tests) name ws s = Keeps-if limits.device_bound s (asks_in limits.shell ws) (device limits (test_request limits name ws)) (λ t. Normal (set_status (status_when (truth_in limits.shell ws)) t)) (Keeps-device (test_request limits name ws) refl s) (Keeps-normal limits.device_bound s (λ m. record m { status = status_when (truth_in limits.shell ws) }))
+    Keeps-command again (BuiltIn (WritesText written)) name ws s = Keeps-normal limits.device_bound s (text_written written ws)
+    Keeps-command again (BuiltIn Exits) name ws s = Keeps-leave (leaves_in limits.shell again ws) (status_of_exit limits.shell ws) s
+    Keeps-command again (Device effect) name ws s = Keeps-device (request_of name ws effect) refl s
+    Keeps-command again NoCommand name ws s = Keeps-ended limits.device_bound s (Unknown name)
 
-    pub Keeps-simple : (fs : List Text) → KeepsAll (simple limits script fs)
-    Keeps-simple [] s = Keeps-normal limits.device_bound s (λ m. record m { status = status_of_nothing limits.shell m.status })
-    Keeps-simple (name ∷ ws) s = Keeps-if limits.device_bound s (follows limits.shell limits.devices name ws) (command limits script (called_by limits.devices name ws) name ws) (Ended (Unsupported name)) (Keeps-command (called_by limits.devices name ws) name ws s) (Keeps-ended limits.device_bound s (Unsupported name))
+    pub Keeps-simple : (again : Bool) (fs : List Text) → KeepsAll (simple limits again script fs)
+    Keeps-simple again [] s = Keeps-normal limits.device_bound s (λ m. record m { status = status_of_nothing limits.shell m.status })
+    Keeps-simple again (name ∷ ws) s = Keeps-if limits.device_bound s (follows limits.shell limits.devices name ws) (command limits again script (called_by limits.devices name ws) name ws) (Ended (Unsupported name)) (Keeps-command again (called_by limits.devices name ws) name ws s) (Keeps-ended limits.device_bound s (Unsupported name))
 
   -- what a turn of a loop does after its condition
   abbrev pub after_condition : Bool → (State → Answer) → (State → Answer) → ℕ → State → Answer
@@ -341,7 +341,7 @@ module _ (limits : Limits) where
       Keeps-joined (tree.Joins op c rest) s = Keeps-if limits.device_bound s (goes op s.memory.status) (λ t. go_on (exec_command limits left text c t) (exec_joined limits left text rest)) (skipped (exec_joined limits left text rest)) (Keeps-go_on limits.device_bound s (exec_command limits left text c) (exec_joined limits left text rest) (Keeps-one c s) (Keeps-joined rest)) (Keeps-skipped (exec_joined limits left text rest) s (Keeps-joined rest s))
 
       pub Keeps-one : (a : Command) → KeepsAll (exec_command limits left text a)
-      Keeps-one (tree.Simple words) s = Keeps-begin (λ t. sized (fields_in limits.shell (parameters_in t.memory) words) (simple limits text) t) (λ t. Keeps-sized (fields_in limits.shell (parameters_in t.memory) words) (simple limits text) (Keeps-simple text kept) t) s
+      Keeps-one (tree.Simple words) s = Keeps-begin (λ t. sized (fields_in limits.shell (parameters_in t.memory) words) (simple limits (reads_again words) text) t) (λ t. Keeps-sized (fields_in limits.shell (parameters_in t.memory) words) (simple limits (reads_again words) text) (Keeps-simple text kept (reads_again words)) t) s
       Keeps-one (tree.Assign pairs) s = Keeps-begin (assign limits.shell pairs) (Keeps-assign pairs) s
       Keeps-one (tree.If arms) s = Keeps-arms arms s
       Keeps-one (tree.Loop until c b) s = Keeps-turns left until (exec_script limits left text c) (exec_script limits left text b) (Keeps-script c) (Keeps-script b) 0 s

@@ -13,7 +13,7 @@ use Rattle.rehearse_terms.specs.State.{Text, Variables, get, with_value, Memory,
 use Rattle.rehearse_terms.specs.declared.shell.Shell.{Shell}
 pub use Rattle.rehearse_rules.specs.Ending.{Ending, End, CutDevices, CutSteps, Unknown, Syntax, Unsupported, Size, Finished}
 use Rattle.rehearse_rules.specs.Parameters.{parameters_in}
-use Rattle.rehearse_rules.specs.ByShell.{unread, leaves_in, status_of_exit, asks_in, question_in, truth_in, truth_if, fields_in, turns_in, skips_rest, status_of_nothing, status_of_no_block, status_of_loop, status_in_turn, follows, assigned_in, locals_in}
+use Rattle.rehearse_rules.specs.ByShell.{unread, reads_again, leaves_in, status_of_exit, asks_in, question_in, truth_in, truth_if, fields_in, turns_in, skips_rest, status_of_nothing, status_of_no_block, status_of_loop, status_in_turn, follows, assigned_in, locals_in}
 use Rattle.device_list.specs.DeviceList.{Effect, Devices}
 use Rattle.device_list.specs.Called.{Called, BuiltIn, NoCommand, Device, called_by, sets_in}
 use Rattle.commands.specs.BuiltInCommands.{ChangesVariables, WritesText, RunsTexts, Tests, Exits, variables_changed, text_written}
@@ -251,33 +251,33 @@ module _ (limits : Limits) where
         | Some text ↦ text_end (started_text script name text s) (run_all script names)
       ]
 
-  -- a command by its fields, the name first
-  abbrev pub command : (script : Script → State → Answer) → Called → (name : Text) → (words : List Text) → State →
-      Answer
-  command script (BuiltIn (ChangesVariables change)) name words s = Normal (remember (variables_changed change words) s)
-  command script (BuiltIn RunsTexts) name [] s = Normal (set_status 1 s)
-  command script (BuiltIn RunsTexts) name (w ∷ ws) s = run_all script (w ∷ ws) s
-  command script (BuiltIn Tests) name words s =
+  -- a command by its fields, the name first; `again` says whether it is read again
+  abbrev pub command : (again : Bool) → (script : Script → State → Answer) → Called → (name : Text) →
+      (words : List Text) → State → Answer
+  command again script (BuiltIn (ChangesVariables change)) name words s = Normal (remember (variables_changed change words) s)
+  command again script (BuiltIn RunsTexts) name [] s = Normal (set_status 1 s)
+  command again script (BuiltIn RunsTexts) name (w ∷ ws) s = run_all script (w ∷ ws) s
+  command again script (BuiltIn Tests) name words s =
       elim (asks_in limits.shell words) [
         | true ↦ device (test_request limits name words) s
         | false ↦ Normal (set_status (status_when (truth_in limits.shell words)) s)
       ]
-  command script (BuiltIn (WritesText written)) name words s = Normal (remember (text_written written words) s)
-  command script (BuiltIn Exits) name words s =
-      elim (leaves_in limits.shell words) [
+  command again script (BuiltIn (WritesText written)) name words s = Normal (remember (text_written written words) s)
+  command again script (BuiltIn Exits) name words s =
+      elim (leaves_in limits.shell again words) [
         | Some status ↦ Exit (set_status status s)
         | None ↦ Normal (set_status (status_of_exit limits.shell words) s)
       ]
-  command script (Device effect) name words s =
+  command again script (Device effect) name words s =
       device (request_of name words effect) s
-  command script NoCommand name words s = Ended (Unknown name) s
+  command again script NoCommand name words s = Ended (Unknown name) s
 
   -- words that expand to no field do nothing
-  abbrev pub simple : (script : Script → State → Answer) → List Text → State → Answer
-  simple script [] s = Normal (set_status (status_of_nothing limits.shell s.memory.status) s)
-  simple script (name ∷ words) s =
+  abbrev pub simple : (again : Bool) → (script : Script → State → Answer) → List Text → State → Answer
+  simple again script [] s = Normal (set_status (status_of_nothing limits.shell s.memory.status) s)
+  simple again script (name ∷ words) s =
       elim (follows limits.shell limits.devices name words) [
-        | true ↦ command script (called_by limits.devices name words) name words s
+        | true ↦ command again script (called_by limits.devices name words) name words s
         | false ↦ Ended (Unsupported name) s
       ]
 
@@ -302,7 +302,8 @@ module _ (limits : Limits) where
 
       pub exec_command : Command → State → Answer
       exec_command (tree.Simple words) s =
-          begin (λ t. sized (fields_in limits.shell (parameters_in t.memory) words) (simple text) t) s
+          begin (λ t. sized (fields_in limits.shell (parameters_in t.memory) words)
+          (simple (reads_again words) text) t) s
       exec_command (tree.Assign values) s = begin (assign limits.shell values) s
       exec_command (tree.If arms) s = exec_arms arms s
       exec_command (tree.Loop until cond body) s =

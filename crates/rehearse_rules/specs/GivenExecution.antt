@@ -35,7 +35,7 @@ given_builtin bounds script Tests name words s =
       | true ↦ asked_anew bounds (request_of name words quiet) s
       | false ↦ Normal (set_status (status_when (verdict words)) s)
     ]
-given_builtin bounds script deed name words s = command bounds script (BuiltIn deed) name words s
+given_builtin bounds script deed name words s = command bounds false script (BuiltIn deed) name words s
 
 module _ (bounds : Limits) (others : Others) where
   -- a command by its fields, the name first
