@@ -3,6 +3,7 @@ use Rattle.std.specs.Prelude.{◌≡◌, true, false, List, [], ◌∷◌, ◌++
 use Rattle.envimage.specs.Data.{Pair}
 use Rattle.envimage.specs.declared.image.ByteOrder.TheVariants.{Little, Big}
 use Rattle.envimage.specs.declared.image.Which.TheVariants.{First, Second}
+use Rattle.envtools.specs.Changes.{with_changes}
 use Rattle.envtools.specs.Environment.{env_of, put, changed}
 use Rattle.envtools.specs.Printing.{plain, printed_output, printed_errors, texts_ended_by}
 use Rattle.envtools.specs.Saving.{copy_to_write, half_written, saved_image, spare_of}
@@ -59,6 +60,16 @@ an_empty_word_deletes = refl
 
 words_are_joined : changed [] (codes "a") (codes "x" ∷ [] ∷ codes "y" ∷ []) ≡ ((codes "a", codes "x  y") ∷ [])
 words_are_joined = refl
+
+-- ---- changes one after another
+
+-- each acts on what the earlier ones left: another value goes last, the same one keeps its place, and an empty one deletes
+changes_in_order : with_changes ((codes "a", codes "1") ∷ (codes "b", codes "2") ∷ (codes "c", codes "3") ∷ []) ((codes "a", codes "0") ∷ (codes "b", []) ∷ (codes "c", codes "3") ∷ (codes "d", codes "4") ∷ (codes "a", codes "5") ∷ []) ≡ ((codes "c", codes "3") ∷ (codes "d", codes "4") ∷ (codes "a", codes "5") ∷ [])
+changes_in_order = refl
+
+-- those that no variable may have are left out
+changes_left_out : with_changes ((codes "a", codes "1") ∷ []) (([], codes "1") ∷ (codes "b=c", codes "1") ∷ (codes "a", 0 ∷ []) ∷ (codes "b", codes "2") ∷ []) ≡ ((codes "a", codes "1") ∷ (codes "b", codes "2") ∷ [])
+changes_left_out = refl
 
 -- ---- printing
 
