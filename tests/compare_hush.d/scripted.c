@@ -61,7 +61,9 @@ enum {
  * pattern behind the name, and what its calls always come to, `0` or `1`, if it says so.
  */
 struct device_line {
-	bool final, steady, call;
+	/* how a success ends the run, and a space; NULL if it does not */
+	const char *ends;
+	bool steady, call;
 	char always, *name, *sub, *pattern[MOST_WORDS + 1], *settings[MOST_WORDS + 1];
 };
 
@@ -339,15 +341,16 @@ static const struct device_line *call_line(int argc, char *const argv[])
 /* A command of the device list. */
 static int do_listed(struct cmd_tbl *cmdtp, int flag, int argc, char *const argv[])
 {
-	bool sub = false, known = false, final = false, steady = false;
+	const char *ends = NULL;
+	bool sub = false, known = false, steady = false;
 	const struct device_line *line = call_line(argc, argv);
 
 	if (line) {
 		if (ask(argc, argv, line->steady, line->always))
 			return 1;
 		set_by_line(line, argc, argv);
-		if (line->final)
-			end_run("booted ", argv[0]);
+		if (line->ends)
+			end_run(line->ends, argv[0]);
 		return 0;
 	}
 	for (line = lines; line < end_of_lines; line++)
@@ -355,7 +358,8 @@ static int do_listed(struct cmd_tbl *cmdtp, int flag, int argc, char *const argv
 	for (line = lines; line < end_of_lines; line++) {
 		if (speaks(line, sub, argc, argv)) {
 			known = true;
-			final |= line->final;
+			if (!ends)
+				ends = line->ends;
 			steady |= line->steady;
 		}
 	}
@@ -366,8 +370,8 @@ static int do_listed(struct cmd_tbl *cmdtp, int flag, int argc, char *const argv
 	for (line = lines; line < end_of_lines; line++)
 		if (speaks(line, sub, argc, argv))
 			set_by_line(line, argc, argv);
-	if (final)
-		end_run("booted ", argv[0]);
+	if (ends)
+		end_run(ends, argv[0]);
 	return 0;
 }
 
@@ -483,6 +487,16 @@ static void keep_setting(struct device_line *line, char *word)
 	*strchr(word, '=') = '\0';
 }
 
+/* How a command ends the run of which this word stands in front, with a space behind it; NULL if it does not. */
+static const char *ending_of(const char *word)
+{
+	if (!strcmp(word, "final"))
+		return "booted ";
+	if (!strcmp(word, "restart"))
+		return "restarted ";
+	return strcmp(word, "halt") ? NULL : "halted ";
+}
+
 /* Reads the words of a `call` line: its name and pattern, `:`, and what it says of these calls. */
 static void read_call(struct device_line *line, char **at)
 {
@@ -493,8 +507,8 @@ static void read_call(struct device_line *line, char **at)
 	while (strcmp(*++at, ":"))
 		*pattern++ = *at;
 	while (*++at) {
-		if (!strcmp(*at, "final"))
-			line->final = true;
+		if (ending_of(*at))
+			line->ends = ending_of(*at);
 		else if (!strcmp(*at, "steady"))
 			line->steady = true;
 		else if (!strcmp(*at, "always"))
@@ -535,8 +549,9 @@ static void read_line(char *row)
 		read_call(line, always_fails);
 		return;
 	}
-	line->final = !strcmp(*at, "final") && at[1] && !strchr(at[1], '=');
-	at += line->final;
+	if (at[1] && !strchr(at[1], '='))
+		line->ends = ending_of(*at);
+	at += line->ends != NULL;
 	line->steady = !strcmp(*at, "steady") && at[1] && !strchr(at[1], '=');
 	at += line->steady;
 	if (!strcmp(*at, "sub") && at[1] && at[2] && !strchr(at[1], '=') && !strchr(at[2], '=')) {

@@ -298,7 +298,8 @@ bool find_resume_point(const struct bytes *written, struct bytes *word, size_t *
         size = (size_t)(end - line);
         at += size + 1;
         if (line_begins(line, size, "end ") || line_begins(line, size, "cut ") || line_begins(line, size, "stop ") ||
-            line_begins(line, size, "booted ")) {
+            line_begins(line, size, "booted ") || line_begins(line, size, "restarted ") ||
+            line_begins(line, size, "halted ")) {
             if (is_begun) {
                 set_bytes(word, &begun);
                 *length = at;
