@@ -18,7 +18,7 @@ use Rattle.rehearse_rules.specs.Execution.{Limits, CutDevices, CutSteps, Size, s
 use Rattle.rehearse_terms.specs.Outcomes.{Success}
 use Rattle.rehearse_machine.specs.Places.{PlaceNext, GoOn, AskOn, StopOn, list_at, joined_at, second, command_in, command_at, drop_arms, block_frame, behind, in_turn, left, to_run, place_exit, place_finish, place_tell_or_ask, place_assign, place_tree, place_text, place_name, run_move, for_turn, for_move, for_begins, place_arms, condition_ends, phase_move, place_fitting, place_ask, place_called, place_fields, place_counted, place_command, place_joined, place_begins, place_turn, place_list, place_by, place_move, place_skipped, moved_to, place}
 use Rattle.rehearse_machine.specs.AskingCommand.{words_of, fields_again, found_again, AsksAgain}
-use Rattle.rehearse_rules.specs.ByShell.{leaves_in, status_of_exit, asks_in, truth_in, fields_in, turns_in, status_of_loop, skips_rest, follows, assigned_in}
+use Rattle.rehearse_rules.specs.ByShell.{reads_again, leaves_in, status_of_exit, asks_in, truth_in, fields_in, turns_in, status_of_loop, skips_rest, follows, assigned_in}
 
 -- a command that asks does so with these frames, in this state
 abbrev AsksHere : List RunningFrame → State → PlaceNext → Type 0
@@ -77,21 +77,21 @@ module _ (limits : Limits) where
   ask_here : (r : Request) (ps : List RunningFrame) (s : State) → AsksHere ps s (place_ask limits r ps s)
   ask_here r ps s = either_here ps s (nat_lt (length s.log) limits.device_bound) (place_tell_or_ask (told r s.log) r ps s) (StopOn CutDevices s) (tell_here (told r s.log) r ps s) tt
 
-  builtin_here : (b : Called) (name : Text) (ws : List Text) (script : Script) (ps : List RunningFrame) (s : State) → AsksHere ps s (place_called limits b name ws script ps s)
-  builtin_here (BuiltIn (ChangesVariables change)) name ws script ps s = tt
-  builtin_here (BuiltIn RunsTexts) name [] script ps s = tt
-  builtin_here (BuiltIn RunsTexts) name (w ∷ ws) script ps s = tt
-  builtin_here (BuiltIn Tests) name ws script ps s =
+  builtin_here : (again : Bool) (b : Called) (name : Text) (ws : List Text) (script : Script) (ps : List RunningFrame) (s : State) → AsksHere ps s (place_called limits again b name ws script ps s)
+  builtin_here again (BuiltIn (ChangesVariables change)) name ws script ps s = tt
+  builtin_here again (BuiltIn RunsTexts) name [] script ps s = tt
+  builtin_here again (BuiltIn RunsTexts) name (w ∷ ws) script ps s = tt
+  builtin_here again (BuiltIn Tests) name ws script ps s =
       let r : Request = test_request limits name ws in
       either_here ps s (asks_in limits.shell ws) (place_ask limits r ps s) (GoOn ps (set_status (status_when (truth_in limits.shell ws)) s)) (ask_here r ps s) tt
-  builtin_here (BuiltIn (WritesText written)) name ws script ps s = tt
-  builtin_here (BuiltIn Exits) name ws script ps s = exit_here ps s (leaves_in limits.shell ws) (status_of_exit limits.shell ws)
-  builtin_here (Device effect) name ws script ps s = ask_here (request_of name ws effect) ps s
-  builtin_here NoCommand name ws script ps s = tt
+  builtin_here again (BuiltIn (WritesText written)) name ws script ps s = tt
+  builtin_here again (BuiltIn Exits) name ws script ps s = exit_here ps s (leaves_in limits.shell again ws) (status_of_exit limits.shell ws)
+  builtin_here again (Device effect) name ws script ps s = ask_here (request_of name ws effect) ps s
+  builtin_here again NoCommand name ws script ps s = tt
 
-  fields_here : (fs : List Text) (script : Script) (ps : List RunningFrame) (s : State) → AsksHere ps s (place_fields limits fs script ps s)
-  fields_here [] script ps s = tt
-  fields_here (name ∷ ws) script ps s = either_here ps s (follows limits.shell limits.devices name ws) (place_called limits (called_by limits.devices name ws) name ws script ps s) (StopOn (Unsupported name) s) (builtin_here (called_by limits.devices name ws) name ws script ps s) tt
+  fields_here : (again : Bool) (fs : List Text) (script : Script) (ps : List RunningFrame) (s : State) → AsksHere ps s (place_fields limits again fs script ps s)
+  fields_here again [] script ps s = tt
+  fields_here again (name ∷ ws) script ps s = either_here ps s (follows limits.shell limits.devices name ws) (place_called limits again (called_by limits.devices name ws) name ws script ps s) (StopOn (Unsupported name) s) (builtin_here again (called_by limits.devices name ws) name ws script ps s) tt
 
   -- ---- what never asks
 
@@ -170,10 +170,10 @@ module _ (limits : Limits) where
         let t : State = record s { steps = suc s.steps } in
         let found_fields : List Text = fields_in limits.shell (parameters_in t.memory) words in
         let ps : List RunningFrame = behind f ∷ fs in
-        let next : PlaceNext = place_fields limits found_fields f.script ps t in
-        let whole : PlaceNext = place_fitting found_fields (λ fs'. place_fields limits fs' f.script ps) t in
+        let next : PlaceNext = place_fields limits (reads_again words) found_fields f.script ps t in
+        let whole : PlaceNext = place_fitting found_fields (λ fs'. place_fields limits (reads_again words) fs' f.script ps) t in
         let same : found_again limits ps t ≡ whole = ap (λ (o : Option Command). fields_again limits (words_of o) (behind f) fs t) e in
-        let here : AsksHere ps t whole = either_here ps t (nat_le (size found_fields) most_bytes) next (StopOn Size t) (fields_here found_fields f.script ps t) tt in
+        let here : AsksHere ps t whole = either_here ps t (nat_le (size found_fields) most_bytes) next (StopOn Size t) (fields_here (reads_again words) found_fields f.script ps t) tt in
         either_again (nat_lt s.steps limits.step_bound) whole (StopOn CutSteps s) (found ps t whole same here) tt
 
     command_again : (c : Command) (s : State) → command_at (list_at f.script f.place.list) f.place.command ≡ Some c → AsksAgain limits (place_command limits c f fs s)

@@ -1,5 +1,5 @@
 -- After the bound, nothing is begun.
-use Rattle.rehearse_rules.specs.ByShell.{fields_in, turns_in}
+use Rattle.rehearse_rules.specs.ByShell.{fields_in, reads_again, turns_in}
 use Rattle.std.proofs.Common.{ℕ, zero, suc, Bool, false, refl, ◌≡◌, ◌≤◌, nat_lt, le-ltb}
 use Rattle.hushlang.specs.Tree as tree
 use Rattle.hushlang.specs.Tree.{Script, AndOr, Command, Arms, IsProperList, IsProperCommand, HoldsCommand}
@@ -17,7 +17,7 @@ module _ (limits : Limits) (left : ℕ) (text : Script → State → Answer) whe
 
   mutual
     pub Cut-command : (a : Command) → IsProperCommand a → (s : State) → limits.step_bound ≤ s.steps → exec_command limits left text a s ≡ Ended CutSteps s
-    Cut-command (tree.Simple words) p s h = Cut-begin s (λ t. sized (fields_in limits.shell (parameters_in t.memory) words) (simple limits text) t) h
+    Cut-command (tree.Simple words) p s h = Cut-begin s (λ t. sized (fields_in limits.shell (parameters_in t.memory) words) (simple limits (reads_again words) text) t) h
     Cut-command (tree.Assign pairs) p s h = Cut-begin s (assign limits.shell pairs) h
     Cut-command (tree.If arms) p s h = Cut-if arms p s h
     Cut-command (tree.Loop until c b) p s h = Cut-turns left until (exec_script limits left text c) (exec_script limits left text b) 0 s (Cut-block c p.0 s h)

@@ -90,21 +90,21 @@ assigns r old mid new name value (v ∷ vs) words p l j b e k = set_changed r ol
 
 -- ---- built-in commands
 
-module _ (limits : Limits) (old new : Record) (name : Text) (words : List Text) (script : Script) where
+module _ (limits : Limits) (again : Bool) (old new : Record) (name : Text) (words : List Text) (script : Script) where
   abbrev frames : List RunningFrame
   frames = old.present.frames
 
-  pub change_does : (b : Called) (list : List Text) (change : List Text → Variables → Variables × ℕ) → b ≡ BuiltIn (ChangesVariables change) → list ≡ words → Changes old new (variables_changed change list) → Does steps.Going old new (place_called limits b name words script old.present.frames)
+  pub change_does : (b : Called) (list : List Text) (change : List Text → Variables → Variables × ℕ) → b ≡ BuiltIn (ChangesVariables change) → list ≡ words → Changes old new (variables_changed change list) → Does steps.Going old new (place_called limits again b name words script old.present.frames)
   change_does b list change e l h = (
     λ w. ap (λ (x : List RunningFrame). GoOn x (state_at new.present w)) h.1 ∙ ap (GoOn frames) (h.0 w) ∙ ap (λ (x : List Text). GoOn frames (remember (variables_changed change x) (state_at old.present w))) l
-        ∙ sym (ap (λ (x : Called). place_called limits x name words script frames (state_at old.present w)) e),
+        ∙ sym (ap (λ (x : Called). place_called limits again x name words script frames (state_at old.present w)) e),
     h.2,
   )
 
-  pub writing_does : (b : Called) (list : List Text) (written : List Text → Text) → b ≡ BuiltIn (WritesText written) → list ≡ words → Changes old new (text_written written list) → Does steps.Going old new (place_called limits b name words script old.present.frames)
+  pub writing_does : (b : Called) (list : List Text) (written : List Text → Text) → b ≡ BuiltIn (WritesText written) → list ≡ words → Changes old new (text_written written list) → Does steps.Going old new (place_called limits again b name words script old.present.frames)
   writing_does b list written e l h = (
     λ w. ap (λ (x : List RunningFrame). GoOn x (state_at new.present w)) h.1 ∙ ap (GoOn frames) (h.0 w) ∙ ap (λ (x : List Text). GoOn frames (remember (text_written written x) (state_at old.present w))) l
-        ∙ sym (ap (λ (x : Called). place_called limits x name words script frames (state_at old.present w)) e),
+        ∙ sym (ap (λ (x : Called). place_called limits again x name words script frames (state_at old.present w)) e),
     h.2,
   )
 
@@ -112,14 +112,14 @@ module _ (limits : Limits) (old new : Record) (name : Text) (words : List Text) 
   request effect = request_of name words effect
 
   -- what a device command does, the name does
-  pub device_comes : (r : Result Step StoreError) (b : Called) (effect : Effect) → b ≡ Device effect → Comes r old new (place_ask limits (request effect) old.present.frames) → Comes r old new (place_called limits b name words script old.present.frames)
-  device_comes r b effect e h = subst (λ (x : Called). Comes r old new (place_called limits x name words script old.present.frames)) (sym e) h
+  pub device_comes : (r : Result Step StoreError) (b : Called) (effect : Effect) → b ≡ Device effect → Comes r old new (place_ask limits (request effect) old.present.frames) → Comes r old new (place_called limits again b name words script old.present.frames)
+  device_comes r b effect e h = subst (λ (x : Called). Comes r old new (place_called limits again x name words script old.present.frames)) (sym e) h
 
-  pub test_comes : (r : Result Step StoreError) (b : Called) → b ≡ BuiltIn Tests → asks_in limits.shell words ≡ true → Comes r old new (place_ask limits (test_request limits name words) old.present.frames) → Comes r old new (place_called limits b name words script old.present.frames)
+  pub test_comes : (r : Result Step StoreError) (b : Called) → b ≡ BuiltIn Tests → asks_in limits.shell words ≡ true → Comes r old new (place_ask limits (test_request limits name words) old.present.frames) → Comes r old new (place_called limits again b name words script old.present.frames)
   test_comes (Ok step) b e d h = (
     λ w. h.0 w
         ∙ chosen (asks_in limits.shell words) (place_ask limits (test_request limits name words) frames (state_at old.present w)) (GoOn frames (set_status (status_when (truth_in limits.shell words)) (state_at old.present w))) d
-        ∙ sym (ap (λ (x : Called). place_called limits x name words script frames (state_at old.present w)) e),
+        ∙ sym (ap (λ (x : Called). place_called limits again x name words script frames (state_at old.present w)) e),
     h.1,
   )
   test_comes (Err x) b e d h = tt
@@ -135,12 +135,12 @@ other_listed devices name words o none is =
     ∙ ap (λ (o : Option Effect). let c : Called = elim o [ Some effect ↦ Device effect | None ↦ NoCommand ] in c) (sym is)
 
 -- what the built-in command of a name does, or the call if it is of none, the name does
-pub name_called : (limits : Limits) (name : Text) (words : List Text) (o : Option Builtin) (script : Script) (r : Result Step StoreError) (old new : Record) → o ≡ builtin_of name
-    → Comes r old new (place_called limits (elim o [ Some builtin ↦ BuiltIn (deed_of builtin) | None ↦ other_called limits.devices name words ]) name words script old.present.frames)
-    → Comes r old new (place_called limits (called_by limits.devices name words) name words script old.present.frames)
-name_called limits name words o script r old new named h =
+pub name_called : (limits : Limits) (again : Bool) (name : Text) (words : List Text) (o : Option Builtin) (script : Script) (r : Result Step StoreError) (old new : Record) → o ≡ builtin_of name
+    → Comes r old new (place_called limits again (elim o [ Some builtin ↦ BuiltIn (deed_of builtin) | None ↦ other_called limits.devices name words ]) name words script old.present.frames)
+    → Comes r old new (place_called limits again (called_by limits.devices name words) name words script old.present.frames)
+name_called limits again name words o script r old new named h =
     let called = ap (λ (o : Option Builtin). let c : Called = elim o [ Some builtin ↦ BuiltIn (deed_of builtin) | None ↦ other_called limits.devices name words ] in c) named ∙ sym (called_apart limits.devices name words) in
-    subst (λ (x : Called). Comes r old new (place_called limits x name words script old.present.frames)) called h
+    subst (λ (x : Called). Comes r old new (place_called limits again x name words script old.present.frames)) called h
 
 pub empty_rest : (ys : List (Vec ℕ Global)) → true ≡ eqb (length ys) 0 → ys ≡ []
 empty_rest [] e = refl
@@ -151,5 +151,5 @@ some_rest [] e = absurd (let f = e in cc)
 some_rest (y ∷ ys) e = omega arith
 
 -- what the built-in command of a name does, the name does
-pub named_comes : (limits : Limits) (name : Text) (words : List Text) (script : Script) (frames : List RunningFrame) (r : Result Step StoreError) (old new : Record) (b k : Called) → b ≡ k → Comes r old new (place_called limits k name words script frames) → Comes r old new (place_called limits b name words script frames)
-named_comes limits name words script frames r old new b k e h = subst (λ (x : Called). Comes r old new (place_called limits x name words script frames)) (sym e) h
+pub named_comes : (limits : Limits) (again : Bool) (name : Text) (words : List Text) (script : Script) (frames : List RunningFrame) (r : Result Step StoreError) (old new : Record) (b k : Called) → b ≡ k → Comes r old new (place_called limits again k name words script frames) → Comes r old new (place_called limits again b name words script frames)
+named_comes limits again name words script frames r old new b k e h = subst (λ (x : Called). Comes r old new (place_called limits again x name words script frames)) (sym e) h

@@ -1,5 +1,5 @@
 -- The words of a command that asks, expanded again.
-use Rattle.rehearse_rules.specs.ByShell.{fields_in}
+use Rattle.rehearse_rules.specs.ByShell.{fields_in, reads_again}
 use Rattle.std.proofs.Common.{ℕ, ◌-◌, true, false, List, ◌∷◌, Option, Some, None, refl, sym, ap, ◌∙◌, ◌≡◌, nat_le}
 use Rattle.hushlang.specs.Tree as tree
 use Rattle.hushlang.specs.Tree.{AndOr, Command}
@@ -74,12 +74,12 @@ module _ (limits : Limits) (old : Record) (f : RunningFrame) (fs : List RunningF
 
     pub too_long_again : nat_le (size (fields_in limits.shell (parameters_at old.present) words)) most_bytes ≡ false → Does (steps.Ends halts.Size) old old (fields_again limits (words_in_front f) f fs)
     too_long_again h = (
-      λ w. passed (nat_le (size (expanded w)) most_bytes) (place_fields limits (expanded w) f.script (f ∷ fs) (state_at old.present w)) (StopOn Size (state_at old.present w)) (ap (λ (x : List Text). nat_le (size x) most_bytes) (sym (same_fields w)) ∙ h) ∙ again w,
+      λ w. passed (nat_le (size (expanded w)) most_bytes) (place_fields limits (reads_again words) (expanded w) f.script (f ∷ fs) (state_at old.present w)) (StopOn Size (state_at old.present w)) (ap (λ (x : List Text). nat_le (size x) most_bytes) (sym (same_fields w)) ∙ h) ∙ again w,
       record { marked = refl; begun = refl },
     )
 
-    pub fields_found : (found : List Text) → found ≡ fields_in limits.shell (parameters_at old.present) words → nat_le (size (fields_in limits.shell (parameters_at old.present) words)) most_bytes ≡ true → (w : outcomes.OutcomeWord) → place_fields limits found f.script (f ∷ fs) (state_at old.present w) ≡ fields_again limits (words_in_front f) f fs (state_at old.present w)
+    pub fields_found : (found : List Text) → found ≡ fields_in limits.shell (parameters_at old.present) words → nat_le (size (fields_in limits.shell (parameters_at old.present) words)) most_bytes ≡ true → (w : outcomes.OutcomeWord) → place_fields limits (reads_again words) found f.script (f ∷ fs) (state_at old.present w) ≡ fields_again limits (words_in_front f) f fs (state_at old.present w)
     fields_found found e h w =
-        ap (λ (x : List Text). place_fields limits x f.script (f ∷ fs) (state_at old.present w)) (e ∙ same_fields w)
-        ∙ chosen (nat_le (size (expanded w)) most_bytes) (place_fields limits (expanded w) f.script (f ∷ fs) (state_at old.present w)) (StopOn Size (state_at old.present w)) (ap (λ (x : List Text). nat_le (size x) most_bytes) (sym (same_fields w)) ∙ h)
+        ap (λ (x : List Text). place_fields limits (reads_again words) x f.script (f ∷ fs) (state_at old.present w)) (e ∙ same_fields w)
+        ∙ chosen (nat_le (size (expanded w)) most_bytes) (place_fields limits (reads_again words) (expanded w) f.script (f ∷ fs) (state_at old.present w)) (StopOn Size (state_at old.present w)) (ap (λ (x : List Text). nat_le (size x) most_bytes) (sym (same_fields w)) ∙ h)
         ∙ again w

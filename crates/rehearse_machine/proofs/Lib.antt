@@ -13,6 +13,7 @@ pub mod ProgressLemmas
 pub mod AskingLemmas
 pub mod TurnLemmas
 pub mod CommandMoves
+pub mod NamedLemmas
 pub mod ComputedLemmas
 pub mod Beginnings
 pub mod ListLemmas

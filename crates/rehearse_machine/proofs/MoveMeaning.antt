@@ -19,7 +19,7 @@ use Rattle.rehearse_rules.proofs.TakenOutcomes.{KeepsAll, after_condition, Keeps
 use Rattle.hushlang_old.proofs.TreeByShellLemmas.{trees_in_are_proper}
 use Rattle.rehearse_machine.proofs.BoundLemmas.{Cut-block}
 use Rattle.rehearse_machine.proofs.StepBoundLemmas.{same_go_on, same_if, closed_exec, same_turns}
-use Rattle.rehearse_rules.specs.ByShell.{unread, leaves_in, status_of_exit, asks_in, truth_in, fields_in, turns_in, skips_rest, status_of_loop, follows, assigned_in}
+use Rattle.rehearse_rules.specs.ByShell.{unread, reads_again, leaves_in, status_of_exit, asks_in, truth_in, fields_in, turns_in, skips_rest, status_of_loop, follows, assigned_in}
 use Rattle.rehearse_rules.proofs.TakenOutcomes.{skipped}
 
 module _ (limits : Limits) where
@@ -108,19 +108,19 @@ module _ (limits : Limits) where
     exit-is (Some status) other fs s = leave-is fs (set_status status s)
     exit-is None other fs s = refl
 
-    builtin-is : (b : Called) (name : Text) (ws : List Text) (fs : List Frame) (s : State) → comes_to limits w (begin_called limits b name ws fs s) ≡ continue limits fs (command limits (full limits) b name ws (with w s))
-    builtin-is (BuiltIn RunsTexts) name [] fs s = refl
-    builtin-is (BuiltIn RunsTexts) name (v ∷ ws) fs s = refl
-    builtin-is (BuiltIn (ChangesVariables change)) name ws fs s = refl
-    builtin-is (BuiltIn Tests) name ws fs s = if-is (asks_in limits.shell ws) (ask limits (test_request limits name ws) fs s) (Go fs (set_status (status_when (truth_in limits.shell ws)) s)) fs (device limits (test_request limits name ws) (with w s)) (Normal (set_status (status_when (truth_in limits.shell ws)) (with w s))) (ask-is (test_request limits name ws) fs s) refl
-    builtin-is (BuiltIn (WritesText written)) name ws fs s = refl
-    builtin-is (BuiltIn Exits) name ws fs s = exit-is (leaves_in limits.shell ws) (status_of_exit limits.shell ws) fs s
-    builtin-is (Device effect) name ws fs s = ask-is (request_of name ws effect) fs s
-    builtin-is NoCommand name ws fs s = sym (continue-ended fs (Unknown name) (with w s))
+    builtin-is : (again : Bool) (b : Called) (name : Text) (ws : List Text) (fs : List Frame) (s : State) → comes_to limits w (begin_called limits again b name ws fs s) ≡ continue limits fs (command limits again (full limits) b name ws (with w s))
+    builtin-is again (BuiltIn RunsTexts) name [] fs s = refl
+    builtin-is again (BuiltIn RunsTexts) name (v ∷ ws) fs s = refl
+    builtin-is again (BuiltIn (ChangesVariables change)) name ws fs s = refl
+    builtin-is again (BuiltIn Tests) name ws fs s = if-is (asks_in limits.shell ws) (ask limits (test_request limits name ws) fs s) (Go fs (set_status (status_when (truth_in limits.shell ws)) s)) fs (device limits (test_request limits name ws) (with w s)) (Normal (set_status (status_when (truth_in limits.shell ws)) (with w s))) (ask-is (test_request limits name ws) fs s) refl
+    builtin-is again (BuiltIn (WritesText written)) name ws fs s = refl
+    builtin-is again (BuiltIn Exits) name ws fs s = exit-is (leaves_in limits.shell again ws) (status_of_exit limits.shell ws) fs s
+    builtin-is again (Device effect) name ws fs s = ask-is (request_of name ws effect) fs s
+    builtin-is again NoCommand name ws fs s = sym (continue-ended fs (Unknown name) (with w s))
 
-    fields-is : (ws : List Text) (fs : List Frame) (s : State) → comes_to limits w (begin_fields limits ws fs s) ≡ continue limits fs (simple limits (full limits) ws (with w s))
-    fields-is [] fs s = refl
-    fields-is (name ∷ ws) fs s = if-is (follows limits.shell limits.devices name ws) (begin_called limits (called_by limits.devices name ws) name ws fs s) (Stop (Unsupported name) s) fs (command limits (full limits) (called_by limits.devices name ws) name ws (with w s)) (Ended (Unsupported name) (with w s)) (builtin-is (called_by limits.devices name ws) name ws fs s) (sym (continue-ended fs (Unsupported name) (with w s)))
+    fields-is : (again : Bool) (ws : List Text) (fs : List Frame) (s : State) → comes_to limits w (begin_fields limits again ws fs s) ≡ continue limits fs (simple limits again (full limits) ws (with w s))
+    fields-is again [] fs s = refl
+    fields-is again (name ∷ ws) fs s = if-is (follows limits.shell limits.devices name ws) (begin_called limits again (called_by limits.devices name ws) name ws fs s) (Stop (Unsupported name) s) fs (command limits again (full limits) (called_by limits.devices name ws) name ws (with w s)) (Ended (Unsupported name) (with w s)) (builtin-is again (called_by limits.devices name ws) name ws fs s) (sym (continue-ended fs (Unsupported name) (with w s)))
 
     counted-is : (next : State → Next) (f : State → Answer) (fs : List Frame) (s : State) → ((t : State) → comes_to limits w (next t) ≡ continue limits fs (f (with w t))) → comes_to limits w (counted limits next s) ≡ continue limits fs (begin limits f (with w s))
     counted-is next f fs s e = if-is (nat_lt s.steps limits.step_bound) (next (record s { steps = suc s.steps })) (Stop CutSteps s) fs (f (with w (record s { steps = suc s.steps }))) (Ended CutSteps (with w s)) (e (record s { steps = suc s.steps })) (sym (continue-ended fs CutSteps (with w s)))
@@ -158,7 +158,7 @@ module _ (limits : Limits) where
     turn_more until c b p q last s = turn_more_at limits.step_bound refl until c b p q last s
 
     command-is : (c : Command) → IsProperCommand c → (fs : List Frame) (s : State) → comes_to limits w (begin_command limits c fs s) ≡ continue limits fs (one limits c (with w s))
-    command-is (tree.Simple words) p fs s = counted-is (λ t. fitting (fields_in limits.shell (parameters_in t.memory) words) (λ f. begin_fields limits f fs) t) (λ t. sized (fields_in limits.shell (parameters_in t.memory) words) (simple limits (full limits)) t) fs s (λ t. fitting-is (fields_in limits.shell (parameters_in t.memory) words) (λ f. begin_fields limits f fs) (simple limits (full limits)) fs t (fields-is (fields_in limits.shell (parameters_in t.memory) words) fs t))
+    command-is (tree.Simple words) p fs s = counted-is (λ t. fitting (fields_in limits.shell (parameters_in t.memory) words) (λ f. begin_fields limits (reads_again words) f fs) t) (λ t. sized (fields_in limits.shell (parameters_in t.memory) words) (simple limits (reads_again words) (full limits)) t) fs s (λ t. fitting-is (fields_in limits.shell (parameters_in t.memory) words) (λ f. begin_fields limits (reads_again words) f fs) (simple limits (reads_again words) (full limits)) fs t (fields-is (reads_again words) (fields_in limits.shell (parameters_in t.memory) words) fs t))
     command-is (tree.Assign pairs) p fs s = counted-is (begin_assign limits.shell pairs fs) (assign limits.shell pairs) fs s (λ t. assign-is pairs fs t)
     command-is (tree.If arms) p fs s = arms-is arms fs s
     command-is (tree.Loop until c b) p fs s = ap (continue limits fs) (sym (turn_more until c b p.0 p.1 0 (with w s)))

@@ -23,7 +23,7 @@ use Rattle.rehearse_machine.specs.Frames.{Frame, Lists, Linked, IfCondition, Loo
 use Rattle.rehearse_machine.specs.Places.{list_at, drop_lists, joined_at, drop_joined, second, command_in, command_at, drop_arms, place, from_command, condition_frame, phase, from_turn, script_frames, for_frame, run_frame, frames_by, frames_of, PlaceNext, GoOn, StopOn, next_of, moved_to, behind, in_turn, text_frame, block_frame, is_run, to_run, left, place_exit, place_finish, place_answered, place_tell_or_ask, place_assign, place_tree, place_text, place_name, run_move, for_turn, for_move, for_begins, place_arms, condition_ends, phase_move, place_fitting, place_ask, place_called, place_fields, place_counted, place_command, place_joined, place_skipped, place_begins, place_turn, place_list, place_by, place_move, place_skipped}
 use Rattle.rehearse_machine.proofs.Beginnings.{chosen, passed}
 use Rattle.rehearse_terms.specs.declared.shell.Shell.{Shell}
-use Rattle.rehearse_rules.specs.ByShell.{leaves_in, status_of_exit, asks_in, truth_in, fields_in, turns_in, skips_rest, status_of_no_block, status_of_loop, follows, assigned_in}
+use Rattle.rehearse_rules.specs.ByShell.{reads_again, leaves_in, status_of_exit, asks_in, truth_in, fields_in, turns_in, skips_rest, status_of_no_block, status_of_loop, follows, assigned_in}
 
 -- ---- parts by their numbers
 
@@ -247,22 +247,22 @@ module _ (limits : Limits) where
   ask-is : (r : Request) (ps : List RunningFrame) (s : State) → next_of (place_ask limits r ps s) ≡ ask limits r (frames_of ps) s
   ask-is r ps s = if_next (nat_lt (length s.log) limits.device_bound) (place_tell_or_ask (told r s.log) r ps s) (StopOn CutDevices s) (tell_or_ask (told r s.log) r (frames_of ps) s) (Stop CutDevices s) (tell-is (told r s.log) r ps s) refl
 
-  builtin-is : (b : Called) (name : Text) (ws : List Text) (script : Script) (ps : List RunningFrame) (s : State) → next_of (place_called limits b name ws script ps s) ≡ begin_called limits b name ws (frames_of ps) s
-  builtin-is (BuiltIn (ChangesVariables change)) name ws script ps s = refl
-  builtin-is (BuiltIn RunsTexts) name [] script ps s = refl
-  builtin-is (BuiltIn RunsTexts) name (w ∷ ws) script ps s = refl
-  builtin-is (BuiltIn Tests) name ws script ps s =
+  builtin-is : (again : Bool) (b : Called) (name : Text) (ws : List Text) (script : Script) (ps : List RunningFrame) (s : State) → next_of (place_called limits again b name ws script ps s) ≡ begin_called limits again b name ws (frames_of ps) s
+  builtin-is again (BuiltIn (ChangesVariables change)) name ws script ps s = refl
+  builtin-is again (BuiltIn RunsTexts) name [] script ps s = refl
+  builtin-is again (BuiltIn RunsTexts) name (w ∷ ws) script ps s = refl
+  builtin-is again (BuiltIn Tests) name ws script ps s =
       let r : Request = test_request limits name ws in
       let t : State = set_status (status_when (truth_in limits.shell ws)) s in
       if_next (asks_in limits.shell ws) (place_ask limits r ps s) (GoOn ps t) (ask limits r (frames_of ps) s) (Go (frames_of ps) t) (ask-is r ps s) refl
-  builtin-is (BuiltIn (WritesText written)) name ws script ps s = refl
-  builtin-is (BuiltIn Exits) name ws script ps s = exit-is (leaves_in limits.shell ws) (status_of_exit limits.shell ws) ps s
-  builtin-is (Device effect) name ws script ps s = ask-is (request_of name ws effect) ps s
-  builtin-is NoCommand name ws script ps s = refl
+  builtin-is again (BuiltIn (WritesText written)) name ws script ps s = refl
+  builtin-is again (BuiltIn Exits) name ws script ps s = exit-is (leaves_in limits.shell again ws) (status_of_exit limits.shell ws) ps s
+  builtin-is again (Device effect) name ws script ps s = ask-is (request_of name ws effect) ps s
+  builtin-is again NoCommand name ws script ps s = refl
 
-  fields-is : (ws : List Text) (script : Script) (ps : List RunningFrame) (s : State) → next_of (place_fields limits ws script ps s) ≡ begin_fields limits ws (frames_of ps) s
-  fields-is [] script ps s = refl
-  fields-is (name ∷ ws) script ps s = if_next (follows limits.shell limits.devices name ws) (place_called limits (called_by limits.devices name ws) name ws script ps s) (StopOn (Unsupported name) s) (begin_called limits (called_by limits.devices name ws) name ws (frames_of ps) s) (Stop (Unsupported name) s) (builtin-is (called_by limits.devices name ws) name ws script ps s) refl
+  fields-is : (again : Bool) (ws : List Text) (script : Script) (ps : List RunningFrame) (s : State) → next_of (place_fields limits again ws script ps s) ≡ begin_fields limits again ws (frames_of ps) s
+  fields-is again [] script ps s = refl
+  fields-is again (name ∷ ws) script ps s = if_next (follows limits.shell limits.devices name ws) (place_called limits again (called_by limits.devices name ws) name ws script ps s) (StopOn (Unsupported name) s) (begin_called limits again (called_by limits.devices name ws) name ws (frames_of ps) s) (Stop (Unsupported name) s) (builtin-is again (called_by limits.devices name ws) name ws script ps s) refl
 
   -- at a list of a script that is running
   module _ (f : RunningFrame) (fs : List RunningFrame) (list : AndOr) (at_list : list_at f.script f.place.list ≡ Some list) (scripted : (p : At) → frames_by f.kind (moved_to p f) ≡ script_frames (list_at f.script p.list) p (drop_lists (suc p.list) f.script)) where
@@ -299,8 +299,8 @@ module _ (limits : Limits) where
     looped-is until c b e last s = ap (λ (x : List Frame). Go x s) (blocked c (in_turn 1 last f ∷ fs) ∙ ap (λ (x : List Frame). Lists c ∷ x) (turned f.place.command 1 last ∙ ap (λ (x : Option Command). phase x 0 last ∷ below) e))
 
     command-is : (c : Command) → command_in list f.place.command ≡ Some c → (s : State) → next_of (place_command limits c f fs s) ≡ begin_command limits c below s
-    command-is (tree.Simple words) e s = counted-is (λ t. place_fitting (fields_in limits.shell (parameters_in t.memory) words) (λ found. place_fields limits found f.script (behind f ∷ fs)) t) (λ t. fitting (fields_in limits.shell (parameters_in t.memory) words) (λ found. begin_fields limits found below) t) s
-        (λ t. fitting-is (fields_in limits.shell (parameters_in t.memory) words) (λ found. place_fields limits found f.script (behind f ∷ fs)) (λ found. begin_fields limits found below) t (fields-is (fields_in limits.shell (parameters_in t.memory) words) f.script (behind f ∷ fs) t ∙ ap (λ (x : List Frame). begin_fields limits (fields_in limits.shell (parameters_in t.memory) words) x t) behind-is))
+    command-is (tree.Simple words) e s = counted-is (λ t. place_fitting (fields_in limits.shell (parameters_in t.memory) words) (λ found. place_fields limits (reads_again words) found f.script (behind f ∷ fs)) t) (λ t. fitting (fields_in limits.shell (parameters_in t.memory) words) (λ found. begin_fields limits (reads_again words) found below) t) s
+        (λ t. fitting-is (fields_in limits.shell (parameters_in t.memory) words) (λ found. place_fields limits (reads_again words) found f.script (behind f ∷ fs)) (λ found. begin_fields limits (reads_again words) found below) t (fields-is (reads_again words) (fields_in limits.shell (parameters_in t.memory) words) f.script (behind f ∷ fs) t ∙ ap (λ (x : List Frame). begin_fields limits (reads_again words) (fields_in limits.shell (parameters_in t.memory) words) x t) behind-is))
     command-is (tree.Assign pairs) e s = counted-is (place_assign limits.shell pairs (behind f ∷ fs)) (begin_assign limits.shell pairs below) s (λ t. assign-is limits.shell pairs (behind f ∷ fs) t ∙ ap (λ (x : List Frame). begin_assign limits.shell pairs x t) behind-is)
     command-is (tree.If arms) e s = arms-is arms arms 0 e refl s
     command-is (tree.Loop until c b) e s = looped-is until c b e 0 s

@@ -14,7 +14,7 @@ use Rattle.rehearse_terms.specs.Outcomes.{Success}
 use Rattle.rehearse_machine.specs.Frames.{Frame, Lists, Linked, IfCondition, LoopCondition, LoopBody, ForBody, RunNames, RunText, Next, Go, Ask, Stop, tell_or_ask, finish_next, leave, begin_assign, begin_for, begin_arms, begin_tree, begin_text, begin_names, begin_exit, fitting, ask, begin_called, begin_fields, begin_command, move}
 use Rattle.rehearse_machine.specs.MoveCounts.{command_depth, arms_depth, script_depth, block_weight, links_weight, arms_weight, tree_weight, text_weight, names_weight, weight}
 use Rattle.rehearse_machine.specs.Meaning.{AreProperFrames}
-use Rattle.rehearse_rules.specs.ByShell.{leaves_in, status_of_exit, asks_in, truth_in, fields_in, turns_in, skips_rest, status_of_loop, follows, assigned_in}
+use Rattle.rehearse_rules.specs.ByShell.{reads_again, leaves_in, status_of_exit, asks_in, truth_in, fields_in, turns_in, skips_rest, status_of_loop, follows, assigned_in}
 
 module _ (limits : Limits) where
   -- no step was begun since t
@@ -85,19 +85,19 @@ module _ (limits : Limits) where
   exit-quiet (Some n) other fs s = leave-quiet fs (set_status n s)
   exit-quiet None other fs s = refl
 
-  builtin-quiet : (b : Called) (name : Text) (ws : List Text) (fs : List Frame) (s : State) → IsQuiet s (begin_called limits b name ws fs s)
-  builtin-quiet (BuiltIn (ChangesVariables change)) name ws fs s = refl
-  builtin-quiet (BuiltIn RunsTexts) name [] fs s = refl
-  builtin-quiet (BuiltIn RunsTexts) name (w ∷ ws) fs s = refl
-  builtin-quiet (BuiltIn Tests) name ws fs s = either-quiet s (asks_in limits.shell ws) (ask limits (test_request limits name ws) fs s) (Go fs (set_status (status_when (truth_in limits.shell ws)) s)) (ask-quiet (test_request limits name ws) fs s) refl
-  builtin-quiet (BuiltIn (WritesText written)) name ws fs s = refl
-  builtin-quiet (BuiltIn Exits) name ws fs s = exit-quiet (leaves_in limits.shell ws) (status_of_exit limits.shell ws) fs s
-  builtin-quiet (Device effect) name ws fs s = ask-quiet (request_of name ws effect) fs s
-  builtin-quiet NoCommand name ws fs s = refl
+  builtin-quiet : (again : Bool) (b : Called) (name : Text) (ws : List Text) (fs : List Frame) (s : State) → IsQuiet s (begin_called limits again b name ws fs s)
+  builtin-quiet again (BuiltIn (ChangesVariables change)) name ws fs s = refl
+  builtin-quiet again (BuiltIn RunsTexts) name [] fs s = refl
+  builtin-quiet again (BuiltIn RunsTexts) name (w ∷ ws) fs s = refl
+  builtin-quiet again (BuiltIn Tests) name ws fs s = either-quiet s (asks_in limits.shell ws) (ask limits (test_request limits name ws) fs s) (Go fs (set_status (status_when (truth_in limits.shell ws)) s)) (ask-quiet (test_request limits name ws) fs s) refl
+  builtin-quiet again (BuiltIn (WritesText written)) name ws fs s = refl
+  builtin-quiet again (BuiltIn Exits) name ws fs s = exit-quiet (leaves_in limits.shell again ws) (status_of_exit limits.shell ws) fs s
+  builtin-quiet again (Device effect) name ws fs s = ask-quiet (request_of name ws effect) fs s
+  builtin-quiet again NoCommand name ws fs s = refl
 
-  fields-quiet : (ws : List Text) (fs : List Frame) (s : State) → IsQuiet s (begin_fields limits ws fs s)
-  fields-quiet [] fs s = refl
-  fields-quiet (name ∷ ws) fs s = either-quiet s (follows limits.shell limits.devices name ws) (begin_called limits (called_by limits.devices name ws) name ws fs s) (Stop (Unsupported name) s) (builtin-quiet (called_by limits.devices name ws) name ws fs s) refl
+  fields-quiet : (again : Bool) (ws : List Text) (fs : List Frame) (s : State) → IsQuiet s (begin_fields limits again ws fs s)
+  fields-quiet again [] fs s = refl
+  fields-quiet again (name ∷ ws) fs s = either-quiet s (follows limits.shell limits.devices name ws) (begin_called limits again (called_by limits.devices name ws) name ws fs s) (Stop (Unsupported name) s) (builtin-quiet again (called_by limits.devices name ws) name ws fs s) refl
 
   for-quiet : (name : Text) (values : List Text) (body : Script) (fs : List Frame) (s : State) → IsQuiet s (begin_for name values body fs s)
   for-quiet name [] body fs s = refl
@@ -148,7 +148,7 @@ module _ (limits : Limits) where
   loop_progress until (tree.Runs l ls) b last fs s p = inr (refl, refl, omega arith)
 
   command_progress : (c : Command) (fs : List Frame) (s : State) → IsProperCommand c → Progress s (suc (command_depth c)) (begin_command limits c fs s)
-  command_progress (tree.Simple words) fs s p = let t : State = record s { steps = suc s.steps } in inl (counted_at (nat_lt s.steps limits.step_bound) s (fitting (fields_in limits.shell (parameters_in t.memory) words) (λ f. begin_fields limits f fs) t) refl (either-quiet t (nat_le (size (fields_in limits.shell (parameters_in t.memory) words)) most_bytes) (begin_fields limits (fields_in limits.shell (parameters_in t.memory) words) fs t) (Stop Size t) (fields-quiet (fields_in limits.shell (parameters_in t.memory) words) fs t) refl))
+  command_progress (tree.Simple words) fs s p = let t : State = record s { steps = suc s.steps } in inl (counted_at (nat_lt s.steps limits.step_bound) s (fitting (fields_in limits.shell (parameters_in t.memory) words) (λ f. begin_fields limits (reads_again words) f fs) t) refl (either-quiet t (nat_le (size (fields_in limits.shell (parameters_in t.memory) words)) most_bytes) (begin_fields limits (reads_again words) (fields_in limits.shell (parameters_in t.memory) words) fs t) (Stop Size t) (fields-quiet (reads_again words) (fields_in limits.shell (parameters_in t.memory) words) fs t) refl))
   command_progress (tree.Assign pairs) fs s p = let t : State = record s { steps = suc s.steps } in inl (counted_at (nat_lt s.steps limits.step_bound) s (begin_assign limits.shell pairs fs t) refl (assign-quiet pairs fs t t refl))
   command_progress (tree.If arms) fs s p = if_progress arms fs s p
   command_progress (tree.Loop until c b) fs s p = loop_progress until c b 0 fs s p.0

@@ -15,7 +15,7 @@ use Rattle.rehearse_machine.specs.Frames.{Frame, Lists, Linked, IfCondition, Loo
 use Rattle.hushlang_old.proofs.TreeByShellLemmas.{trees_in_are_proper}
 use Rattle.rehearse_machine.proofs.StepBoundLemmas.{block_proper}
 use Rattle.rehearse_machine.specs.Meaning.{AreProperFrames, IsProperNext}
-use Rattle.rehearse_rules.specs.ByShell.{leaves_in, status_of_exit, asks_in, truth_in, fields_in, turns_in, skips_rest, status_of_loop, follows, assigned_in}
+use Rattle.rehearse_rules.specs.ByShell.{reads_again, leaves_in, status_of_exit, asks_in, truth_in, fields_in, turns_in, skips_rest, status_of_loop, follows, assigned_in}
 
 module _ (limits : Limits) where
   either : (b : Bool) (x y : Next) → IsProperNext x → IsProperNext y → IsProperNext (elim b [ true ↦ x | false ↦ y ])
@@ -63,19 +63,19 @@ module _ (limits : Limits) where
   exit-proper (Some n) other fs s p = leave-proper fs (set_status n s) p
   exit-proper None other fs s p = p
 
-  builtin-proper : (b : Called) (name : Text) (ws : List Text) (fs : List Frame) (s : State) → AreProperFrames fs → IsProperNext (begin_called limits b name ws fs s)
-  builtin-proper (BuiltIn (ChangesVariables change)) name ws fs s p = p
-  builtin-proper (BuiltIn RunsTexts) name [] fs s p = p
-  builtin-proper (BuiltIn RunsTexts) name (w ∷ ws) fs s p = (tt, p)
-  builtin-proper (BuiltIn Tests) name ws fs s p = either (asks_in limits.shell ws) (ask limits (test_request limits name ws) fs s) (Go fs (set_status (status_when (truth_in limits.shell ws)) s)) (ask-proper (test_request limits name ws) fs s p) p
-  builtin-proper (BuiltIn (WritesText written)) name ws fs s p = p
-  builtin-proper (BuiltIn Exits) name ws fs s p = exit-proper (leaves_in limits.shell ws) (status_of_exit limits.shell ws) fs s p
-  builtin-proper (Device effect) name ws fs s p = ask-proper (request_of name ws effect) fs s p
-  builtin-proper NoCommand name ws fs s p = tt
+  builtin-proper : (again : Bool) (b : Called) (name : Text) (ws : List Text) (fs : List Frame) (s : State) → AreProperFrames fs → IsProperNext (begin_called limits again b name ws fs s)
+  builtin-proper again (BuiltIn (ChangesVariables change)) name ws fs s p = p
+  builtin-proper again (BuiltIn RunsTexts) name [] fs s p = p
+  builtin-proper again (BuiltIn RunsTexts) name (w ∷ ws) fs s p = (tt, p)
+  builtin-proper again (BuiltIn Tests) name ws fs s p = either (asks_in limits.shell ws) (ask limits (test_request limits name ws) fs s) (Go fs (set_status (status_when (truth_in limits.shell ws)) s)) (ask-proper (test_request limits name ws) fs s p) p
+  builtin-proper again (BuiltIn (WritesText written)) name ws fs s p = p
+  builtin-proper again (BuiltIn Exits) name ws fs s p = exit-proper (leaves_in limits.shell again ws) (status_of_exit limits.shell ws) fs s p
+  builtin-proper again (Device effect) name ws fs s p = ask-proper (request_of name ws effect) fs s p
+  builtin-proper again NoCommand name ws fs s p = tt
 
-  fields-proper : (ws : List Text) (fs : List Frame) (s : State) → AreProperFrames fs → IsProperNext (begin_fields limits ws fs s)
-  fields-proper [] fs s p = p
-  fields-proper (name ∷ ws) fs s p = either (follows limits.shell limits.devices name ws) (begin_called limits (called_by limits.devices name ws) name ws fs s) (Stop (Unsupported name) s) (builtin-proper (called_by limits.devices name ws) name ws fs s p) tt
+  fields-proper : (again : Bool) (ws : List Text) (fs : List Frame) (s : State) → AreProperFrames fs → IsProperNext (begin_fields limits again ws fs s)
+  fields-proper again [] fs s p = p
+  fields-proper again (name ∷ ws) fs s p = either (follows limits.shell limits.devices name ws) (begin_called limits again (called_by limits.devices name ws) name ws fs s) (Stop (Unsupported name) s) (builtin-proper again (called_by limits.devices name ws) name ws fs s p) tt
 
   for-proper : (name : Text) (values : List Text) (body : Script) (fs : List Frame) (s : State) → HoldsCommand body → AreProperFrames fs → IsProperNext (begin_for name values body fs s)
   for-proper name [] body fs s q p = p
@@ -96,7 +96,7 @@ module _ (limits : Limits) where
   assign-proper (pair ∷ pairs) fs s p = let value : Text = assigned_in limits.shell (parameters_in s.memory) pair.1 in either (nat_le (length value) most_bytes) (begin_assign limits.shell pairs fs (assign_local limits.shell pair.0 value s)) (Stop Size s) (assign-proper pairs fs (assign_local limits.shell pair.0 value s) p) tt
 
   command-proper : (c : Command) (fs : List Frame) (s : State) → IsProperCommand c → AreProperFrames fs → IsProperNext (begin_command limits c fs s)
-  command-proper (tree.Simple words) fs s q p = let t : State = record s { steps = suc s.steps } in either (nat_lt s.steps limits.step_bound) (fitting (fields_in limits.shell (parameters_in t.memory) words) (λ f. begin_fields limits f fs) t) (Stop CutSteps s) (either (nat_le (size (fields_in limits.shell (parameters_in t.memory) words)) most_bytes) (begin_fields limits (fields_in limits.shell (parameters_in t.memory) words) fs t) (Stop Size t) (fields-proper (fields_in limits.shell (parameters_in t.memory) words) fs t p) tt) tt
+  command-proper (tree.Simple words) fs s q p = let t : State = record s { steps = suc s.steps } in either (nat_lt s.steps limits.step_bound) (fitting (fields_in limits.shell (parameters_in t.memory) words) (λ f. begin_fields limits (reads_again words) f fs) t) (Stop CutSteps s) (either (nat_le (size (fields_in limits.shell (parameters_in t.memory) words)) most_bytes) (begin_fields limits (reads_again words) (fields_in limits.shell (parameters_in t.memory) words) fs t) (Stop Size t) (fields-proper (reads_again words) (fields_in limits.shell (parameters_in t.memory) words) fs t p) tt) tt
   command-proper (tree.Assign pairs) fs s q p = let t : State = record s { steps = suc s.steps } in either (nat_lt s.steps limits.step_bound) (begin_assign limits.shell pairs fs t) (Stop CutSteps s) (assign-proper pairs fs t p) tt
   command-proper (tree.If arms) fs s q p = arms-proper arms fs s (if-proper arms q) p
   command-proper (tree.Loop until c b) fs s q p = (block_proper c q.0, (q, p))

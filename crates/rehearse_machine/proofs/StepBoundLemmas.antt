@@ -14,7 +14,7 @@ use Rattle.rehearse_rules.proofs.GrowingSteps.{AtLeast, Grew, AtLeast-track, Gre
 use Rattle.rehearse_rules.proofs.TakenOutcomes.{KeepsAll, after_condition, Keeps-script, Keeps-list, Keeps-one, Keeps-exec, Keeps-started}
 use Rattle.hushlang_old.proofs.TreeByShellLemmas.{trees_in_are_proper}
 use Rattle.rehearse_machine.proofs.BoundLemmas.{Cut-block, Cut-turns}
-use Rattle.rehearse_rules.specs.ByShell.{unread, fields_in, turns_in, skips_rest, status_of_loop, follows}
+use Rattle.rehearse_rules.specs.ByShell.{unread, reads_again, fields_in, turns_in, skips_rest, status_of_loop, follows}
 use Rattle.rehearse_rules.proofs.TakenOutcomes.{skipped}
 
 pub block_proper : (a : Script) → HoldsCommand a → IsProper a
@@ -67,19 +67,19 @@ module _ (limits : Limits) where
     same_run [] t h = refl
     same_run (name ∷ names) t h = same_named (get t.memory.environment name) name (run_all limits text names) (run_all limits text' names) t h (λ u l. same_run names u (omega arith))
 
-    same_command : (b : Called) (name : Text) (ws : List Text) (t : State) → limits.step_bound < n + t.steps → command limits text b name ws t ≡ command limits text' b name ws t
-    same_command (BuiltIn (ChangesVariables change)) name ws t h = refl
-    same_command (BuiltIn RunsTexts) name [] t h = refl
-    same_command (BuiltIn RunsTexts) name (w ∷ ws) t h = same_run (w ∷ ws) t h
-    same_command (BuiltIn Tests) name ws t h = refl
-    same_command (BuiltIn (WritesText written)) name ws t h = refl
-    same_command (BuiltIn Exits) name ws t h = refl
-    same_command (Device effect) name ws t h = refl
-    same_command NoCommand name ws t h = refl
+    same_command : (again : Bool) (b : Called) (name : Text) (ws : List Text) (t : State) → limits.step_bound < n + t.steps → command limits again text b name ws t ≡ command limits again text' b name ws t
+    same_command again (BuiltIn (ChangesVariables change)) name ws t h = refl
+    same_command again (BuiltIn RunsTexts) name [] t h = refl
+    same_command again (BuiltIn RunsTexts) name (w ∷ ws) t h = same_run (w ∷ ws) t h
+    same_command again (BuiltIn Tests) name ws t h = refl
+    same_command again (BuiltIn (WritesText written)) name ws t h = refl
+    same_command again (BuiltIn Exits) name ws t h = refl
+    same_command again (Device effect) name ws t h = refl
+    same_command again NoCommand name ws t h = refl
 
-    same_simple : (fs : List Text) (t : State) → limits.step_bound < n + t.steps → simple limits text fs t ≡ simple limits text' fs t
-    same_simple [] t h = refl
-    same_simple (name ∷ ws) t h = ap (λ (a : Answer). let b : Answer = elim (follows limits.shell limits.devices name ws) [ true ↦ a | false ↦ Ended (Unsupported name) t ] in b) (same_command (called_by limits.devices name ws) name ws t h)
+    same_simple : (again : Bool) (fs : List Text) (t : State) → limits.step_bound < n + t.steps → simple limits again text fs t ≡ simple limits again text' fs t
+    same_simple again [] t h = refl
+    same_simple again (name ∷ ws) t h = ap (λ (a : Answer). let b : Answer = elim (follows limits.shell limits.devices name ws) [ true ↦ a | false ↦ Ended (Unsupported name) t ] in b) (same_command again (called_by limits.devices name ws) name ws t h)
 
     same_begin : (f g : State → Answer) (s : State) → limits.step_bound ≤ n + s.steps → ((t : State) → limits.step_bound < n + t.steps → f t ≡ g t) → begin limits f s ≡ begin limits g s
     same_begin f g s h k = same_if (nat_lt s.steps limits.step_bound) (f (record s { steps = suc s.steps })) (Ended CutSteps s) (g (record s { steps = suc s.steps })) (Ended CutSteps s) (k (record s { steps = suc s.steps }) (omega arith)) refl
@@ -115,7 +115,7 @@ module _ (limits : Limits) where
           (same_if (skips_rest limits.shell) (Normal s) (exec_joined limits n text links s) (Normal s) (exec_joined limits m text' links s) refl (same_links links p.1 s h))
 
       same_one : (a : Command) → IsProperCommand a → (s : State) → limits.step_bound ≤ n + s.steps → exec_command limits n text a s ≡ exec_command limits m text' a s
-      same_one (tree.Simple words) p s h = same_begin (λ t. sized (fields_in limits.shell (parameters_in t.memory) words) (simple limits text) t) (λ t. sized (fields_in limits.shell (parameters_in t.memory) words) (simple limits text') t) s h (λ t r. same_sized (fields_in limits.shell (parameters_in t.memory) words) (simple limits text) (simple limits text') t (same_simple (fields_in limits.shell (parameters_in t.memory) words) t r))
+      same_one (tree.Simple words) p s h = same_begin (λ t. sized (fields_in limits.shell (parameters_in t.memory) words) (simple limits (reads_again words) text) t) (λ t. sized (fields_in limits.shell (parameters_in t.memory) words) (simple limits (reads_again words) text') t) s h (λ t r. same_sized (fields_in limits.shell (parameters_in t.memory) words) (simple limits (reads_again words) text) (simple limits (reads_again words) text') t (same_simple (reads_again words) (fields_in limits.shell (parameters_in t.memory) words) t r))
       same_one (tree.Assign pairs) p s h = refl
       same_one (tree.If arms) p s h = same_if_arms arms p s h
       same_one (tree.Loop until c b) p s h = same_turns n m below until (exec_script limits n text c) (exec_script limits m text' c) (exec_script limits n text b) (exec_script limits m text' b) (same_script c (block_proper c p.0)) (same_script b (block_proper b p.1)) (Grew-block limits n text kept c p.0) (Keeps-script limits n text kept b) (Cut-block limits m text' c p.0) 0 s h h

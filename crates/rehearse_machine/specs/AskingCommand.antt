@@ -1,5 +1,5 @@
 -- A device command that asks for its outcome: where it is, and how it is found again. Ours.
-use Rattle.rehearse_rules.specs.ByShell.{fields_in}
+use Rattle.rehearse_rules.specs.ByShell.{fields_in, reads_again}
 use Rattle.std.specs.Prelude.{◌≡◌, ℕ, zero, suc, List, [], ◌∷◌, Option, Some, None}
 use Rattle.hushlang.specs.Tree as tree
 use Rattle.hushlang.specs.Tree.{Command}
@@ -30,7 +30,8 @@ words_in_front f = words_of (command_in_front f.place.command f)
 abbrev pub fields_again : Limits → Option (List tree.Word) → RunningFrame → List RunningFrame → State → PlaceNext
 fields_again limits None f fs s = StopOn (End s.memory.status) s
 fields_again limits (Some words) f fs s =
-    place_fitting (fields_in limits.shell (parameters_in s.memory) words) (λ found. place_fields limits found f.script (f ∷ fs)) s
+    place_fitting (fields_in limits.shell (parameters_in s.memory) words)
+    (λ found. place_fields limits (reads_again words) found f.script (f ∷ fs)) s
 
 -- the command before the place of the innermost frame, found again: a device command that asks, if it is one
 abbrev pub found_again : Limits → List RunningFrame → State → PlaceNext

@@ -13,7 +13,7 @@ use Rattle.rehearse_terms.specs.Outcomes.{Outcome, Success, Failure}
 use Rattle.hushlang_old.specs.TreesByShell.{tree_in, lacks_end_in}
 use Rattle.rehearse_terms.specs.State.{Text, get, State}
 use Rattle.rehearse_terms.specs.declared.shell.Shell.{Shell}
-use Rattle.rehearse_rules.specs.ByShell.{unread, leaves_in, status_of_exit, asks_in, truth_in, fields_in, turns_in, skips_rest, status_of_nothing, status_of_no_block, status_of_loop, follows, assigned_in}
+use Rattle.rehearse_rules.specs.ByShell.{unread, reads_again, leaves_in, status_of_exit, asks_in, truth_in, fields_in, turns_in, skips_rest, status_of_nothing, status_of_no_block, status_of_loop, follows, assigned_in}
 use Rattle.rehearse_rules.specs.Parameters.{parameters_in}
 use Rattle.device_list.specs.Called.{Called, BuiltIn, NoCommand, Device, called_by, sets_in}
 use Rattle.commands.specs.BuiltInCommands.{ChangesVariables, WritesText, RunsTexts, Tests, Exits, variables_changed, text_written}
@@ -278,27 +278,27 @@ module _ (limits : Limits) where
         | false ↦ StopOn CutDevices s
       ]
 
-  -- what a name calls, in a script; the frames go on after the command
-  abbrev pub place_called : Called → Text → List Text → Script → List RunningFrame → State → PlaceNext
-  place_called (BuiltIn (ChangesVariables change)) name words script ps s = GoOn ps (remember (variables_changed change words) s)
-  place_called (BuiltIn RunsTexts) name [] script ps s = GoOn ps (set_status 1 s)
-  place_called (BuiltIn RunsTexts) name (w ∷ ws) script ps s = GoOn (names_frame script (w ∷ ws) ∷ ps) s
-  place_called (BuiltIn Tests) name words script ps s =
+  -- what a name calls, in a script; `again` says whether the command is read again; the frames go on after the command
+  abbrev pub place_called : (again : Bool) → Called → Text → List Text → Script → List RunningFrame → State → PlaceNext
+  place_called again (BuiltIn (ChangesVariables change)) name words script ps s = GoOn ps (remember (variables_changed change words) s)
+  place_called again (BuiltIn RunsTexts) name [] script ps s = GoOn ps (set_status 1 s)
+  place_called again (BuiltIn RunsTexts) name (w ∷ ws) script ps s = GoOn (names_frame script (w ∷ ws) ∷ ps) s
+  place_called again (BuiltIn Tests) name words script ps s =
       elim (asks_in limits.shell words) [
         | true ↦ place_ask (test_request limits name words) ps s
         | false ↦ GoOn ps (set_status (status_when (truth_in limits.shell words)) s)
       ]
-  place_called (BuiltIn (WritesText written)) name words script ps s = GoOn ps (remember (text_written written words) s)
-  place_called (BuiltIn Exits) name words script ps s = place_exit (leaves_in limits.shell words) (status_of_exit limits.shell words) ps s
-  place_called (Device effect) name words script ps s =
+  place_called again (BuiltIn (WritesText written)) name words script ps s = GoOn ps (remember (text_written written words) s)
+  place_called again (BuiltIn Exits) name words script ps s = place_exit (leaves_in limits.shell again words) (status_of_exit limits.shell words) ps s
+  place_called again (Device effect) name words script ps s =
       place_ask (request_of name words effect) ps s
-  place_called NoCommand name words script ps s = StopOn (Unknown name) s
+  place_called again NoCommand name words script ps s = StopOn (Unknown name) s
 
-  abbrev pub place_fields : List Text → Script → List RunningFrame → State → PlaceNext
-  place_fields [] script ps s = GoOn ps (set_status (status_of_nothing limits.shell s.memory.status) s)
-  place_fields (name ∷ ws) script ps s =
+  abbrev pub place_fields : (again : Bool) → List Text → Script → List RunningFrame → State → PlaceNext
+  place_fields again [] script ps s = GoOn ps (set_status (status_of_nothing limits.shell s.memory.status) s)
+  place_fields again (name ∷ ws) script ps s =
       elim (follows limits.shell limits.devices name ws) [
-        | true ↦ place_called (called_by limits.devices name ws) name ws script ps s
+        | true ↦ place_called again (called_by limits.devices name ws) name ws script ps s
         | false ↦ StopOn (Unsupported name) s
       ]
 
@@ -313,7 +313,7 @@ module _ (limits : Limits) where
   place_command (tree.Simple words) f fs s =
       place_counted (λ t.
       place_fitting (fields_in limits.shell (parameters_in t.memory) words)
-      (λ found. place_fields found f.script (behind f ∷ fs)) t) s
+      (λ found. place_fields (reads_again words) found f.script (behind f ∷ fs)) t) s
   place_command (tree.Assign pairs) f fs s = place_counted (place_assign limits.shell pairs (behind f ∷ fs)) s
   place_command (tree.If arms) f fs s = place_arms limits.shell arms 0 f fs s
   place_command (tree.Loop until c b) f fs s = GoOn (block_frame c ∷ in_turn 1 0 f ∷ fs) s

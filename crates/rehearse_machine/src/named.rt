@@ -1,11 +1,11 @@
-//! What the fields of a simple command name. It is looked up before the command is called, while
-//! the tree is at hand, since the tree keeps what was found.
+//! What the fields of a simple command name, and whether it is read again. It is looked up before the
+//! command is called, while the tree is at hand, since the tree keeps what was found.
 ghost use Rattle.std.specs.Prelude.{◌≡◌, option_map};
 ghost use Rattle.builtins.specs.Builtins.{builtin_named};
 ghost use Rattle.builtins.specs.BuiltinsShown.{builtin_shown};
 ghost use Rattle.hushlang.specs.Expansion as expansion;
 ghost use Rattle.hushlang.specs.TreesShown as view;
-ghost use Rattle.rehearse_rules.specs.ByShell.{fields_in};
+ghost use Rattle.rehearse_rules.specs.ByShell.{fields_in, reads_again};
 ghost use Rattle.text.specs.TextsShown.{bytes_of_words};
 
 use builtins::{Builtin, builtin_named};
@@ -13,20 +13,23 @@ use device_list::Devices;
 use hushlang::Call;
 use rehearse_terms::Shell;
 
-/// What fields name.
+/// What fields name, and how they were found.
 #[derive(Clone, Copy)]
 pub(crate) struct Named {
     /// The built-in command, if they name one.
     pub(crate) builtin: Option<Builtin>,
     /// Where a device list is looked at first for another name.
     pub(crate) place: usize,
+    /// Whether the command is read again: it has a variable or `$?` in its words.
+    pub(crate) again: bool,
 }
 
 /// What the fields of a command name. In U-Boot's shells its name is looked up in the fields alone.
 pub(crate) fn look_up(command: &Call, devices: &Devices, shell: Shell, fields: &[Vec<u8>]) -> Named
-    ensures { (p : expansion.Parameters)
+    ensures builtin { (p : expansion.Parameters)
         → bytes_of_words fields.now ≡ fields_in shell p (view.call command.now)
         → option_map builtin_shown result.builtin ≡ builtin_named (bytes_of_words fields.now) }
+    ensures again { result.again ≡ reads_again (view.call command.now) }
 {
     let builtin = match shell {
         Shell::Profile => command.builtin_in(fields),
@@ -36,7 +39,12 @@ pub(crate) fn look_up(command: &Call, devices: &Devices, shell: Shell, fields: &
         (None, Some(name)) => near(command, devices, name),
         _ => usize::MAX,
     };
-    Named { builtin, place }
+    let again = command.fields().is_none();
+    Named {
+        builtin,
+        place,
+        again,
+    }
 }
 
 /// Where a device list is looked at first for the name of a command: a place that was found from

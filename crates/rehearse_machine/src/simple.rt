@@ -1,10 +1,10 @@
 //! Simple commands.
-ghost use Rattle.std.specs.Prelude.{◌≡◌, ◌+◌, ◌<◌, ◌^◌, List, true, map, option_map};
+ghost use Rattle.std.specs.Prelude.{◌≡◌, ◌+◌, ◌<◌, ◌^◌, Bool, List, true, map, option_map};
 ghost use Rattle.builtins.specs.Builtins.{builtin_named, builtin_of};
 ghost use Rattle.builtins.specs.BuiltinsShown.{builtin_shown};
 ghost use Rattle.hushlang.specs.TreesShown as view;
 ghost use Rattle.hushlang.specs.Tree as tree;
-ghost use Rattle.rehearse_rules.specs.ByShell.{fields_in, leaves_in, status_of_exit, turns_in};
+ghost use Rattle.rehearse_rules.specs.ByShell.{fields_in, leaves_in, reads_again, status_of_exit, turns_in};
 ghost use Rattle.rehearse_terms.specs.State.{Text};
 ghost use Rattle.rehearse_rules.specs.Parameters.{parameters_in};
 ghost use Rattle.rehearse_rules.specs.Execution.{Limits, set_status, test_request};
@@ -57,9 +57,9 @@ fn run_names<'d, S: Store>(
     script: &Rc<Script>,
     names: &[Vec<u8>],
 ) -> Result<Step<'d>, StoreError>
-    ensures { (limits : Limits) (name : Text) → Comes result (S.record_of store.old)
-        (S.record_of store.new)
-        (place_called limits (called.BuiltIn says.RunsTexts) name (bytes_of_words names.now)
+    ensures { (limits : Limits) (again : Bool) (name : Text) → Comes result
+        (S.record_of store.old) (S.record_of store.new)
+        (place_called limits again (called.BuiltIn says.RunsTexts) name (bytes_of_words names.now)
         (view.script script.now.value) (S.record_of store.old).present.frames) }
 {
     if names.is_empty() {
@@ -103,8 +103,9 @@ fn run_test<'d, S: Store>(
     name: &[u8],
     words: &[Vec<u8>],
 ) -> Result<Step<'d>, StoreError>
-    ensures { (script : tree.Script) → Comes result (S.record_of store.old) (S.record_of store.new)
-        (place_called (limits_of devices.now bounds) (called.BuiltIn says.Tests) name.now
+    ensures { (again : Bool) (script : tree.Script) → Comes result (S.record_of store.old)
+        (S.record_of store.new)
+        (place_called (limits_of devices.now bounds) again (called.BuiltIn says.Tests) name.now
         (bytes_of_words words.now) script (S.record_of store.old).present.frames) }
 {
     let shell = bounds.shell();
@@ -118,18 +119,19 @@ fn run_test<'d, S: Store>(
 }
 
 /// `exit`: ends the text that is running with the status that the words name, if the shell ends it.
-/// Else it is a command with a status.
+/// Else it is a command with a status. `again` says whether the command is read again.
 fn run_exit<'d, S: Store>(
     store: &mut S,
     shell: Shell,
+    again: bool,
     words: &[Vec<u8>],
 ) -> Result<Step<'d>, StoreError>
     ensures { Comes result (S.record_of store.old) (S.record_of store.new)
-        (place_exit (leaves_in shell (bytes_of_words words.now))
+        (place_exit (leaves_in shell again (bytes_of_words words.now))
         (status_of_exit shell (bytes_of_words words.now))
         (S.record_of store.old).present.frames) }
 {
-    match leaves_in(shell, words) {
+    match leaves_in(shell, again, words) {
         Some(status) => {
             store.set_status(status)?;
             leave_text(store)
@@ -138,19 +140,20 @@ fn run_exit<'d, S: Store>(
     }
 }
 
-/// Runs a built-in command.
+/// Runs a built-in command. `again` says whether the command is read again.
 fn run_builtin<'d, S: Store>(
     alloc: Global,
     store: &mut S,
     script: &Rc<Script>,
     devices: &'d Devices,
     bounds: RunBounds,
+    again: bool,
     builtin: Builtin,
     name: &[u8],
     words: &[Vec<u8>],
 ) -> Result<Step<'d>, StoreError>
     ensures { Comes result (S.record_of store.old) (S.record_of store.new)
-        (place_called (limits_of devices.now bounds) (builtin_called builtin) name.now
+        (place_called (limits_of devices.now bounds) again (builtin_called builtin) name.now
         (bytes_of_words words.now) (view.script script.now.value)
         (S.record_of store.old).present.frames) }
 {
@@ -167,7 +170,7 @@ fn run_builtin<'d, S: Store>(
         }
         Builtin::True => done(store, 0),
         Builtin::False => done(store, 1),
-        Builtin::Leave => run_exit(store, bounds.shell(), words),
+        Builtin::Leave => run_exit(store, bounds.shell(), again, words),
     }
 }
 
@@ -188,8 +191,9 @@ fn run_other<'d, S: Store>(
     name: &[u8],
     words: &[Vec<u8>],
 ) -> Result<Step<'d>, StoreError>
-    ensures { (script : tree.Script) → Comes result (S.record_of store.old) (S.record_of store.new)
-        (place_called (limits_of devices.now bounds)
+    ensures { (again : Bool) (script : tree.Script) → Comes result (S.record_of store.old)
+        (S.record_of store.new)
+        (place_called (limits_of devices.now bounds) again
         (called.other_called devices.now name.now (bytes_of_words words.now)) name.now
         (bytes_of_words words.now) script (S.record_of store.old).present.frames) }
 {
@@ -216,13 +220,23 @@ fn run_called<'d, S: Store>(
 ) -> Result<Step<'d>, StoreError>
     requires { option_map builtin_shown named.builtin ≡ builtin_of name.now }
     ensures { Comes result (S.record_of store.old) (S.record_of store.new)
-        (place_called (limits_of devices.now bounds)
+        (place_called (limits_of devices.now bounds) named.again
         (called.called_by devices.now name.now (bytes_of_words words.now)) name.now
         (bytes_of_words words.now) (view.script script.now.value)
         (S.record_of store.old).present.frames) }
 {
     match named.builtin {
-        Some(builtin) => run_builtin(alloc, store, script, devices, bounds, builtin, name, words),
+        Some(builtin) => run_builtin(
+            alloc,
+            store,
+            script,
+            devices,
+            bounds,
+            named.again,
+            builtin,
+            name,
+            words,
+        ),
         None => run_other(alloc, store, devices, bounds, named.place, name, words),
     }
 }
@@ -241,7 +255,7 @@ pub(crate) fn run_fields<'d, S: Store>(
     requires { option_map builtin_shown named.builtin
         ≡ builtin_named (bytes_of_words fields.now) }
     ensures { Comes result (S.record_of store.old) (S.record_of store.new)
-        (place_fields (limits_of devices.now bounds) (bytes_of_words fields.now)
+        (place_fields (limits_of devices.now bounds) named.again (bytes_of_words fields.now)
         (view.script script.now.value) (S.record_of store.old).present.frames) }
 {
     let Some((name, words)) = fields.split_first() else {
@@ -272,7 +286,8 @@ pub(crate) fn call<'d, S: Store>(
     requires named { fit ≡ true → option_map builtin_shown named.builtin
         ≡ builtin_named (bytes_of_words fields.now) }
     ensures { (f : RunningFrame) (words : List tree.Word) → after ≡ (goes_behind f).place
-        → view.script script.now.value ≡ f.script → IsExpanded fit (bytes_of_words fields.now)
+        → view.script script.now.value ≡ f.script → named.again ≡ reads_again words
+        → IsExpanded fit (bytes_of_words fields.now)
         (fields_in bounds.shell (parameters_at (S.record_of store.old).present) words)
         → Moves f result (S.record_of store.old) (S.record_of store.new)
         (place_command (limits_of devices.now bounds) (tree.Simple words) f) }

@@ -44,7 +44,7 @@ returns-in-Some g c top =
     let known = known_before (view.fields_in c.in-Some.known.now) (fields_in c.args.bounds.shell parameters words) (known_in_each c.args.bounds.shell parameters words _ c.in-Some.ensures.known (c.in-Some.ensures.fields parameters)) c.in-Some.ensures.within_limit in
     let found = subst (λ (x : List Text). IsExpanded true x (fields_in c.args.bounds.shell parameters words)) (sym shown) known in
     proceeds (limits_of c.args.devices.now c.args.bounds) c.call.result old (g.S.Store.record_of c.call.new.store) (nexts.Calls c.in-Calls.command) c.args.next f c.in-Calls.is
-    (c.call.ensures f words (c.behind-after.ensures ∙ ap (λ (x : At). place x.list (suc x.command) 0 0) c.at.ensures) c.script-script.ensures found top)
+    (c.call.ensures f words (c.behind-after.ensures ∙ ap (λ (x : At). place x.list (suc x.command) 0 0) c.at.ensures) c.script-script.ensures c.look_up-named.ensures.again found top)
 
 pub returns-in_ok-fit-in-Calls : goal.returns-in_ok-fit-in-Calls
 returns-in_ok-fit-in-Calls g c top =
@@ -54,7 +54,7 @@ returns-in_ok-fit-in-Calls g c top =
     let expanded = subst (λ (x : List Word). IsExpanded c.in_ok-fit-in-Calls.fit c.expanded.new.fields (fields_in c.args.bounds.shell (parameters_at old.present) x)) c.words.ensures (subst (λ (x : Shell). IsExpanded c.in_ok-fit-in-Calls.fit c.expanded.new.fields (fields_in x (parameters_at old.present) (map view.word c.words.result.now))) c.shell-in-Calls.ensures c.in_ok-fit-in-Calls.ensures) in
     let found = subst (λ (x : List Text). IsExpanded c.in_ok-fit-in-Calls.fit x (fields_in c.args.bounds.shell (parameters_at old.present) words)) (sym c.as_slice-found.ensures) expanded in
     proceeds (limits_of c.args.devices.now c.args.bounds) c.call-in-Calls.result old (g.S.Store.record_of c.call-in-Calls.new.store) (nexts.Calls c.in-Calls.command) c.args.next f c.in-Calls.is
-    (c.call-in-Calls.ensures f words (c.behind-after.ensures ∙ ap (λ (x : At). place x.list (suc x.command) 0 0) c.at.ensures) c.script-script.ensures found top)
+    (c.call-in-Calls.ensures f words (c.behind-after.ensures ∙ ap (λ (x : At). place x.list (suc x.command) 0 0) c.at.ensures) c.script-script.ensures c.look_up-named-in-Calls.ensures.again found top)
 
 pub returns-in-Assigns : goal.returns-in-Assigns
 returns-in-Assigns g c top =
@@ -69,4 +69,4 @@ call-requires-clause-named g c fit =
     let words = view.call c.in-Calls.command.now in
     let parameters = parameters_at (g.S.Store.record_of c.args.store.now).present in
     let shown = ap bytes_of_words c.as_slice-known.ensures.value ∙ ap (λ (x : Vec (Vec ℕ Global) Global). bytes_of_words x.items) c.deref.ensures in
-    c.look_up-named.ensures parameters (shown ∙ known_in_each c.shell.result parameters words _ c.in-Some.ensures.known (c.in-Some.ensures.fields parameters))
+    c.look_up-named.ensures.builtin parameters (shown ∙ known_in_each c.shell.result parameters words _ c.in-Some.ensures.known (c.in-Some.ensures.fields parameters))

@@ -56,7 +56,7 @@ returns-in-Some-fields g c =
     let found = subst (λ (x : List Text). IsExpanded true x (fields_in c.args.bounds.shell parameters words)) (sym shown) known in
     let script = ap (λ (x : Code). view.script x) c.in_ok-script-in-Calls.ensures.cases ∙ c.script.ensures in
     moves_on (limits_of c.args.devices.now c.args.bounds) c.call.result old (g.S.Store.record_of c.call.new.store) (nexts.Calls c.in-Calls.command) c.next_of.result c.shell-shell.result c.get_status-status.result f c.in-Calls.is top (sym c.shell-shell.ensures) (sym c.get_status-status.ensures) c.next_of.ensures.next
-    (c.call.ensures f words (c.behind-after.ensures ∙ ap (λ (x : At). place x.list (suc x.command) 0 0) c.at.ensures) script found top)
+    (c.call.ensures f words (c.behind-after.ensures ∙ ap (λ (x : At). place x.list (suc x.command) 0 0) c.at.ensures) script c.look_up-named.ensures.again found top)
 
 pub returns-in-Calls : goal.returns-in-Calls
 returns-in-Calls g c =
@@ -68,11 +68,11 @@ returns-in-Calls g c =
     let found = subst (λ (x : List Text). IsExpanded c.in_ok-fit-in-Calls.fit x (fields_in c.args.bounds.shell (parameters_at old.present) words)) (sym c.as_slice-found.ensures) expanded in
     let script = ap (λ (x : Code). view.script x) c.in_ok-script-in-Calls.ensures.cases ∙ c.script.ensures in
     moves_on (limits_of c.args.devices.now c.args.bounds) c.call-in-Calls.result old (g.S.Store.record_of c.call-in-Calls.new.store) (nexts.Calls c.in-Calls.command) c.next_of.result c.shell-shell.result c.get_status-status.result f c.in-Calls.is top (sym c.shell-shell.ensures) (sym c.get_status-status.ensures) c.next_of.ensures.next
-    (c.call-in-Calls.ensures f words (c.behind-after.ensures ∙ ap (λ (x : At). place x.list (suc x.command) 0 0) c.at.ensures) script found top)
+    (c.call-in-Calls.ensures f words (c.behind-after.ensures ∙ ap (λ (x : At). place x.list (suc x.command) 0 0) c.at.ensures) script c.look_up-named-in-Calls.ensures.again found top)
 
 pub call-requires-clause-named : goal.call-requires-clause-named
 call-requires-clause-named g c fit =
     let words = view.call c.in-Calls.command.now in
     let parameters = parameters_at (g.S.Store.record_of c.args.store.now).present in
     let shown = ap bytes_of_words c.as_slice-known.ensures.value ∙ ap (λ (x : Vec (Vec ℕ Global) Global). bytes_of_words x.items) (c.deref.ensures ∙ c.in_ok-known-in-Calls.ensures.cases) in
-    c.look_up-named.ensures parameters (shown ∙ known_in_each c.shell.result parameters words _ c.in-Some-fields.ensures.known (c.in-Some-fields.ensures.fields parameters))
+    c.look_up-named.ensures.builtin parameters (shown ∙ known_in_each c.shell.result parameters words _ c.in-Some-fields.ensures.known (c.in-Some-fields.ensures.fields parameters))

@@ -9,6 +9,6 @@ use Rattle.rehearse_machine.proofs.simple.run_called.Goals as goal
 pub returns-in-None : goal.returns-in-None
 returns-in-None g c =
     let limits = limits_of c.args.devices.now c.args.bounds in
-    name_called limits c.args.name.now (bytes_of_words c.args.words.now) None (view.script c.args.script.now.value) c.run_other.result
+    name_called limits c.args.named.again c.args.name.now (bytes_of_words c.args.words.now) None (view.script c.args.script.now.value) c.run_other.result
     (g.S.Store.record_of c.args.store.now) (g.S.Store.record_of c.run_other.new.store)
-    (sym (ap (option_map builtin_shown) c.in-None.is) ∙ c.requires) (c.run_other.ensures (view.script c.args.script.now.value))
+    (sym (ap (option_map builtin_shown) c.in-None.is) ∙ c.requires) (c.run_other.ensures c.args.named.again (view.script c.args.script.now.value))

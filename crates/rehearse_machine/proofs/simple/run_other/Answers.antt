@@ -10,22 +10,22 @@ use Rattle.rehearse_machine.proofs.CommandMoves.{change_does, device_comes, othe
 use Rattle.rehearse_machine.proofs.simple.run_other.Goals as goal
 
 pub returns-in-Some : goal.returns-in-Some
-returns-in-Some g c script =
+returns-in-Some g c again script =
     let devices = c.args.devices.now in
     let name = c.args.name.now in
     let words = bytes_of_words c.args.words.now in
     let does = computed_shown c.in-Some.computed in
     let is : computed_by devices name words ≡ Some does = sym c.computed.ensures ∙ ap call_shown c.in-Some.is in
-    change_does (limits_of devices c.args.bounds) (g.S.Store.record_of c.args.store.now) (g.S.Store.record_of c.carry_out.new.store) name words script (other_called devices name words) words (λ ws. carried does)
+    change_does (limits_of devices c.args.bounds) again (g.S.Store.record_of c.args.store.now) (g.S.Store.record_of c.carry_out.new.store) name words script (other_called devices name words) words (λ ws. carried does)
     (other_computed devices name words does is) refl c.in_ok-carry_out.ensures
 
 pub returns-in-Some-effect_near : goal.returns-in-Some-effect_near
-returns-in-Some-effect_near g c script =
+returns-in-Some-effect_near g c again script =
     let devices = c.args.devices.now in
     let name = c.args.name.now in
     let words = bytes_of_words c.args.words.now in
     let effect = lent_effect c.in-Some-effect_near.effect in
     let none : computed_by devices name words ≡ None = sym c.computed.ensures ∙ ap call_shown c.in_default.is in
     let listed : Some effect ≡ effect_of devices name words = sym (ap (option_map lent_effect) c.in-Some-effect_near.is) ∙ c.effect_near.ensures in
-    device_comes (limits_of devices c.args.bounds) (g.S.Store.record_of c.args.store.now) (g.S.Store.record_of c.ask.new.store) name words script c.ask.result (other_called devices name words) effect
+    device_comes (limits_of devices c.args.bounds) again (g.S.Store.record_of c.args.store.now) (g.S.Store.record_of c.ask.new.store) name words script c.ask.result (other_called devices name words) effect
     (other_listed devices name words (Some effect) none listed) (c.ask.ensures devices)
