@@ -14,7 +14,7 @@ use Rattle.device_list.specs.DeviceList.{Effect, effect_of, computed_by}
 use Rattle.rehearse_terms.specs.Outcomes.{OutcomeWord, Outcome, Success, Failure}
 use Rattle.rehearse_terms.specs.State.{Text, get, State}
 use Rattle.rehearse_rules.specs.Parameters.{parameters_in}
-use Rattle.rehearse_rules.specs.ByShell.{unread, leaves_in, status_of_exit, asks_in, truth_in, fields_in, turns_in, skips_rest, status_of_loop, follows, assigned_in}
+use Rattle.rehearse_rules.specs.ByShell.{unread, leaves_in, status_of_exit, asks_in, truth_in, fields_in, turns_in, skips_rest, status_of_loop, follows, assigned_in, reads_again}
 use Rattle.rehearse_rules.specs.Execution.{Limits, Answer, Normal, Exit, Ended, Ending, CutDevices, CutSteps, Unknown, Size, Finished, Unsupported, Request, go_on, set_status, status_when, goes, holds, begin, finish, tell_or_take, told, told_again, logged, set_environment, device, text_end, run_all, command, simple, sized, assign, assign_local, turns, for_each, begin_turn, run_text, started_text, request_of, test_request}
 use Rattle.rehearse_rules.proofs.GrowingSteps.{Grew, AtLeast-track, Grew-block}
 use Rattle.rehearse_rules.proofs.TakenOutcomes.{KeepsAll, Keeps-script, Keeps-exec}
@@ -147,38 +147,38 @@ module _ (limits : Limits) (wanted : List Text) (w : OutcomeWord) where
   exit_so (Some status) other fs s = ap (λ (xs : List Access). Writes Status ∷ xs) (leave_so fs (set_status status s))
   exit_so None other fs s = refl
 
-  builtin_so : (b : Builtin) (name : Text) (ws : List Text) (fs : List Frame) (s : State) → of_builtin limits b name ws fs s ++ After (begin_called limits (BuiltIn (deed_of b)) name ws fs s)
-      ≡ builtin_accesses limits (full limits) (of_full limits) b name ws (with w s) ++ Rest fs (command limits (full limits) (BuiltIn (deed_of b)) name ws (with w s))
-  builtin_so SetEnv name ws fs s = refl
-  builtin_so Run name [] fs s = refl
-  builtin_so Run name (v ∷ vs) fs s = refl
-  builtin_so Test name ws fs s =
+  builtin_so : (again : Bool) (b : Builtin) (name : Text) (ws : List Text) (fs : List Frame) (s : State) → of_builtin limits again b name ws fs s ++ After (begin_called limits again (BuiltIn (deed_of b)) name ws fs s)
+      ≡ builtin_accesses limits (full limits) (of_full limits) b name ws (with w s) ++ Rest fs (command limits again (full limits) (BuiltIn (deed_of b)) name ws (with w s))
+  builtin_so again SetEnv name ws fs s = refl
+  builtin_so again Run name [] fs s = refl
+  builtin_so again Run name (v ∷ vs) fs s = refl
+  builtin_so again Test name ws fs s =
       if_so (asks_in limits.shell ws) (of_asking limits (test_request limits name ws) s) status_written (ask limits (test_request limits name ws) fs s) (Go fs (set_status (status_when (truth_in limits.shell ws)) s)) fs (device_accesses limits (test_request limits name ws) (with w s)) status_written (device limits (test_request limits name ws) (with w s)) (Normal (set_status (status_when (truth_in limits.shell ws)) (with w s)))
       (ask_so (test_request limits name ws) fs s) refl
-  builtin_so Echo name ws fs s = refl
-  builtin_so True name ws fs s = refl
-  builtin_so False name ws fs s = refl
-  builtin_so Leave name ws fs s = exit_so (leaves_in limits.shell ws) (status_of_exit limits.shell ws) fs s
+  builtin_so again Echo name ws fs s = refl
+  builtin_so again True name ws fs s = refl
+  builtin_so again False name ws fs s = refl
+  builtin_so again Leave name ws fs s = exit_so (leaves_in limits.shell again ws) (status_of_exit limits.shell ws) fs s
 
-  call_so : (name : Text) (ws : List Text) (fs : List Frame) (s : State) → of_call limits name ws fs s ++ After (begin_called limits (called_by limits.devices name ws) name ws fs s)
-      ≡ call_accesses limits (full limits) (of_full limits) name ws (with w s) ++ Rest fs (command limits (full limits) (called_by limits.devices name ws) name ws (with w s))
-  call_so name ws fs s = by (computed_by limits.devices name ws) (builtin_of name) (effect_of limits.devices name ws)
+  call_so : (again : Bool) (name : Text) (ws : List Text) (fs : List Frame) (s : State) → of_call limits again name ws fs s ++ After (begin_called limits again (called_by limits.devices name ws) name ws fs s)
+      ≡ call_accesses limits (full limits) (of_full limits) name ws (with w s) ++ Rest fs (command limits again (full limits) (called_by limits.devices name ws) name ws (with w s))
+  call_so again name ws fs s = by (computed_by limits.devices name ws) (builtin_of name) (effect_of limits.devices name ws)
     where
       by : (o : Option Computed) (b : Option Builtin) (f : Option Effect)
-          → (elim o [ Some computed ↦ computed_accesses computed | None ↦ elim b [ Some builtin ↦ of_builtin limits builtin name ws fs s | None ↦ elim f [ Some effect ↦ of_asking limits (request_of name ws effect) s | None ↦ [] ] ] ])
-          ++ After (begin_called limits (elim o [ Some computed ↦ BuiltIn (ChangesVariables (λ vs. carried computed)) | None ↦ elim b [ Some builtin ↦ BuiltIn (deed_of builtin) | None ↦ elim f [ Some effect ↦ Device effect | None ↦ NoCommand ] ] ]) name ws fs s)
+          → (elim o [ Some computed ↦ computed_accesses computed | None ↦ elim b [ Some builtin ↦ of_builtin limits again builtin name ws fs s | None ↦ elim f [ Some effect ↦ of_asking limits (request_of name ws effect) s | None ↦ [] ] ] ])
+          ++ After (begin_called limits again (elim o [ Some computed ↦ BuiltIn (ChangesVariables (λ vs. carried computed)) | None ↦ elim b [ Some builtin ↦ BuiltIn (deed_of builtin) | None ↦ elim f [ Some effect ↦ Device effect | None ↦ NoCommand ] ] ]) name ws fs s)
           ≡ (elim o [ Some computed ↦ computed_accesses computed | None ↦ elim b [ Some builtin ↦ builtin_accesses limits (full limits) (of_full limits) builtin name ws (with w s) | None ↦ elim f [ Some effect ↦ device_accesses limits (request_of name ws effect) (with w s) | None ↦ [] ] ] ])
-          ++ Rest fs (command limits (full limits) (elim o [ Some computed ↦ BuiltIn (ChangesVariables (λ vs. carried computed)) | None ↦ elim b [ Some builtin ↦ BuiltIn (deed_of builtin) | None ↦ elim f [ Some effect ↦ Device effect | None ↦ NoCommand ] ] ]) name ws (with w s))
+          ++ Rest fs (command limits again (full limits) (elim o [ Some computed ↦ BuiltIn (ChangesVariables (λ vs. carried computed)) | None ↦ elim b [ Some builtin ↦ BuiltIn (deed_of builtin) | None ↦ elim f [ Some effect ↦ Device effect | None ↦ NoCommand ] ] ]) name ws (with w s))
       by (Some computed) b f = refl
-      by None (Some builtin) f = builtin_so builtin name ws fs s
+      by None (Some builtin) f = builtin_so again builtin name ws fs s
       by None None (Some effect) = ask_so (request_of name ws effect) fs s
       by None None None = stops_so fs (Unknown name) s
 
-  fields_so : (ws : List Text) (fs : List Frame) (s : State) → of_fields limits fs ws s ++ After (begin_fields limits ws fs s) ≡ simple_accesses limits (full limits) (of_full limits) ws (with w s) ++ Rest fs (simple limits (full limits) ws (with w s))
-  fields_so [] fs s = refl
-  fields_so (name ∷ ws) fs s =
-      if_so (follows limits.shell limits.devices name ws) (of_call limits name ws fs s) [] (begin_called limits (called_by limits.devices name ws) name ws fs s) (Stop (Unsupported name) s) fs (call_accesses limits (full limits) (of_full limits) name ws (with w s)) [] (command limits (full limits) (called_by limits.devices name ws) name ws (with w s)) (Ended (Unsupported name) (with w s))
-      (call_so name ws fs s) (stops_so fs (Unsupported name) s)
+  fields_so : (again : Bool) (ws : List Text) (fs : List Frame) (s : State) → of_fields limits again fs ws s ++ After (begin_fields limits again ws fs s) ≡ simple_accesses limits (full limits) (of_full limits) ws (with w s) ++ Rest fs (simple limits again (full limits) ws (with w s))
+  fields_so again [] fs s = refl
+  fields_so again (name ∷ ws) fs s =
+      if_so (follows limits.shell limits.devices name ws) (of_call limits again name ws fs s) [] (begin_called limits again (called_by limits.devices name ws) name ws fs s) (Stop (Unsupported name) s) fs (call_accesses limits (full limits) (of_full limits) name ws (with w s)) [] (command limits again (full limits) (called_by limits.devices name ws) name ws (with w s)) (Ended (Unsupported name) (with w s))
+      (call_so again name ws fs s) (stops_so fs (Unsupported name) s)
 
   counted_so : (f : State → List Access) (next : State → Next) (g : State → List Access) (h : State → Answer) (fs : List Frame) (s : State) → ((t : State) → f t ++ After (next t) ≡ g (with w t) ++ Rest fs (h (with w t)))
       → begun_accesses limits f s ++ After (counted limits next s) ≡ begun_accesses limits g (with w s) ++ Rest fs (begin limits h (with w s))
@@ -256,12 +256,12 @@ module _ (limits : Limits) (wanted : List Text) (w : OutcomeWord) where
 
   command_so : (c : Command) → IsProperCommand c → (fs : List Frame) (s : State) → of_command limits c fs s ++ After (begin_command limits c fs s) ≡ of_one limits c (with w s) ++ Rest fs (one limits c (with w s))
   command_so (tree.Simple words) p fs s =
-      counted_so (λ t. all_read (words_reads t.memory words) ++ sized_accesses (fields_in limits.shell (parameters_in t.memory) words) (of_fields limits fs) t)
-      (λ t. fitting (fields_in limits.shell (parameters_in t.memory) words) (λ f. begin_fields limits f fs) t)
+      counted_so (λ t. all_read (words_reads t.memory words) ++ sized_accesses (fields_in limits.shell (parameters_in t.memory) words) (of_fields limits (reads_again words) fs) t)
+      (λ t. fitting (fields_in limits.shell (parameters_in t.memory) words) (λ f. begin_fields limits (reads_again words) f fs) t)
       (λ t. all_read (words_reads t.memory words) ++ sized_accesses (fields_in limits.shell (parameters_in t.memory) words) (simple_accesses limits (full limits) (of_full limits)) t)
-      (λ t. sized (fields_in limits.shell (parameters_in t.memory) words) (simple limits (full limits)) t) fs s
-      (λ t. fitting_so (all_read (words_reads t.memory words)) (fields_in limits.shell (parameters_in t.memory) words) (of_fields limits fs) (λ f. begin_fields limits f fs) (simple_accesses limits (full limits) (of_full limits)) (simple limits (full limits)) fs t
-      (fields_so (fields_in limits.shell (parameters_in t.memory) words) fs t))
+      (λ t. sized (fields_in limits.shell (parameters_in t.memory) words) (simple limits (reads_again words) (full limits)) t) fs s
+      (λ t. fitting_so (all_read (words_reads t.memory words)) (fields_in limits.shell (parameters_in t.memory) words) (of_fields limits (reads_again words) fs) (λ f. begin_fields limits (reads_again words) f fs) (simple_accesses limits (full limits) (of_full limits)) (simple limits (reads_again words) (full limits)) fs t
+      (fields_so (reads_again words) (fields_in limits.shell (parameters_in t.memory) words) fs t))
   command_so (tree.Assign pairs) p fs s = counted_so (assign_accesses limits.shell pairs) (begin_assign limits.shell pairs fs) (assign_accesses limits.shell pairs) (assign limits.shell pairs) fs s (λ t. assign_so pairs fs t)
   command_so (tree.If arms) p fs s = arms_so arms fs s
   command_so (tree.Loop until c b) p fs s = loop_so until c b p.0 p.1 0 fs (with w s)

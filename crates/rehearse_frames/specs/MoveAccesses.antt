@@ -9,7 +9,7 @@ use Rattle.device_list.specs.DeviceList.{effect_of, computed_by}
 use Rattle.rehearse_terms.specs.State.{Text, get, State}
 use Rattle.rehearse_terms.specs.declared.shell.Shell.{Shell}
 use Rattle.rehearse_rules.specs.Parameters.{parameters_in}
-use Rattle.rehearse_rules.specs.ByShell.{leaves_in, asks_in, fields_in, turns_in, follows}
+use Rattle.rehearse_rules.specs.ByShell.{reads_again, leaves_in, asks_in, fields_in, turns_in, follows}
 use Rattle.rehearse_rules.specs.Execution.{Limits, goes, holds, outcome_when, Request, told, request_of, test_request}
 use Rattle.rehearse_machine.specs.Frames.{Frame, Lists, Linked, IfCondition, LoopCondition, LoopBody, ForBody, RunNames, RunText}
 use Rattle.rehearse_reads.specs.Keys.{Access, Reads, Writes, Environment, Status, all_read}
@@ -73,26 +73,27 @@ module _ (limits : Limits) where
         | false ↦ []
       ]
 
-  abbrev pub of_builtin : Builtin → (name : Text) → (words : List Text) → List Frame → State → List Access
-  of_builtin SetEnv name words fs s = setenv_accesses words
-  of_builtin Run name [] fs s = status_written
-  of_builtin Run name (w ∷ ws) fs s = []
-  of_builtin Test name words fs s =
+  -- `again` says whether the command is read again
+  abbrev pub of_builtin : (again : Bool) → Builtin → (name : Text) → (words : List Text) → List Frame → State → List Access
+  of_builtin again SetEnv name words fs s = setenv_accesses words
+  of_builtin again Run name [] fs s = status_written
+  of_builtin again Run name (w ∷ ws) fs s = []
+  of_builtin again Test name words fs s =
       elim (asks_in limits.shell words) [
         | true ↦ of_asking (test_request limits name words) s
         | false ↦ status_written
       ]
-  of_builtin Echo name words fs s = status_written
-  of_builtin True name words fs s = status_written
-  of_builtin False name words fs s = status_written
-  of_builtin Leave name words fs s = of_exit (leaves_in limits.shell words) fs
+  of_builtin again Echo name words fs s = status_written
+  of_builtin again True name words fs s = status_written
+  of_builtin again False name words fs s = status_written
+  of_builtin again Leave name words fs s = of_exit (leaves_in limits.shell again words) fs
 
-  abbrev pub of_call : (name : Text) → (words : List Text) → List Frame → State → List Access
-  of_call name words fs s =
+  abbrev pub of_call : (again : Bool) → (name : Text) → (words : List Text) → List Frame → State → List Access
+  of_call again name words fs s =
       elim (computed_by limits.devices name words) [
         | Some computed ↦ computed_accesses computed
         | None ↦ elim (builtin_of name) [
-          | Some builtin ↦ of_builtin builtin name words fs s
+          | Some builtin ↦ of_builtin again builtin name words fs s
           | None ↦ elim (effect_of limits.devices name words) [
             | Some effect ↦ of_asking (request_of name words effect) s
             | None ↦ []
@@ -100,15 +101,15 @@ module _ (limits : Limits) where
         ]
       ]
 
-  abbrev pub of_fields : List Frame → List Text → State → List Access
-  of_fields fs [] s = nothing_accesses limits.shell
-  of_fields fs (name ∷ words) s =
-      elim (follows limits.shell limits.devices name words) [ true ↦ of_call name words fs s | false ↦ [] ]
+  abbrev pub of_fields : (again : Bool) → List Frame → List Text → State → List Access
+  of_fields again fs [] s = nothing_accesses limits.shell
+  of_fields again fs (name ∷ words) s =
+      elim (follows limits.shell limits.devices name words) [ true ↦ of_call again name words fs s | false ↦ [] ]
 
   abbrev pub of_command : Command → List Frame → State → List Access
   of_command (tree.Simple words) fs s =
       begun_accesses limits (λ t. all_read (words_reads t.memory words)
-      ++ sized_accesses (fields_in limits.shell (parameters_in t.memory) words) (of_fields fs) t) s
+      ++ sized_accesses (fields_in limits.shell (parameters_in t.memory) words) (of_fields (reads_again words) fs) t) s
   of_command (tree.Assign pairs) fs s = begun_accesses limits (assign_accesses limits.shell pairs) s
   of_command (tree.If arms) fs s = of_beginning_arms limits.shell arms
   of_command (tree.Loop until c b) fs s = []

@@ -10,7 +10,7 @@ use Rattle.device_list.specs.Called.{BuiltIn, Device, NoCommand, called_by}
 use Rattle.device_list.specs.DeviceList.{Effect, effect_of, computed_by}
 use Rattle.rehearse_terms.specs.State.{Text, State, LoggedCommand, get}
 use Rattle.rehearse_rules.specs.Parameters.{parameters_in}
-use Rattle.rehearse_rules.specs.ByShell.{unread, leaves_in, status_of_exit, asks_in, truth_in, fields_in, turns_in, skips_rest, follows}
+use Rattle.rehearse_rules.specs.ByShell.{unread, reads_again, leaves_in, status_of_exit, asks_in, truth_in, fields_in, turns_in, skips_rest, follows}
 use Rattle.rehearse_rules.specs.Execution.{Limits, Answer, Normal, Exit, Ended, Ending, CutSteps, Unknown, Unsupported, go_on, set_status, status_when, remember, goes, device, request_of, test_request, text_end, run_text, started_text, run_all, command, simple, sized, assign, for_each, exec_script, exec_list, exec_joined, exec_command, exec_arms, exec}
 use Rattle.rehearse_rules.proofs.TakenOutcomes.{KeepsAll, Keeps-if, Keeps-run, Keeps-simple, Keeps-sized, Keeps-assign, Keeps-for, Keeps-script, Keeps-joined, Keeps-arms, Keeps-exec, Keeps-ended}
 use Rattle.rehearse_reads.specs.Keys.{Key, Environment, Status, Access, Reads, AreAmong, AgreeOn, all_read, ReadsWithin, known_after}
@@ -82,34 +82,34 @@ module _ (limits : Limits) (i j : ℕ) (k l : List LoggedCommand) where
     Alike-leave (Some n) other known s t near w = exit_alike limits i j k l (Status ∷ known) (set_status n s) (set_status n t) (near_status limits i j k l known s t n near)
     Alike-leave None other known s t near w = status_alike other known s t near w
 
-    Alike-builtin : (builtin : Builtin) (name : Text) (words : List Text) → AlwaysDoes (command limits script (BuiltIn (deed_of builtin)) name words) (builtin_accesses limits script of_script builtin name words)
-    Alike-builtin SetEnv name words known s t near w =
+    Alike-builtin : (again : Bool) (builtin : Builtin) (name : Text) (words : List Text) → AlwaysDoes (command limits again script (BuiltIn (deed_of builtin)) name words) (builtin_accesses limits script of_script builtin name words)
+    Alike-builtin again SetEnv name words known s t near w =
         normal_alike limits i j k l (known_after known (setenv_accesses words)) (remember (variables_changed setenv words) s) (remember (variables_changed setenv words) t) (near_sets limits i j k l words known s t near)
-    Alike-builtin Run name [] known s t near w = status_alike 1 known s t near w
-    Alike-builtin Run name (x ∷ xs) known s t near w = Alike-run (x ∷ xs) known s t near w
-    Alike-builtin Test name words known s t near w =
+    Alike-builtin again Run name [] known s t near w = status_alike 1 known s t near w
+    Alike-builtin again Run name (x ∷ xs) known s t near w = Alike-run (x ∷ xs) known s t near w
+    Alike-builtin again Test name words known s t near w =
         alike_if (asks_in limits.shell words) (device limits (test_request limits name words)) (λ x. Normal (set_status (status_when (truth_in limits.shell words)) x)) (device_accesses limits (test_request limits name words)) (λ x. status_written) (Alike-device limits i j k l (test_request limits name words)) (status_alike (status_when (truth_in limits.shell words))) known s t near w
-    Alike-builtin Echo name words known s t near w = normal_alike limits i j k l (Status ∷ known) (remember (text_written echo words) s) (remember (text_written echo words) t) (near_echoed limits i j k l known s t echo words near)
-    Alike-builtin True name words known s t near w = status_alike 0 known s t near w
-    Alike-builtin False name words known s t near w = status_alike 1 known s t near w
-    Alike-builtin Leave name words known s t near w = Alike-leave (leaves_in limits.shell words) (status_of_exit limits.shell words) known s t near w
+    Alike-builtin again Echo name words known s t near w = normal_alike limits i j k l (Status ∷ known) (remember (text_written echo words) s) (remember (text_written echo words) t) (near_echoed limits i j k l known s t echo words near)
+    Alike-builtin again True name words known s t near w = status_alike 0 known s t near w
+    Alike-builtin again False name words known s t near w = status_alike 1 known s t near w
+    Alike-builtin again Leave name words known s t near w = Alike-leave (leaves_in limits.shell again words) (status_of_exit limits.shell words) known s t near w
 
-    Alike-call : (name : Text) (words : List Text) → AlwaysDoes (command limits script (called_by limits.devices name words) name words) (call_accesses limits script of_script name words)
-    Alike-call name words = by (computed_by limits.devices name words) (builtin_of name) (effect_of limits.devices name words)
+    Alike-call : (again : Bool) (name : Text) (words : List Text) → AlwaysDoes (command limits again script (called_by limits.devices name words) name words) (call_accesses limits script of_script name words)
+    Alike-call again name words = by (computed_by limits.devices name words) (builtin_of name) (effect_of limits.devices name words)
       where
         by : (o : Option Computed) (b : Option Builtin) (f : Option Effect)
-            → AlwaysDoes (command limits script (elim o [ Some computed ↦ BuiltIn (ChangesVariables (λ ws. carried computed)) | None ↦ elim b [ Some builtin ↦ BuiltIn (deed_of builtin) | None ↦ elim f [ Some effect ↦ Device effect | None ↦ NoCommand ] ] ]) name words)
+            → AlwaysDoes (command limits again script (elim o [ Some computed ↦ BuiltIn (ChangesVariables (λ ws. carried computed)) | None ↦ elim b [ Some builtin ↦ BuiltIn (deed_of builtin) | None ↦ elim f [ Some effect ↦ Device effect | None ↦ NoCommand ] ] ]) name words)
             (λ s. elim o [ Some computed ↦ computed_accesses computed | None ↦ elim b [ Some builtin ↦ builtin_accesses limits script of_script builtin name words s | None ↦ elim f [ Some effect ↦ device_accesses limits (request_of name words effect) s | None ↦ [] ] ] ])
         by (Some computed) b f known s t near w =
             normal_alike limits i j k l (known_after known (computed_accesses computed)) (remember (variables_changed (λ ws. carried computed) words) s) (remember (variables_changed (λ ws. carried computed) words) t) (near_computed limits i j k l computed known s t near w)
-        by None (Some builtin) f known s t near w = Alike-builtin builtin name words known s t near w
+        by None (Some builtin) f known s t near w = Alike-builtin again builtin name words known s t near w
         by None None (Some effect) known s t near w = Alike-device limits i j k l (request_of name words effect) known s t near w
         by None None None known s t near w = ended_alike limits i j k l known (Unknown name) s t near
 
-    pub Alike-simple : (fs : List Text) → AlwaysDoes (simple limits script fs) (simple_accesses limits script of_script fs)
-    Alike-simple [] known s t near w = nothing_alike limits i j k l limits.shell known s t near
-    Alike-simple (name ∷ words) known s t near w =
-        alike_if (follows limits.shell limits.devices name words) (command limits script (called_by limits.devices name words) name words) (Ended (Unsupported name)) (call_accesses limits script of_script name words) (λ x. []) (Alike-call name words) (ends_alike (Unsupported name)) known s t near w
+    pub Alike-simple : (again : Bool) (fs : List Text) → AlwaysDoes (simple limits again script fs) (simple_accesses limits script of_script fs)
+    Alike-simple again [] known s t near w = nothing_alike limits i j k l limits.shell known s t near
+    Alike-simple again (name ∷ words) known s t near w =
+        alike_if (follows limits.shell limits.devices name words) (command limits again script (called_by limits.devices name words) name words) (Ended (Unsupported name)) (call_accesses limits script of_script name words) (λ x. []) (Alike-call again name words) (ends_alike (Unsupported name)) known s t near w
 
   -- ---- words that are expanded: to the same fields
 
@@ -157,10 +157,10 @@ module _ (limits : Limits) (i j : ℕ) (k l : List LoggedCommand) where
 
       pub Alike-one : (a : Command) → AlwaysDoes (exec_command limits left text a) (command_accesses limits left text of_text a)
       Alike-one (tree.Simple words) known s t near w =
-          Alike-begin limits i j k l (λ x. sized (fields_in limits.shell (parameters_in x.memory) words) (simple limits text) x)
+          Alike-begin limits i j k l (λ x. sized (fields_in limits.shell (parameters_in x.memory) words) (simple limits (reads_again words) text) x)
           (λ x. all_read (words_reads x.memory words) ++ sized_accesses (fields_in limits.shell (parameters_in x.memory) words) (simple_accesses limits text of_text) x)
-          (fields_alike words (simple limits text) (simple_accesses limits text of_text) (Alike-simple text of_text kept does))
-          (λ x. Keeps-sized limits (fields_in limits.shell (parameters_in x.memory) words) (simple limits text) (Keeps-simple limits text kept) x)
+          (fields_alike words (simple limits (reads_again words) text) (simple_accesses limits text of_text) (Alike-simple text of_text kept does (reads_again words)))
+          (λ x. Keeps-sized limits (fields_in limits.shell (parameters_in x.memory) words) (simple limits (reads_again words) text) (Keeps-simple limits text kept (reads_again words)) x)
           known s t near w
       Alike-one (tree.Assign pairs) known s t near w =
           Alike-begin limits i j k l (assign limits.shell pairs) (assign_accesses limits.shell pairs) (Alike-assign limits i j k l limits.shell pairs) (Keeps-assign limits pairs) known s t near w
