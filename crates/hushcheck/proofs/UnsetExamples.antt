@@ -92,7 +92,7 @@ abbrev env : List Pair
 env = (codes "a", codes "1") ∷ []
 
 abbrev told_in : Text → Text
-told_in text = last_lines rules env (used_by_text rules (codes "b") text)
+told_in text = last_lines env (used_by_text rules (codes "b") text)
 
 -- a variable of the environment; and two that are set, one of them later
 quiet : told_in (codes "echo $a $c $i; for i in 1; do c=$i; done") ≡ []
@@ -114,6 +114,6 @@ unfolding whole script command simple keyword next behind sees expect joined joi
 refused = refl
 
 -- a condition that tests it, as real scripts do
-tested : lacks_set rules env (used_by_text rules (codes "b") (codes "if test ${c} -eq 1; then true; fi")) ≡ true
+tested : lacks_set env (used_by_text rules (codes "b") (codes "if test ${c} -eq 1; then true; fi")) ≡ true
 unfolding whole script command simple keyword next behind sees expect joined joined_all and_or lists lists_all block arm arms arms_all if_command body_of loop_command for_command name name_next expect_in in_next all_words separators separator_next closes_next op_next refusal missing at_last word_next assignment_next assignments reserved_of reserved assignment name_in name_of is_in_word pieces step bare dollar braced inside front word_front digits
 tested = refl

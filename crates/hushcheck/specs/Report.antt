@@ -107,18 +107,18 @@ pub record TakesTurns (rules : Rules) (env : List Pair) (before : List Used) (as
   pub used_is : used ≡ before ++ flat_map (used_by rules env) order
 
 -- what nothing sets of what the texts use, and whether there is such a variable
-abbrev pub last_lines : Rules → List Pair → List Used → Text
-last_lines rules env used = unset_lines (set_names rules.devices env used) used
+abbrev pub last_lines : List Pair → List Used → Text
+last_lines env used = unset_lines (set_names env used) used
 
-abbrev pub lacks_set : Rules → List Pair → List Used → Bool
-lacks_set rules env used = has_unset (set_names rules.devices env used) used
+abbrev pub lacks_set : List Pair → List Used → Bool
+lacks_set env used = has_unset (set_names env used) used
 
 -- The lines of the names that are reached, in their order, and after them what nothing sets.
 pub record AreLines (rules : Rules) (env : List Pair) (before : List Used) (asked order : List Text) (told : Text) :
     Type 0 where
   pub is_order : IsOrder rules.shell env asked order
   pub told_is : told ≡ flat_map (lines_of rules env) order
-      ++ last_lines rules env (before ++ flat_map (used_by rules env) order)
+      ++ last_lines env (before ++ flat_map (used_by rules env) order)
 
 -- These lines, and whether all is well: it was so far, each text that is reached is fine, and if a warning is a fault,
 -- something sets each variable that is read.
@@ -127,7 +127,7 @@ pub record ChecksNames (rules : Rules) (env : List Pair) (before : List Used) (a
   pub order : List Text
   pub lines : AreLines rules env before asked order told
   pub sound_is : sound ≡ ((so_far && list_all (is_fine rules env) order)
-      && not (rules.strict && lacks_set rules env (before ++ flat_map (used_by rules env) order)))
+      && not (rules.strict && lacks_set env (before ++ flat_map (used_by rules env) order)))
 
 -- the same where each name that is asked for has to be set
 abbrev pub Checks : Rules → List Pair → (asked : List Text) → (told : Text) → (sound : Bool) → Type 0

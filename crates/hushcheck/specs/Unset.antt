@@ -1,12 +1,11 @@
--- What nothing sets: the variables that the texts that are reached read, and that neither the environment has, nor the
--- device list gives, nor a text that is reached sets. Ours.
+-- What nothing sets: the variables that the texts that are reached read, and that neither the environment has nor a text that
+-- is reached sets. Ours.
 use Rattle.std.specs.Prelude.{◌==◌, ◌||◌, ◌++◌, ◌∷◌, ℕ, Bool, false, not, List, [], length, map, Option, Some, None, Result, Ok, Err, if◌then◌else◌}
 use Rattle.std.specs.List.{flat_map, fold, list_any}
 use Rattle.envimage.specs.Data.{Pair}
 use Rattle.envtools.specs.Environment.{same, value_of}
 use Rattle.hushlang.specs.Tree.{Script}
 use Rattle.hushlang.specs.declared.token.SyntaxError.{SyntaxError}
-use Rattle.device_list.specs.DeviceList.{Devices}
 use Rattle.hushcheck.specs.Calls.{Read, Remark, Unset, calls_of, found_lines}
 use Rattle.hushcheck.specs.Names.{Text, read_by}
 use Rattle.hushcheck.specs.Order.{once, with_names}
@@ -43,15 +42,9 @@ used_by rules env name = used_by_value rules name (value_of env name)
 
 -- ---- what is set
 
--- The variables that the board's own code sets before a script runs, beside those of the environment. There are none: what
--- lines `given` of a list say is in the environment that is checked.
-abbrev pub given_names : Option Devices → List Text
-given_names devices = []
-
--- the names of the environment, those that the list gives, and those that the texts set, wherever they do it
-abbrev pub set_names : Option Devices → List Pair → List Used → List Text
-set_names devices env used =
-    with_names (with_names (once (map (λ p. p.0) env)) (given_names devices)) (flat_map (λ u. u.sets) used)
+-- the names of the environment, with what lines `given` of a list say, and those that the texts set, wherever they do it
+abbrev pub set_names : List Pair → List Used → List Text
+set_names env used = with_names (once (map (λ p. p.0) env)) (flat_map (λ u. u.sets) used)
 
 -- ---- what is read and not set
 

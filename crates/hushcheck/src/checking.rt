@@ -252,7 +252,7 @@ fn check_names<'a, O: Out>(
 {
     let mut used = used;
     let sound = check_turns(alloc, rules, env, asked, script, so_far, &mut used, out)?;
-    let known = set_names(alloc, rules.devices, env, &used)?;
+    let known = set_names(alloc, env, &used)?;
     let unset = write_unset_reads(alloc, known, &used, out)?;
     Ok(is_well(rules.strict, sound, unset))
 }

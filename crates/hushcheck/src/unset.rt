@@ -1,5 +1,5 @@
 //! What nothing sets.
-ghost use Rattle.std.specs.Prelude.{◌≡◌, ◌||◌, ◌++◌, ◌∷◌, [], map, option_map, IfOk, OnOk};
+ghost use Rattle.std.specs.Prelude.{◌≡◌, ◌||◌, ◌++◌, ◌∷◌, [], map, IfOk, OnOk};
 ghost use Rattle.std.specs.List.{flat_map};
 ghost use Rattle.hushcheck.specs.CallSetsShown.{names_shown};
 ghost use Rattle.hushcheck.specs.Order.{with_names};
@@ -12,7 +12,6 @@ use crate::check_error::CheckError;
 use crate::names::{Names, names_of};
 use crate::remark::{Found, Read, Remark};
 use crate::telling::write_found;
-use device_list::Devices;
 use envtools::Env;
 use output::Out;
 use std::alloc::{AllocError, Global};
@@ -56,17 +55,6 @@ pub(crate) fn add_used<'a>(
     Ok(())
 }
 
-/// Adds the variables that the board's own code sets before a script runs, beside those of the environment.
-/// There are none: what lines `given` of a list say is in the environment. Errors: memory ran out.
-fn add_given(names: &mut Names, devices: Option<&Devices>) -> Result<(), AllocError>
-    ensures { OnOk result (names.new ≡ with_names names.old
-        (spec.given_names (option_map (λ d. d.now) devices.entry))) }
-{
-    let _ = names;
-    let _ = devices;
-    Ok(())
-}
-
 /// Adds the names that the texts set. Errors: memory ran out.
 fn add_sets(alloc: Global, names: &mut Names, used: &[Used<'_>]) -> Result<(), AllocError>
     ensures { OnOk result (names.new ≡ with_names names.old
@@ -79,17 +67,10 @@ fn add_sets(alloc: Global, names: &mut Names, used: &[Used<'_>]) -> Result<(), A
 }
 
 /// The names that something sets. Errors: memory ran out.
-pub(crate) fn set_names(
-    alloc: Global,
-    devices: Option<&Devices>,
-    env: &Env,
-    used: &[Used<'_>],
-) -> Result<Names, AllocError>
-    ensures { IfOk result (λ names. names ≡ spec.set_names
-        (option_map (λ d. d.now) devices.entry) env.now (all_used used.now)) }
+pub(crate) fn set_names(alloc: Global, env: &Env, used: &[Used<'_>]) -> Result<Names, AllocError>
+    ensures { IfOk result (λ names. names ≡ spec.set_names env.now (all_used used.now)) }
 {
     let mut names = names_of(alloc, env)?;
-    add_given(&mut names, devices)?;
     add_sets(alloc, &mut names, used)?;
     Ok(names)
 }

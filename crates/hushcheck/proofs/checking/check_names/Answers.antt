@@ -1,4 +1,4 @@
-use Rattle.std.proofs.Common.{◌≡◌, ◌&&◌, ◌++◌, ◌∙◌, ap, map, not, option_map}
+use Rattle.std.proofs.Common.{◌≡◌, ◌&&◌, ◌++◌, ◌∙◌, ap, map, not}
 use Rattle.std.proofs.lemmas.Result.{err_from_is_err_and}
 use Rattle.hushcheck.specs.Names.{run_by_found}
 use Rattle.hushcheck.specs.Report.{lacks_set, last_lines}
@@ -17,10 +17,9 @@ returns-in_err-unset g c =
     let items = c.check_turns.new.used.items in
     let mid = g.O.Out.sink c.check_turns.new.out in
     let new = g.O.Out.sink c.write_unset_reads.new.out in
-    let held = option_map (λ d. d.now) c.rules.inside.devices in
-    let known : c.in_ok-known.known ≡ set_names rules.devices env (all_used items) =
-    c.in_ok-known.ensures ∙ ap (λ us. set_names held env (all_used us)) c.deref.ensures.value ∙ ap (λ r. set_names r.devices env (all_used items)) c.rules.view_is in
-    let lines : unset_lines c.in_ok-known.known (all_used c.deref-2.result.now) ≡ last_lines rules env (all_used items) =
+    let known : c.in_ok-known.known ≡ set_names env (all_used items) =
+    c.in_ok-known.ensures ∙ ap (λ us. set_names env (all_used us)) c.deref.ensures.value in
+    let lines : unset_lines c.in_ok-known.known (all_used c.deref-2.result.now) ≡ last_lines env (all_used items) =
     ap (λ us. unset_lines c.in_ok-known.known (all_used us)) c.deref-2.ensures.value ∙ ap (λ k. unset_lines k (all_used items)) known in
     let p = err_from_is_err_and c.from_residual-in_err-unset.result c.from_residual-in_err-unset.ensures.1 in
     rw (p.1, p.2) (last-broke rules env before asked c.args.so_far (all_used items) c.in_ok-sound.sound c.in_err-unset.field-0.0 (g.O.Out.sink c.args.out.now) mid new c.in_ok-sound.ensures
@@ -35,12 +34,11 @@ returns g c =
     let items = c.check_turns.new.used.items in
     let mid = g.O.Out.sink c.check_turns.new.out in
     let new = g.O.Out.sink c.write_unset_reads.new.out in
-    let held = option_map (λ d. d.now) c.rules.inside.devices in
-    let known : c.in_ok-known.known ≡ set_names rules.devices env (all_used items) =
-    c.in_ok-known.ensures ∙ ap (λ us. set_names held env (all_used us)) c.deref.ensures.value ∙ ap (λ r. set_names r.devices env (all_used items)) c.rules.view_is in
-    let lines : unset_lines c.in_ok-known.known (all_used c.deref-2.result.now) ≡ last_lines rules env (all_used items) =
+    let known : c.in_ok-known.known ≡ set_names env (all_used items) =
+    c.in_ok-known.ensures ∙ ap (λ us. set_names env (all_used us)) c.deref.ensures.value in
+    let lines : unset_lines c.in_ok-known.known (all_used c.deref-2.result.now) ≡ last_lines env (all_used items) =
     ap (λ us. unset_lines c.in_ok-known.known (all_used us)) c.deref-2.ensures.value ∙ ap (λ k. unset_lines k (all_used items)) known in
-    let any : c.in_ok-unset.unset ≡ lacks_set rules env (all_used items) =
+    let any : c.in_ok-unset.unset ≡ lacks_set env (all_used items) =
     c.in_ok-unset.ensures.any ∙ ap (λ us. has_unset c.in_ok-known.known (all_used us)) c.deref-2.ensures.value ∙ ap (λ k. has_unset k (all_used items)) known in
     let sound = c.in_ok-sound.sound in
     let well = c.is_well.ensures ∙ ap (λ r. sound && not (r.strict && c.in_ok-unset.unset)) c.rules.view_is ∙ ap (λ b. sound && not (rules.strict && b)) any in
