@@ -263,3 +263,20 @@ faulty lines: the first one counts
   var a1=1
   stop unknown 1
   done
+
+20,000 names that are stored: each gets another value, or is deleted
+  $ (seq -f 'a%g=0' 20000 && echo 'bootcmd=echo $a1 $a20000') >env.txt
+  $ (seq -f 'given a%g=1' 20000 && echo final boot) >list
+  $ timeout 10 "$UBTOOL" rehearse --text env.txt -d list a2
+  run .
+  text 1 1\n
+  var a2=1
+  end 0
+  done
+  $ (seq -f 'given a%g=' 20000 && echo final boot) >list
+  $ timeout 10 "$UBTOOL" rehearse --text env.txt -d list a2
+  run .
+  text \n
+  unset a2
+  end 0
+  done

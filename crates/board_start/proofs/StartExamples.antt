@@ -1,11 +1,12 @@
 -- Worked examples of what a list says of the start of a board, computed.
 use Rattle.std.proofs.Common.{◌≡◌, List, [], ◌∷◌, ◌++◌, Some, None, Ok, Err, codes, refl}
 use Rattle.envimage.specs.Data.{Pair}
+use Rattle.envtools.specs.Changes.{with_changes}
 use Rattle.device_list.specs.DeviceList.{Effects, only}
 use Rattle.device_list.specs.DeviceLaws.{quiet}
 use Rattle.device_list.specs.declared.devices_error.DevicesError.TheVariants.{BadLine}
 use Rattle.board_start.specs.StartLines.{Given, Before, Faulty, Other, said, without_start}
-use Rattle.board_start.specs.Start.{Start, no_start, start_of, choices, chosen, given_line, place_of, with_all, begun, after_said}
+use Rattle.board_start.specs.Start.{Start, no_start, start_of, choices, chosen, given_line, place_of, begun, after_said}
 use Rattle.board_start.specs.Boards.{board_of, OfDevices}
 use Rattle.board_start.specs.declared.start_error.StartError.TheVariants.{TooMany, Alternatives, NoAlternative, Name}
 
@@ -216,7 +217,7 @@ abbrev stored : List Pair
 stored = (codes "a", codes "0") ∷ (codes "p", codes "true") ∷ (codes "bootcmd", codes "load") ∷ []
 
 -- what is given takes the place of what is stored, and an empty value deletes
-value_in_place : with_all stored ((codes "a", codes "1") ∷ (codes "p", []) ∷ (codes "c", codes "2") ∷ []) ≡ (codes "bootcmd", codes "load") ∷ (codes "a", codes "1") ∷ (codes "c", codes "2") ∷ []
+value_in_place : with_changes stored ((codes "a", codes "1") ∷ (codes "p", []) ∷ (codes "c", codes "2") ∷ []) ≡ (codes "bootcmd", codes "load") ∷ (codes "a", codes "1") ∷ (codes "c", codes "2") ∷ []
 value_in_place = refl
 
 -- ---- the text

@@ -7,6 +7,7 @@ use Rattle.text.specs.Bytes as ascii
 use Rattle.text.specs.Escapes.{word_escaped}
 use Rattle.text.specs.Lines.{Text, numbered_lines}
 use Rattle.envimage.specs.Data.{Pair}
+use Rattle.envtools.specs.Changes.{with_changes}
 use Rattle.envtools.specs.Environment as env
 use Rattle.device_list.specs.DeviceList.{changed_at}
 use Rattle.board_start.specs.StartLines.{Said, Given, Before, Faulty, Other, said, is_plain_name}
@@ -129,17 +130,6 @@ place_of count None = if count == 1 then Ok 0 else Err (Alternatives count)
 place_of count (Some number) =
     if number == 0 || nat_lt count number then Err (NoAlternative number count) else Ok (number - 1)
 
--- ---- the environment
-
--- as U-Boot's env_set: an empty value deletes
-abbrev pub with_given : List Pair → Text × Text → List Pair
-with_given environment given =
-    if env.is_name given.0 && env.is_value given.1 then env.changed_to environment given.0 given.1 else environment
-
-abbrev pub with_all : List Pair → List (Text × Text) → List Pair
-with_all environment [] = environment
-with_all environment (given ∷ givens) = with_all (with_given environment given) givens
-
 -- ---- the text
 
 abbrev pub is_set : List Pair → Text → Bool
@@ -191,7 +181,7 @@ begun_in environment before name text =
 
 abbrev pub begun_at : Start → Result ℕ StartError → List Pair → (name : Text) → (text : Option Text) →
     Result Begun StartError
-begun_at start (Ok place) environment name text = begun_in (with_all environment (chosen start place)) start.before name text
+begun_at start (Ok place) environment name text = begun_in (with_changes environment (chosen start place)) start.before name text
 begun_at start (Err fault) environment name text = Err fault
 
 -- how a rehearsal of a variable, or of a text, begins on a board, with the alternative that is named

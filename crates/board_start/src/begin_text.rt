@@ -12,7 +12,7 @@ use envtools::Env;
 use std::alloc::{AllocError, Global};
 
 /// Whether a variable is set.
-fn is_set(env: &Env, name: &[u8]) -> bool
+pub(crate) fn is_set(env: &Env, name: &[u8]) -> bool
     ensures { result ≡ is_set env.now name.now }
 {
     env.get(name).is_some()

@@ -1,17 +1,17 @@
 //! How a board starts: what its environment has before a run, and what runs first.
-ghost use Rattle.std.specs.Prelude.{◌≡◌, ◌++◌, IfOk, OnOk, filter};
+ghost use Rattle.std.specs.Prelude.{◌≡◌, ◌++◌, IfOk, OnOk, filter, map};
 ghost use Rattle.std.specs.List.{flat_map};
 ghost use Rattle.text.specs.Escapes.{word_escaped};
-ghost use Rattle.board_start.specs.Start.{pair_text, varies, with_all, with_given};
+ghost use Rattle.board_start.specs.Start.{pair_text, varies};
 ghost use Rattle.board_start.specs.StartShown.{givens_shown, pairs_shown};
 
-use crate::begin_text::text_behind_all;
+use crate::begin_text::{is_set, text_behind_all};
 use crate::board_error::BoardError;
 use crate::place::place_of;
 use crate::said::Said;
 use crate::start_error::StartError;
 use crate::values::{Givens, add_value, count, varies};
-use envtools::{Env, EnvError};
+use envtools::Env;
 use indexmap::IndexMap;
 use std::alloc::{AllocError, Global};
 use std::marker::Model;
@@ -42,28 +42,6 @@ pub struct Begun {
     pub env: Env,
     /// The text that is rehearsed in place of the variable's, if there is one.
     pub text: Option<Vec<u8>>,
-}
-
-/// Gives a variable its value, as `env_set` of U-Boot does: an empty one deletes. Errors: memory ran
-/// out.
-fn give(env: &mut Env, name: &[u8], value: &[u8]) -> Result<(), AllocError>
-    ensures { OnOk result (env.new ≡ with_given env.old (name.now, value.now)) }
-{
-    match env.change(name, &[value]) {
-        Ok(()) => Ok(()),
-        Err(EnvError::Memory) => Err(AllocError),
-        Err(_) => Ok(()),
-    }
-}
-
-/// Gives variables their values. Errors: memory ran out.
-fn give_all(env: &mut Env, pairs: &[(&[u8], &[u8])]) -> Result<(), AllocError>
-    ensures { OnOk result (env.new ≡ with_all env.old (pairs_shown pairs.now)) }
-{
-    for (name, value) in pairs {
-        give(env, name, value)?;
-    }
-    Ok(())
 }
 
 /// Adds the bytes of a text as they are printed in a word. Errors: memory ran out.
@@ -105,7 +83,8 @@ fn add_varying(
 
 impl Start {
     ghost use Rattle.std.specs.Option.{option_copied};
-    ghost use Rattle.board_start.specs.Start.{after_given, after_said, alternatives, begun, chosen, given_line, no_start, with_before};
+    ghost use Rattle.envtools.specs.Changes.{with_changes};
+    ghost use Rattle.board_start.specs.Start.{after_given, after_said, alternatives, begun, chosen, first_texts, given_line, no_start, with_before};
     ghost use Rattle.board_start.specs.StartShown.{said_shown};
     ghost use Rattle.board_start.specs.StartAnswers.{Adds, Begins};
 
@@ -192,12 +171,27 @@ impl Start {
     /// The environment with the variables of the alternative at this place, from 0 on. Errors: memory
     /// ran out.
     pub fn give(&self, env: Env, place: u32) -> Result<Env, AllocError>
-        ensures { IfOk result (λ new. new ≡ with_all env (chosen self.now place)) }
+        ensures { IfOk result (λ new. new ≡ with_changes env (chosen self.now place)) }
     {
-        let mut env = env;
         let pairs = self.chosen(place)?;
-        give_all(&mut env, &pairs)?;
-        Ok(env)
+        if pairs.is_empty() {
+            return Ok(env);
+        }
+        env.changed_by(&pairs)
+    }
+
+    /// The names of those variables whose texts run first and that are set, in order. Errors: memory ran
+    /// out.
+    pub fn first_texts(&self, env: &Env) -> Result<Vec<&[u8]>, AllocError>
+        ensures { IfOk result (λ names. map (λ n. n.now) names.items ≡ first_texts env.now self.now.before) }
+    {
+        let mut names = Vec::new(self.alloc);
+        for name in &self.before {
+            if is_set(env, name) {
+                names.push(name.as_slice())?;
+            }
+        }
+        Ok(names)
     }
 
     /// What a rehearsal of a variable, or of a text, begins with: the environment with the variables of

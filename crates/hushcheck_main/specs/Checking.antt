@@ -6,6 +6,7 @@ use Rattle.output.specs.Outputs.{WroteFront}
 use Rattle.output.specs.Sink.{BrokeOff, Sink, Wrote}
 use Rattle.envimage.specs.declared.image.ByteOrder.{ByteOrder}
 use Rattle.envimage.specs.declared.image.ImageError.{ImageError}
+use Rattle.envtools.specs.Changes.{with_changes}
 use Rattle.hushcheck_main.specs.Asked.{Asked}
 use Rattle.hushcheck_main.specs.declared.fault.CheckFault.{CheckFault}
 use Rattle.hushcheck_main.specs.declared.fault.CheckFault.TheVariants.{DeviceList, Shared}
@@ -17,7 +18,7 @@ use Rattle.hushcheck.specs.declared.check_error.CheckError.{CheckError}
 use Rattle.rehearse_terms.specs.declared.shell.Shell.{Shell}
 use Rattle.board_start.specs.BoardShown.{board_shown}
 use Rattle.board_start.specs.Boards.{Board, Fault as BoardFault, OfDevices, OfStart, board_of}
-use Rattle.board_start.specs.Start.{chosen, with_all}
+use Rattle.board_start.specs.Start.{chosen}
 use Rattle.board_start.specs.declared.board.Board.{Board as BoardRead}
 use Rattle.board_start.specs.declared.board_error.BoardError.{BoardError}
 use Rattle.board_start.specs.declared.board_error.BoardError.TheVariants as board
@@ -85,7 +86,7 @@ rules_in board g = record { devices = option_map (λ b. b.devices) board; shell 
 -- the environment with what the list gives, of its alternatives the first
 abbrev pub env_on : Option Board → List Pair → List Pair
 env_on None env = env
-env_on (Some board) env = with_all env (chosen board.start 0)
+env_on (Some board) env = with_changes env (chosen board.start 0)
 
 -- ---- a script, or none
 
