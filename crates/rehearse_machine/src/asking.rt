@@ -70,7 +70,7 @@ fn find_behind<'d, S: Store>(
 
 /// Finds the device command again that has begun and asks. It is before the place of the innermost
 /// frame. Expands its words again, in the state in which it was begun. Errors: `Memory`.
-pub(crate) fn find_again<'d, S: Store>(
+pub fn find_again<'d, S: Store>(
     alloc: Global,
     store: &mut S,
     devices: &'d Devices,

@@ -27,5 +27,12 @@ mod source;
 mod steps;
 mod told;
 
+pub use ask::{Ask, Statuses, Step};
+pub use asking::find_again;
+pub use by_shell::{asks_in, follows, is_refused, question_in};
+pub use list_commands::command_of;
+pub use machine::step;
+pub use outcomes::{answer, value_of, variable_of};
 pub use rehearsal::{Rehearsal, Stop, begin, resume};
 pub use source::Source;
+pub use steps::{assigned_value, expanded};

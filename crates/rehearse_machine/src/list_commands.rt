@@ -7,7 +7,7 @@ use hushlang::{AndOr, Command};
 
 /// The command of a list with this number.
 #[inline(always)]
-pub(crate) fn command_of(list: &AndOr, command: usize) -> Option<&Command>
+pub fn command_of(list: &AndOr, command: usize) -> Option<&Command>
     ensures value { option_map (λ found. view.command found.now) result
         ≡ command_in (view.list list.now) command }
     ensures within { IsSome result → command + 1 < 2 ^ 64 }

@@ -65,7 +65,7 @@ fn proceed<'d, S: Store>(
 }
 
 /// Makes one move. Only a move that reads its frame after the store has changed copies the frame.
-pub(crate) fn step<'d, S: Store>(
+pub fn step<'d, S: Store>(
     alloc: Global,
     store: &mut S,
     fields: &mut Fields,

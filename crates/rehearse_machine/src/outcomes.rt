@@ -22,7 +22,7 @@ use text::copied_words;
 
 /// Gives a device command its outcome, which goes into the log and decides the status. On success
 /// the command sets its variables, and may end the run.
-pub(crate) fn answer<'d, S: Store>(
+pub fn answer<'d, S: Store>(
     store: &mut S,
     ask: Ask<'d>,
     success: bool,
@@ -137,7 +137,7 @@ fn set_one<S: Store>(store: &mut S, words: &[Vec<u8>], set: &Setting) -> Result<
 }
 
 /// The value that the right side of a setting means in a call with these words.
-fn value_of<'a>(right: &'a RightSide, words: &'a [Vec<u8>]) -> Option<&'a [u8]>
+pub fn value_of<'a>(right: &'a RightSide, words: &'a [Vec<u8>]) -> Option<&'a [u8]>
     ensures { option_map (λ v. v.now) result ≡ value_of (right_shown right.now)
         (bytes_of_words words.now) }
 {
@@ -157,7 +157,7 @@ fn bytes_of_word(word: Option<&Vec<u8>>) -> Option<&[u8]>
 }
 
 /// The variable that the left side of a setting means in a call with these words.
-fn variable_of<'a>(left: &'a LeftSide, words: &'a [Vec<u8>]) -> Option<&'a [u8]>
+pub fn variable_of<'a>(left: &'a LeftSide, words: &'a [Vec<u8>]) -> Option<&'a [u8]>
     ensures { option_map (λ n. n.now) result ≡ variable_of (left_shown left.now)
         (bytes_of_words words.now) }
 {

@@ -55,7 +55,7 @@ fn replaced(fields: &mut Fields, found: Vec<Vec<u8>>) -> bool
 
 /// Puts the fields of a command in a shell in the place of these. Returns whether they hold no more
 /// bytes than allowed.
-pub(crate) fn expanded<S: Store>(
+pub fn expanded<S: Store>(
     alloc: Global,
     fields: &mut Fields,
     store: &S,
@@ -138,7 +138,7 @@ fn within(value: Vec<u8>) -> Option<Vec<u8>>
 }
 
 /// The value that an assignment gives in a shell. Gives `None` if it has too many bytes.
-pub(crate) fn assigned_value<S: Store>(
+pub fn assigned_value<S: Store>(
     alloc: Global,
     store: &S,
     shell: Shell,
