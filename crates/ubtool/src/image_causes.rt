@@ -131,9 +131,10 @@ fn lines_in_turn(
 /// and none is named, writes the lines of each, in order, each behind a line that tells it, and all is
 /// well if it is with each.
 ///
-/// Refusals in order: the image, the device list, `Start`, `NoSuchVariable` and `Memory`, with nothing
-/// written; then `Write` if the output fails, with a prefix of the lines written. What refuses one
-/// alternative refuses all. `Memory` comes wherever a growth is made.
+/// Refusals in order: the image; `Start` with `TooMany`; the first fault of the device list; `Start` for
+/// another reason; `NoSuchVariable` and `Memory`, with nothing written; then `Write` if the output fails,
+/// with a prefix of the lines written. What refuses one alternative refuses all. `Memory` comes wherever a
+/// growth is made.
 pub fn causes_bytes<O: Out>(
     alloc: Global,
     first: &[u8],

@@ -113,9 +113,10 @@ fn lines_in_turn(
 /// variables are those that U-Boot reads from the image. If the device list has several alternatives
 /// and none is named, writes the lines of each, in order, each behind a line that tells it.
 ///
-/// Refusals in order: the image, the device list, `Start`, `NoSuchVariable`, `States` and `Memory`,
-/// with nothing written; then `Write` if the output fails, with a prefix of the lines written. What
-/// refuses one alternative refuses all. `Memory` comes wherever a growth is made.
+/// Refusals in order: the image; `Start` with `TooMany`; the first fault of the device list; `Start` for
+/// another reason; `NoSuchVariable`, `States` and `Memory`, with nothing written; then `Write` if the
+/// output fails, with a prefix of the lines written. What refuses one alternative refuses all. `Memory`
+/// comes wherever a growth is made.
 pub fn endings_bytes<O: Out>(
     alloc: Global,
     first: &[u8],

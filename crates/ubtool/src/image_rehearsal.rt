@@ -27,9 +27,10 @@ use std::alloc::Global;
 /// out at the end, else `Done`. In a shell of U-Boot, the variables are those that U-Boot reads from
 /// the image.
 ///
-/// Refusals in order: the image, the device list, `Start`, `NoSuchVariable`, `NotARun`, with
-/// nothing written; then `Write` during the listing, and `Memory` wherever a growth is made. After these
-/// two, a prefix of the listing has been written; after `Memory` it is whole records.
+/// Refusals in order: the image; `Start` with `TooMany`; the first fault of the device list; `Start` for
+/// another reason; `NoSuchVariable`, `NotARun`, with nothing written; then `Write` during the listing, and
+/// `Memory` wherever a growth is made. After these two, a prefix of the listing has been written; after
+/// `Memory` it is whole records.
 pub fn rehearse_bytes<O: Out>(
     alloc: Global,
     first: &[u8],
