@@ -11,4 +11,6 @@ pub mod AskLemmas
 pub mod RehearseLemmas
 pub mod EndingsLemmas
 pub mod CausesLemmas
+mod BeginningExamples
 mod LockExamples
+mod TurnExamples
