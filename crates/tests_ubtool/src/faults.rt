@@ -11,7 +11,7 @@ use std::fmt::Display;
 use tests_rows::{number, shown};
 use tool_files::FileFault;
 use tool_images::{Fault, ToolError, WordForm, write_fault_of};
-use ubtool::{ProgramFault, RehearsalError};
+use ubtool::{ProgramFault, RehearsalError, StartError};
 
 /// The line that is written for a fault.
 fn line_of<E: Display>(alloc: Global, fault: &E) -> anyhow::Result<String> {
@@ -65,6 +65,10 @@ fn of_rehearsals(alloc: Global, lines: &mut String) -> anyhow::Result<()> {
         RehearsalError::Rehearsal(RehearseError::DeviceList(DevicesError::BadLine(7))),
         RehearsalError::Rehearsal(RehearseError::DeviceList(DevicesError::BuiltIn(8))),
         RehearsalError::Rehearsal(RehearseError::DeviceList(DevicesError::ByteOrderMark)),
+        RehearsalError::Start(StartError::TooMany(9)),
+        RehearsalError::Start(StartError::Alternatives(4)),
+        RehearsalError::Start(StartError::NoAlternative(5, 4)),
+        RehearsalError::Start(StartError::Name),
         RehearsalError::Image(ImageError::BadCrc),
         RehearsalError::Write,
         RehearsalError::Memory,
