@@ -1,6 +1,6 @@
 -- A command that asks was not told an answer: it takes an outcome of the word.
 use Rattle.device_list.specs.declared.finish.BoardEnd.{BoardEnd}
-use Rattle.rehearse_rules.specs.ByShell.{leaves_in, status_of_exit, asks_in, truth_in, fields_in, follows}
+use Rattle.rehearse_rules.specs.ByShell.{leaves_in, status_of_exit, asks_in, truth_in, fields_in, follows, reads_again}
 use Rattle.std.proofs.Common.{ℕ, Bool, true, false, List, [], ◌∷◌, length, Option, Some, None, refl, subst, ◌≡◌, nat_lt, nat_le}
 use Rattle.hushlang.specs.Tree as tree
 use Rattle.hushlang.specs.Tree.{Script}
@@ -47,27 +47,27 @@ module _ (limits : Limits) where
   ask_anew : (r : Request) (ps : List RunningFrame) (s : State) → r.again ≡ false → AsksAnew (place_ask limits r ps s)
   ask_anew r ps s e = either_anew (nat_lt (length s.log) limits.device_bound) (place_tell_or_ask (told r s.log) r ps s) (StopOn CutDevices s) (tell_anew (told r s.log) r ps s e) tt
 
-  called_anew : (b : Called) (name : Text) (ws : List Text) (script : Script) (ps : List RunningFrame) (s : State) → AsksAnew (place_called limits b name ws script ps s)
-  called_anew (BuiltIn (ChangesVariables change)) name ws script ps s = tt
-  called_anew (BuiltIn RunsTexts) name [] script ps s = tt
-  called_anew (BuiltIn RunsTexts) name (w ∷ ws) script ps s = tt
-  called_anew (BuiltIn Tests) name ws script ps s =
+  called_anew : (again : Bool) (b : Called) (name : Text) (ws : List Text) (script : Script) (ps : List RunningFrame) (s : State) → AsksAnew (place_called limits again b name ws script ps s)
+  called_anew again (BuiltIn (ChangesVariables change)) name ws script ps s = tt
+  called_anew again (BuiltIn RunsTexts) name [] script ps s = tt
+  called_anew again (BuiltIn RunsTexts) name (w ∷ ws) script ps s = tt
+  called_anew again (BuiltIn Tests) name ws script ps s =
       let r : Request = test_request limits name ws in
       either_anew (asks_in limits.shell ws) (place_ask limits r ps s) (GoOn ps (set_status (status_when (truth_in limits.shell ws)) s)) (ask_anew r ps s refl) tt
-  called_anew (BuiltIn (WritesText written)) name ws script ps s = tt
-  called_anew (BuiltIn Exits) name ws script ps s = exit_anew (leaves_in limits.shell ws) (status_of_exit limits.shell ws) ps s
-  called_anew (Device effect) name ws script ps s = ask_anew (request_of name ws effect) ps s refl
-  called_anew NoCommand name ws script ps s = tt
+  called_anew again (BuiltIn (WritesText written)) name ws script ps s = tt
+  called_anew again (BuiltIn Exits) name ws script ps s = exit_anew (leaves_in limits.shell again ws) (status_of_exit limits.shell ws) ps s
+  called_anew again (Device effect) name ws script ps s = ask_anew (request_of name ws effect) ps s refl
+  called_anew again NoCommand name ws script ps s = tt
 
-  fields_anew : (fs : List Text) (script : Script) (ps : List RunningFrame) (s : State) → AsksAnew (place_fields limits fs script ps s)
-  fields_anew [] script ps s = tt
-  fields_anew (name ∷ ws) script ps s = either_anew (follows limits.shell limits.devices name ws) (place_called limits (called_by limits.devices name ws) name ws script ps s) (StopOn (Unsupported name) s) (called_anew (called_by limits.devices name ws) name ws script ps s) tt
+  fields_anew : (again : Bool) (fs : List Text) (script : Script) (ps : List RunningFrame) (s : State) → AsksAnew (place_fields limits again fs script ps s)
+  fields_anew again [] script ps s = tt
+  fields_anew again (name ∷ ws) script ps s = either_anew (follows limits.shell limits.devices name ws) (place_called limits again (called_by limits.devices name ws) name ws script ps s) (StopOn (Unsupported name) s) (called_anew again (called_by limits.devices name ws) name ws script ps s) tt
 
   again_anew : (o : Option (List tree.Word)) (f : RunningFrame) (fs : List RunningFrame) (s : State) → AsksAnew (fields_again limits o f fs s)
   again_anew None f fs s = tt
   again_anew (Some words) f fs s =
       let found : List Text = fields_in limits.shell (parameters_in s.memory) words in
-      either_anew (nat_le (size found) most_bytes) (place_fields limits found f.script (f ∷ fs) s) (StopOn Size s) (fields_anew found f.script (f ∷ fs) s) tt
+      either_anew (nat_le (size found) most_bytes) (place_fields limits (reads_again words) found f.script (f ∷ fs) s) (StopOn Size s) (fields_anew (reads_again words) found f.script (f ∷ fs) s) tt
 
   found_anew : (ps : List RunningFrame) (s : State) → AsksAnew (found_again limits ps s)
   found_anew [] s = tt

@@ -13,7 +13,7 @@ use Rattle.hushlang.specs.Expansion.{size, most_bytes}
 use Rattle.hushlang_old.specs.TreesByShell.{tree_in, lacks_end_in}
 use Rattle.device_list.specs.Called.{Called, BuiltIn, Device, NoCommand, called_by, sets_in}
 use Rattle.commands.specs.BuiltInCommands.{ChangesVariables, WritesText, RunsTexts, Tests, Exits, variables_changed, text_written}
-use Rattle.rehearse_rules.specs.ByShell.{unread, leaves_in, status_of_exit, asks_in, truth_in, fields_in, turns_in, skips_rest, status_of_nothing, status_of_no_block, status_of_loop, status_in_turn, follows, assigned_in, locals_in}
+use Rattle.rehearse_rules.specs.ByShell.{unread, leaves_in, status_of_exit, asks_in, truth_in, fields_in, turns_in, skips_rest, status_of_nothing, status_of_no_block, status_of_loop, status_in_turn, follows, assigned_in, locals_in, reads_again}
 use Rattle.rehearse_rules.specs.Execution.{begin_turn, Limits, Answer, Normal, Exit, Ended, Dry, Ending, CutDevices, CutSteps, Unknown, Size, go_on, remember, set_status, status_when, goes, holds, begin, take_outcome, with_outcome, outcome_when, succeeds, told, told_again, tell_or_take, device, Request, logged, set_environment, finish, text_end, run_text, run_all, command, simple, sized, assign, turns, for_each, exec_script, exec_list, exec_joined, exec_command, exec_arms, exec, Unsupported, assign_local, started_text, request_of, test_request}
 use Rattle.rehearse_rules.specs.Runs.{state_of}
 use Rattle.rehearse_rules.proofs.TakenOutcomes.{skipped, Track-of, KeepsAll, Keeps-script, Keeps-joined, Keeps-arms, Keeps-exec, Keeps-run, Keeps-turns, Keeps-for, Keeps-if, Keeps-stays, after_condition, Keeps-after_condition, Keeps-ended, Keeps-simple, Keeps-sized, Keeps-assign}
@@ -283,19 +283,19 @@ module _ (limits : Limits) (i j : ℕ) (k l : List LoggedCommand) where
     Alike-leave (Some n) other s = Alike-exit s (λ m. record m { status = n }) (reaches_status n s.memory)
     Alike-leave None other s = Alike-normal s (λ m. record m { status = other }) (reaches_status other s.memory)
 
-    Alike-command : (b : Called) (name : Text) (ws : List Text) → AlwaysDoes (command limits script b name ws)
-    Alike-command (BuiltIn (ChangesVariables change)) name ws s = Alike-normal s (variables_changed change ws) (λ text. (text, refl))
-    Alike-command (BuiltIn RunsTexts) name [] s = Alike-normal s (λ m. record m { status = 1 }) (reaches_status 1 s.memory)
-    Alike-command (BuiltIn RunsTexts) name (w ∷ ws) s = Alike-run (w ∷ ws) s
-    Alike-command (BuiltIn Tests) name ws s = Alike-if s (asks_in limits.shell ws) (device limits (test_request limits name ws)) (λ t. Normal (set_status (status_when (truth_in limits.shell ws)) t)) (Alike-device (test_request limits name ws) s) (Alike-normal s (λ m. record m { status = status_when (truth_in limits.shell ws) }) (reaches_status (status_when (truth_in limits.shell ws)) s.memory))
-    Alike-command (BuiltIn (WritesText written)) name ws s = Alike-normal s (text_written written ws) (λ text. (text ++ written ws, refl))
-    Alike-command (BuiltIn Exits) name ws s = Alike-leave (leaves_in limits.shell ws) (status_of_exit limits.shell ws) s
-    Alike-command (Device effect) name ws s = Alike-device (request_of name ws effect) s
-    Alike-command NoCommand name ws s = Alike-ended s (Unknown name)
+    Alike-command : (again : Bool) (b : Called) (name : Text) (ws : List Text) → AlwaysDoes (command limits again script b name ws)
+    Alike-command again (BuiltIn (ChangesVariables change)) name ws s = Alike-normal s (variables_changed change ws) (λ text. (text, refl))
+    Alike-command again (BuiltIn RunsTexts) name [] s = Alike-normal s (λ m. record m { status = 1 }) (reaches_status 1 s.memory)
+    Alike-command again (BuiltIn RunsTexts) name (w ∷ ws) s = Alike-run (w ∷ ws) s
+    Alike-command again (BuiltIn Tests) name ws s = Alike-if s (asks_in limits.shell ws) (device limits (test_request limits name ws)) (λ t. Normal (set_status (status_when (truth_in limits.shell ws)) t)) (Alike-device (test_request limits name ws) s) (Alike-normal s (λ m. record m { status = status_when (truth_in limits.shell ws) }) (reaches_status (status_when (truth_in limits.shell ws)) s.memory))
+    Alike-command again (BuiltIn (WritesText written)) name ws s = Alike-normal s (text_written written ws) (λ text. (text ++ written ws, refl))
+    Alike-command again (BuiltIn Exits) name ws s = Alike-leave (leaves_in limits.shell again ws) (status_of_exit limits.shell ws) s
+    Alike-command again (Device effect) name ws s = Alike-device (request_of name ws effect) s
+    Alike-command again NoCommand name ws s = Alike-ended s (Unknown name)
 
-    pub Alike-simple : (fs : List Text) → AlwaysDoes (simple limits script fs)
-    Alike-simple [] s = Alike-normal s (λ m. record m { status = status_of_nothing limits.shell m.status }) (λ text. (text, refl))
-    Alike-simple (name ∷ ws) s = Alike-if s (follows limits.shell limits.devices name ws) (command limits script (called_by limits.devices name ws) name ws) (Ended (Unsupported name)) (Alike-command (called_by limits.devices name ws) name ws s) (Alike-ended s (Unsupported name))
+    pub Alike-simple : (again : Bool) (fs : List Text) → AlwaysDoes (simple limits again script fs)
+    Alike-simple again [] s = Alike-normal s (λ m. record m { status = status_of_nothing limits.shell m.status }) (λ text. (text, refl))
+    Alike-simple again (name ∷ ws) s = Alike-if s (follows limits.shell limits.devices name ws) (command limits again script (called_by limits.devices name ws) name ws) (Ended (Unsupported name)) (Alike-command again (called_by limits.devices name ws) name ws s) (Alike-ended s (Unsupported name))
 
   pub Alike-after : (until : Bool) (b again : State → Answer) → AlwaysDoes b → AlwaysDoes again → KeepsAll limits again → (last : ℕ) → AlwaysDoes (after_condition limits until b again last)
   Alike-after until b again h does kept last t = Alike-if t (holds until t.memory.status) (λ v. go_on (b v) again) (λ v. Normal (set_status (status_of_loop limits.shell last v.memory.status) v)) (Alike-go_on t b again (h t) does kept) (Alike-normal t (λ m. record m { status = status_of_loop limits.shell last m.status }) (λ text. (text, refl)))
@@ -330,7 +330,7 @@ module _ (limits : Limits) (i j : ℕ) (k l : List LoggedCommand) where
       Alike-joined (tree.Joins op c rest) s = Alike-if s (goes op s.memory.status) (λ t. go_on (exec_command limits left text c t) (exec_joined limits left text rest)) (skipped limits (exec_joined limits left text rest)) (Alike-go_on s (exec_command limits left text c) (exec_joined limits left text rest) (Alike-one c s) (Alike-joined rest) (Keeps-joined limits left text kept rest)) (Alike-if s (skips_rest limits.shell) Normal (exec_joined limits left text rest) (Alike-stays s) (Alike-joined rest s))
 
       pub Alike-one : (a : Command) → AlwaysDoes (exec_command limits left text a)
-      Alike-one (tree.Simple words) s = Alike-begin (λ t. sized (fields_in limits.shell (parameters_in t.memory) words) (simple limits text) t) (λ t. Alike-sized (fields_in limits.shell (parameters_in t.memory) words) (simple limits text) (Alike-simple text kept does) t) (λ t. Keeps-sized limits (fields_in limits.shell (parameters_in t.memory) words) (simple limits text) (Keeps-simple limits text kept) t) s
+      Alike-one (tree.Simple words) s = Alike-begin (λ t. sized (fields_in limits.shell (parameters_in t.memory) words) (simple limits (reads_again words) text) t) (λ t. Alike-sized (fields_in limits.shell (parameters_in t.memory) words) (simple limits (reads_again words) text) (Alike-simple text kept does (reads_again words)) t) (λ t. Keeps-sized limits (fields_in limits.shell (parameters_in t.memory) words) (simple limits (reads_again words) text) (Keeps-simple limits text kept (reads_again words)) t) s
       Alike-one (tree.Assign pairs) s = Alike-begin (assign limits.shell pairs) (Alike-assign pairs) (Keeps-assign limits pairs) s
       Alike-one (tree.If arms) s = Alike-arms arms s
       Alike-one (tree.Loop until c b) s = Alike-turns left until (exec_script limits left text c) (exec_script limits left text b) (Alike-script c) (Alike-script b) (Keeps-script limits left text kept c) (Keeps-script limits left text kept b) 0 s

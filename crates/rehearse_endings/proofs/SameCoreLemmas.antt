@@ -1,6 +1,6 @@
 -- If a device command asks at two moments with the same core, the same is to come, as far as the bounds allow.
 use Rattle.device_list.specs.declared.finish.BoardEnd.{BoardEnd}
-use Rattle.rehearse_rules.specs.ByShell.{leaves_in, status_of_exit, asks_in, truth_in, fields_in, follows}
+use Rattle.rehearse_rules.specs.ByShell.{leaves_in, status_of_exit, asks_in, truth_in, fields_in, follows, reads_again}
 use Rattle.std.proofs.Common.{ℕ, Bool, true, false, cond, List, [], ◌∷◌, length, Option, Some, None, refl, sym, ap, subst, ◌∙◌, ◌≡◌, append-nil, arith, nat_lt, nat_le}
 use Rattle.std.specs.FinMap.{entries}
 use Rattle.hushlang.specs.Tree as tree
@@ -78,25 +78,25 @@ module _ (limits : Limits) (text : Text) (log : List LoggedCommand) (n : ℕ) wh
       subst (λ (o : Option Bool). AskSame (place_ask limits r ps s) (elim (nat_lt (length log) limits.device_bound) [ true ↦ place_tell_or_ask o r ps (there s) | false ↦ StopOn CutDevices (there s) ])) (sym told_there)
       (ask_by (told r s.log) (nat_lt (length s.log) limits.device_bound) (nat_lt (length log) limits.device_bound) r ps s (there s))
 
-  called_same : (b : Called) (name : Text) (ws : List Text) (script : Script) (ps : List RunningFrame) (s : State) → answers_in log ≡ answers_in s.log → AskSame (place_called limits b name ws script ps s) (place_called limits b name ws script ps (there s))
-  called_same (BuiltIn (ChangesVariables change)) name ws script ps s h = tt
-  called_same (BuiltIn RunsTexts) name [] script ps s h = tt
-  called_same (BuiltIn RunsTexts) name (w ∷ ws) script ps s h = tt
-  called_same (BuiltIn Tests) name ws script ps s h = either_same (asks_in limits.shell ws) (place_ask limits (test_request limits name ws) ps) (λ t. GoOn ps (set_status (status_when (truth_in limits.shell ws)) t)) s (ask_same (test_request limits name ws) ps s h) tt
-  called_same (BuiltIn (WritesText written)) name ws script ps s h = tt
-  called_same (BuiltIn Exits) name ws script ps s h = exit_same (leaves_in limits.shell ws) (status_of_exit limits.shell ws) ps s (place_exit (leaves_in limits.shell ws) (status_of_exit limits.shell ws) ps (there s))
-  called_same (Device effect) name ws script ps s h = ask_same (request_of name ws effect) ps s h
-  called_same NoCommand name ws script ps s h = tt
+  called_same : (again : Bool) (b : Called) (name : Text) (ws : List Text) (script : Script) (ps : List RunningFrame) (s : State) → answers_in log ≡ answers_in s.log → AskSame (place_called limits again b name ws script ps s) (place_called limits again b name ws script ps (there s))
+  called_same again (BuiltIn (ChangesVariables change)) name ws script ps s h = tt
+  called_same again (BuiltIn RunsTexts) name [] script ps s h = tt
+  called_same again (BuiltIn RunsTexts) name (w ∷ ws) script ps s h = tt
+  called_same again (BuiltIn Tests) name ws script ps s h = either_same (asks_in limits.shell ws) (place_ask limits (test_request limits name ws) ps) (λ t. GoOn ps (set_status (status_when (truth_in limits.shell ws)) t)) s (ask_same (test_request limits name ws) ps s h) tt
+  called_same again (BuiltIn (WritesText written)) name ws script ps s h = tt
+  called_same again (BuiltIn Exits) name ws script ps s h = exit_same (leaves_in limits.shell again ws) (status_of_exit limits.shell ws) ps s (place_exit (leaves_in limits.shell again ws) (status_of_exit limits.shell ws) ps (there s))
+  called_same again (Device effect) name ws script ps s h = ask_same (request_of name ws effect) ps s h
+  called_same again NoCommand name ws script ps s h = tt
 
-  fields_same : (fs : List Text) (script : Script) (ps : List RunningFrame) (s : State) → answers_in log ≡ answers_in s.log → AskSame (place_fields limits fs script ps s) (place_fields limits fs script ps (there s))
-  fields_same [] script ps s h = tt
-  fields_same (name ∷ ws) script ps s h = either_same (follows limits.shell limits.devices name ws) (place_called limits (called_by limits.devices name ws) name ws script ps) (StopOn (Unsupported name)) s (called_same (called_by limits.devices name ws) name ws script ps s h) tt
+  fields_same : (again : Bool) (fs : List Text) (script : Script) (ps : List RunningFrame) (s : State) → answers_in log ≡ answers_in s.log → AskSame (place_fields limits again fs script ps s) (place_fields limits again fs script ps (there s))
+  fields_same again [] script ps s h = tt
+  fields_same again (name ∷ ws) script ps s h = either_same (follows limits.shell limits.devices name ws) (place_called limits again (called_by limits.devices name ws) name ws script ps) (StopOn (Unsupported name)) s (called_same again (called_by limits.devices name ws) name ws script ps s h) tt
 
   again_same : (o : Option (List tree.Word)) (f : RunningFrame) (fs : List RunningFrame) (s : State) → answers_in log ≡ answers_in s.log → AskSame (fields_again limits o f fs s) (fields_again limits o f fs (there s))
   again_same None f fs s h = tt
   again_same (Some words) f fs s h =
       let found : List Text = fields_in limits.shell (parameters_in s.memory) words in
-      either_same (nat_le (size found) most_bytes) (place_fields limits found f.script (f ∷ fs)) (StopOn Size) s (fields_same found f.script (f ∷ fs) s h) tt
+      either_same (nat_le (size found) most_bytes) (place_fields limits (reads_again words) found f.script (f ∷ fs)) (StopOn Size) s (fields_same (reads_again words) found f.script (f ∷ fs) s h) tt
 
   found_same : (ps : List RunningFrame) (s : State) → answers_in log ≡ answers_in s.log → AskSame (found_again limits ps s) (found_again limits ps (there s))
   found_same [] s h = tt
