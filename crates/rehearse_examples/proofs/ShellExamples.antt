@@ -4,7 +4,7 @@ use Rattle.rehearse_terms.specs.State.{Text}
 use Rattle.rehearse_terms.specs.declared.shell.Shell.{Shell}
 use Rattle.rehearse_terms.specs.declared.shell.Shell.TheVariants.{Profile, Old2023, Old2025}
 use Rattle.rehearse_rules.specs.Execution.{End, Syntax, Unsupported}
-use Rattle.rehearse_rules.proofs.ExampleRehearsals.{only_load, limits, bootcmd, z, listed, Told, told_of}
+use Rattle.rehearse_rules.proofs.ExampleRehearsals.{only_load, limits, bootcmd, bootcmd_among, z, listed, Told, told_of}
 
 -- what a text writes and how it ends in each shell
 abbrev in_shell : Text → Shell → Told
@@ -120,22 +120,60 @@ unread_text : in_each (codes "if true; then") ≡ ([], Syntax (codes "bootcmd"))
 unfolding told_of
 unread_text = refl
 
--- `exit` ends nothing in 2023.01, and its status says whether its number is 0. That of 2025.01 is not followed
+-- `exit` ends nothing in 2023.01, and its status says whether its number is 0. In 2025.01 it ends the text; a number above 1 is
+-- not followed
 exit_with_a_number : in_each (codes "exit 3; echo $?") ≡ ([], End 3) ∷ (codes "1\n", End 0) ∷ ([], Unsupported (codes "exit")) ∷ []
 unfolding told_of
 exit_with_a_number = refl
 
-exit_without_a_word : in_each (codes "false; exit; echo $?") ≡ ([], End 0) ∷ (codes "0\n", End 0) ∷ ([], Unsupported (codes "exit")) ∷ []
+exit_without_a_word : in_each (codes "false; exit; echo $?") ≡ ([], End 0) ∷ (codes "0\n", End 0) ∷ ([], End 0) ∷ []
 unfolding told_of
 exit_without_a_word = refl
 
-exit_with_a_name : in_each (codes "exit x; echo $?") ≡ (codes "1\n", End 0) ∷ (codes "0\n", End 0) ∷ ([], Unsupported (codes "exit")) ∷ []
+exit_with_a_name : in_each (codes "exit x; echo $?") ≡ (codes "1\n", End 0) ∷ (codes "0\n", End 0) ∷ ([], End 0) ∷ []
 unfolding told_of
 exit_with_a_name = refl
 
 exit_numbers : in_shell (codes "exit 0x0; echo $?; exit 0X10; echo $?; exit 4294967296; echo $?; exit 010; echo $?; exit 0 0; echo $?") Old2023 ≡ (codes "0\n1\n0\n1\n1\n", End 0)
 unfolding told_of
 exit_numbers = refl
+
+-- ---- `exit` in 2025.01, whose sandbox was asked
+
+abbrev by_newer : List Text → List Told
+by_newer texts = map (λ text. in_shell text Old2025) texts
+
+-- it ends the text with its status; with several words it is an error of usage, and ends nothing
+newer_exits : by_newer (codes "exit 1; echo a" ∷ codes "exit -1; echo a" ∷ codes "true && exit 1 || echo a" ∷ codes "exit 1 2; echo $?" ∷ [])
+    ≡ ([], End 1) ∷ ([], End 0) ∷ ([], End 1) ∷ (codes "1\n", End 0) ∷ []
+unfolding told_of
+newer_exits = refl
+
+-- within a compound command it ends the text with status 0, whatever its number is
+newer_exits_within : by_newer (codes "if true; then exit 3; fi; echo a" ∷ codes "while exit 3; do true; done; echo a" ∷ codes "for i in 1 2; do false || exit 3; done; echo a" ∷ codes "if true; then exit 1 2; echo $?; fi" ∷ [])
+    ≡ ([], End 0) ∷ ([], End 0) ∷ ([], End 0) ∷ (codes "1\n", End 0) ∷ []
+unfolding told_of
+newer_exits_within = refl
+
+-- with a variable in its command it ends nothing, and has its status
+newer_exits_read_again : by_newer (codes "x=1; exit $x; echo $?" ∷ codes "e=exit; $e 1; echo $?" ∷ codes "if true; then exit $none; echo $?; fi" ∷ codes "false; exit $?; echo $?" ∷ [])
+    ≡ (codes "1\n", End 0) ∷ (codes "1\n", End 0) ∷ (codes "0\n", End 0) ∷ (codes "1\n", End 0) ∷ []
+unfolding told_of
+newer_exits_read_again = refl
+
+newer_exits_not_followed : by_newer (codes "exit 2" ∷ codes "exit 256" ∷ codes "x=2; exit $x" ∷ codes "if true; then exit 4294967295; fi" ∷ [])
+    ≡ ([], Unsupported (codes "exit")) ∷ ([], Unsupported (codes "exit")) ∷ ([], Unsupported (codes "exit")) ∷ ([], Unsupported (codes "exit")) ∷ []
+unfolding told_of
+newer_exits_not_followed = refl
+
+-- of a text that `run` has started it ends that text alone, and `run` has its status
+abbrev started_newer : Text → Text → Told
+started_newer t text = told_of (bootcmd_among (record (limits only_load 2 10000) { shell = Old2025 }) ((codes "t", t) ∷ []) text)
+
+newer_exits_of_texts : started_newer (codes "if true; then exit 3; fi; echo a") (codes "run t; echo $?") ∷ started_newer (codes "exit 1; echo a") (codes "run t || echo $?") ∷ []
+    ≡ (codes "0\n", End 0) ∷ (codes "1\n", End 0) ∷ []
+unfolding told_of
+newer_exits_of_texts = refl
 
 -- an assignment of an empty value changes nothing in 2023.01
 empty_value : in_each (codes "x=a; x=; echo $?$x; x=$none; echo $?$x") ≡ (codes "0\n0\n", End 0) ∷ (codes "0a\n0a\n", End 0) ∷ (codes "0\n0\n", End 0) ∷ []
