@@ -17,9 +17,6 @@ what is not followed, by old-2023.01
 what is not followed, by old-2025.01
   $ text 'exit; a=; ls && ls || ls; setenv -f a; for i in "$a"; do ls '\''\\b'\''; done' --shell old-2025.01
   bootcmd: ok
-  bootcmd:1:1: warning: exit ends nothing in U-Boot 2023.01, and other things in a block later on
-  exit; a=; ls && ls || ls; setenv -f a; for i in "$a"; do ls '\b'; done
-  ^
   bootcmd:1:34: warning: U-Boot's setenv takes this for an option, or sets an empty name
   exit; a=; ls && ls || ls; setenv -f a; for i in "$a"; do ls '\b'; done
                                    ^
@@ -27,9 +24,6 @@ what is not followed, by old-2025.01
 what is not followed, by old
   $ text 'exit; a=; ls && ls || ls; setenv -f a; for i in "$a"; do ls '\''\\b'\''; done' --shell old
   bootcmd: ok
-  bootcmd:1:1: warning: exit ends nothing in U-Boot 2023.01, and other things in a block later on
-  exit; a=; ls && ls || ls; setenv -f a; for i in "$a"; do ls '\b'; done
-  ^
   bootcmd:1:34: warning: U-Boot's setenv takes this for an option, or sets an empty name
   exit; a=; ls && ls || ls; setenv -f a; for i in "$a"; do ls '\b'; done
                                    ^

@@ -6,6 +6,7 @@ use Rattle.hushlang.specs.Tokenizing.{step, bare, dollar, braced, inside, front,
 use Rattle.hushlang.specs.Words.{reserved}
 use Rattle.hushlang.specs.WordPieces.{pieces}
 use Rattle.hushlang.specs.Parsing.{whole, script, command, simple, keyword, next, behind, sees, expect, joined, joined_all, and_or, lists, lists_all, block, arm, arms, arms_all, if_command, body_of, loop_command, for_command, name, name_next, expect_in, in_next, all_words, separators, separator_next, closes_next, op_next, refusal, missing, at_last, word_next, assignment_next, assignments}
+use Rattle.hushlang.specs.Expansion.{atoms, fields}
 use Rattle.hushlang_old.specs.OldTrees.{old_tree_of}
 use Rattle.hushcheck.specs.Calls.{Lacks, NotFollowed, Warns}
 use Rattle.hushcheck.specs.Names.{run_by_text}
@@ -40,7 +41,7 @@ unfolding whole script command simple keyword next behind sees expect joined joi
 run_by_none = refl
 
 run_by_old : run_by_text (Some Old2025) (codes "if a; then else run b; fi") ≡ codes "b" ∷ []
-unfolding whole script command simple keyword next behind sees expect joined joined_all and_or lists lists_all block arm arms arms_all if_command body_of loop_command for_command name name_next expect_in in_next all_words separators separator_next closes_next op_next refusal missing at_last word_next assignment_next assignments reserved_of reserved assignment name_in name_of is_in_word pieces step bare dollar braced inside front word_front old_tree_of
+unfolding whole script command simple keyword next behind sees expect joined joined_all and_or lists lists_all block arm arms arms_all if_command body_of loop_command for_command name name_next expect_in in_next all_words separators separator_next closes_next op_next refusal missing at_last word_next assignment_next assignments reserved_of reserved assignment name_in name_of is_in_word pieces step bare dollar braced inside front word_front old_tree_of fields atoms
 run_by_old = refl
 
 -- ---- what is told
@@ -54,5 +55,5 @@ told_profile = refl
 told_2023 : told_by (Some Old2023) ((0, Warns MixedList) ∷ (1, Warns Exit) ∷ (2, Warns WordOfFor) ∷ (3, Warns OptionOfSetenv) ∷ (4, Warns FileTest) ∷ []) ≡ (3, Warns OptionOfSetenv) ∷ []
 told_2023 = refl
 
-told_2025 : told_by (Some Old2025) ((0, Warns MixedList) ∷ (1, Warns Exit) ∷ (2, Warns ManyWords) ∷ (3, Warns ReservedName) ∷ (4, Warns StraightBehind) ∷ []) ≡ (1, Warns Exit) ∷ (2, Warns ManyWords) ∷ (3, Warns ReservedName) ∷ (4, Warns StraightBehind) ∷ []
+told_2025 : told_by (Some Old2025) ((0, Warns MixedList) ∷ (1, Warns Exit) ∷ (2, Warns ManyWords) ∷ (3, Warns ReservedName) ∷ (4, Warns StraightBehind) ∷ []) ≡ (2, Warns ManyWords) ∷ (3, Warns ReservedName) ∷ (4, Warns StraightBehind) ∷ []
 told_2025 = refl

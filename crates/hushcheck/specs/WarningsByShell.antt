@@ -4,7 +4,7 @@ use Rattle.hushcheck.specs.Calls.{Remark, NotFollowed, Lacks, SetsMore, Unset, W
 use Rattle.hushcheck.specs.Names.{Text, old_script}
 use Rattle.hushcheck.specs.Warnings.{warnings_of}
 use Rattle.hushcheck.specs.declared.warning.Warning.{Warning}
-use Rattle.hushcheck.specs.declared.warning.Warning.TheVariants.{Exit, ManyWords, NotFollowedText, OptionOfSetenv, ReservedName, StraightBehind}
+use Rattle.hushcheck.specs.declared.warning.Warning.TheVariants.{ManyWords, NotFollowedText, OptionOfSetenv, ReservedName, StraightBehind}
 use Rattle.rehearse_terms.specs.declared.shell.Shell.{Shell}
 use Rattle.rehearse_terms.specs.declared.shell.Shell.TheVariants.{Profile, Old2023, Old2025}
 
@@ -16,18 +16,13 @@ stops_old OptionOfSetenv = true
 stops_old ManyWords = true
 stops_old warning = false
 
--- by that of 2025.01 `exit` too
-abbrev pub stops_newer : Warning → Bool
-stops_newer Exit = true
-stops_newer warning = stops_old warning
-
 -- All warnings are told if no shell is named. Of a shell those are told of which a rehearsal stops there, and ubtool's own
 -- reading has none.
 abbrev pub tells : Option Shell → Warning → Bool
 tells None warning = true
 tells (Some Profile) warning = false
 tells (Some Old2023) warning = stops_old warning
-tells (Some Old2025) warning = stops_newer warning
+tells (Some Old2025) warning = stops_old warning
 
 abbrev pub tells_remark : Option Shell → Remark → Bool
 tells_remark shell (Warns warning) = tells shell warning
