@@ -85,6 +85,52 @@ a text that is run
   ^
   [1]
 
+a text that runs first by the list: what it calls is looked up, what it sets counts, and one that is not set is none
+  $ image first 'bootcmd=load $b' 'preboot=setenv b 1; ls'
+  $ printf 'load\nbefore preboot\nbefore none\n' >first.list
+  $ hushcheck -c first.config -d first.list
+  preboot: ok
+  preboot:1:13: the device list lacks ls
+  setenv b 1; ls
+              ^
+  bootcmd: ok
+  [1]
+  $ printf 'load\nls\nbefore none\n' >none.list
+  $ hushcheck -c first.config -d none.list
+  bootcmd: ok
+  bootcmd:1:6: warning: nothing sets b
+  load $b
+       ^
+
+one that is no script, before another name and before all, and one that the list gives
+  $ image broken bootcmd=load 'p=if load' q=load
+  $ printf 'load\nbefore p\ngiven r=boot\nbefore r\n' >broken.list
+  $ hushcheck -c broken.config -d broken.list q
+  p:1:8: unexpected end of the text
+  if load
+         ^
+  r: ok
+  r:1:1: the device list lacks boot
+  boot
+  ^
+  q: ok
+  [1]
+  $ hushcheck -c broken.config -d broken.list --all | grep -v '^[ ^bi]'
+  p:1:8: unexpected end of the text
+  r: ok
+  r:1:1: the device list lacks boot
+  q: ok
+
+behind a script
+  $ printf 'load' >boot.cmd
+  $ hushcheck --script boot.cmd -c first.config -d first.list
+  boot.cmd: ok
+  preboot: ok
+  preboot:1:13: the device list lacks ls
+  setenv b 1; ls
+              ^
+  [1]
+
 the long form of the option
   $ hushcheck -c run.config --device-list=load.list b
   b: ok

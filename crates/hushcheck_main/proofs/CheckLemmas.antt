@@ -8,9 +8,8 @@ use Rattle.envimage.specs.declared.image.ImageError.{ImageError}
 use Rattle.envimage.specs.declared.image.ImageError.TheVariants as image
 use Rattle.output.specs.Sink.{Sink}
 use Rattle.hushcheck_main.specs.Asked.{Asked}
-use Rattle.hushcheck_main.specs.Checking.{AreListed, AreTexts, BeginTexts, BeginsAll, ChecksAll, ChecksBy, ChecksFrom, ChecksText, FromFiles, Given, HasReadList, IsListless, IsUnread, LeavesOutput, Lists, Named, ReadsList, env_on, given, given_by, rules_in, under, TellsAll, IsBadList, BreaksOff, WritesFront}
+use Rattle.hushcheck_main.specs.Checking.{AreListed, AreTexts, BeginTexts, BeginsAll, ChecksAll, ChecksBy, ChecksFrom, ChecksText, FromFiles, Given, HasReadList, IsListless, IsUnread, LeavesOutput, Lists, Named, ReadsList, checked_names, env_on, given, given_by, rules_in, under, TellsAll, IsBadList, BreaksOff, WritesFront}
 use Rattle.hushcheck.specs.Names.{Text}
-use Rattle.hushcheck.specs.Report.{asked_names}
 use Rattle.hushcheck.specs.Rules.{Rules}
 use Rattle.rehearse_terms.specs.declared.shell.Shell.{Shell}
 use Rattle.board_start.specs.Boards.{Board}
@@ -270,30 +269,30 @@ no-list answer env script names all shell strict old (Shared (fault.NoScript pat
 
 -- the checks by what a list says, in the environment that it gives
 pub texts-by : (g : Given) (env found : List Pair) (board : Option Board) (rules : Rules) (old new : Sink) → g.env ≡ Ok env → g.board ≡ Ok board → rules ≡ rules_in board g → found ≡ env_on board env
-    → (r : Result Bool CheckFault) → ChecksBy rules found g.script (asked_names g.all found g.names) old new r → ChecksText g old new r
+    → (r : Result Bool CheckFault) → ChecksBy rules found g.script (checked_names board found g) old new r → ChecksText g old new r
 texts-by g env found board rules old new there listed held same = by
   where
-    checks : (told : Text) (sound : Bool) → ChecksAll rules found g.script (asked_names g.all found g.names) told sound → AreTexts g told sound
+    checks : (told : Text) (sound : Bool) → ChecksAll rules found g.script (checked_names board found g) told sound → AreTexts g told sound
     checks told sound h = record {
       env = env;
       there = there;
       board = board;
       are_listed = listed;
-      checks = subst (λ (rs : Rules). ChecksAll rs (env_on board env) g.script (asked_names g.all (env_on board env) g.names) told sound) held
-          (subst (λ (e : List Pair). ChecksAll rules e g.script (asked_names g.all e g.names) told sound) same h);
+      checks = subst (λ (rs : Rules). ChecksAll rs (env_on board env) g.script (checked_names board (env_on board env) g) told sound) held
+          (subst (λ (e : List Pair). ChecksAll rules e g.script (checked_names board e g) told sound) same h);
     }
 
-    begins : (told : Text) → BeginsAll rules found g.script (asked_names g.all found g.names) told → BeginTexts g told
+    begins : (told : Text) → BeginsAll rules found g.script (checked_names board found g) told → BeginTexts g told
     begins told h = record {
       env = env;
       there = there;
       board = board;
       are_listed = listed;
-      begins = subst (λ (rs : Rules). BeginsAll rs (env_on board env) g.script (asked_names g.all (env_on board env) g.names) told) held
-          (subst (λ (e : List Pair). BeginsAll rules e g.script (asked_names g.all e g.names) told) same h);
+      begins = subst (λ (rs : Rules). BeginsAll rs (env_on board env) g.script (checked_names board (env_on board env) g) told) held
+          (subst (λ (e : List Pair). BeginsAll rules e g.script (checked_names board e g) told) same h);
     }
 
-    by : (r : Result Bool CheckFault) → ChecksBy rules found g.script (asked_names g.all found g.names) old new r → ChecksText g old new r
+    by : (r : Result Bool CheckFault) → ChecksBy rules found g.script (checked_names board found g) old new r → ChecksText g old new r
     by (Ok sound) h = (h.0, checks h.0 sound h.1, h.2)
     by (Err (Shared (fault.Tool tool.Write))) h = (h.0, begins h.0 h.1, h.2)
     by (Err (Shared fault.Memory)) (inl h) = inl h

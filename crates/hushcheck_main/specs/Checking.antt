@@ -1,5 +1,5 @@
 -- What checking the texts of an image does, from files whose contents are known. Ours.
-use Rattle.std.specs.Prelude.{◌≡◌, ◌⊎◌, ℕ, Bool, List, Option, Some, None, option_map, Result, Ok, Err, Vec}
+use Rattle.std.specs.Prelude.{◌≡◌, ◌⊎◌, ◌++◌, ℕ, Bool, List, Option, Some, None, option_map, Result, Ok, Err, Vec}
 use Rattle.std.specs.declared.alloc.Global.{Global}
 use Rattle.envimage.specs.Data.{Pair}
 use Rattle.output.specs.Outputs.{WroteFront}
@@ -18,7 +18,7 @@ use Rattle.hushcheck.specs.declared.check_error.CheckError.{CheckError}
 use Rattle.rehearse_terms.specs.declared.shell.Shell.{Shell}
 use Rattle.board_start.specs.BoardShown.{board_shown}
 use Rattle.board_start.specs.Boards.{Board, Fault as BoardFault, OfDevices, OfStart, board_of}
-use Rattle.board_start.specs.Start.{chosen}
+use Rattle.board_start.specs.Start.{chosen, first_texts}
 use Rattle.board_start.specs.declared.board.Board.{Board as BoardRead}
 use Rattle.board_start.specs.declared.board_error.BoardError.{BoardError}
 use Rattle.board_start.specs.declared.board_error.BoardError.TheVariants as board
@@ -88,6 +88,15 @@ abbrev pub env_on : Option Board → List Pair → List Pair
 env_on None env = env
 env_on (Some board) env = with_changes env (chosen board.start 0)
 
+-- The variables whose texts run first on the board, of those that are set, and then these.
+abbrev pub behind_first : Option Board → List Pair → (names : List Text) → List Text
+behind_first None env names = names
+behind_first (Some board) env names = first_texts env board.start.before ++ names
+
+-- the names that are checked in an environment: those that run first, those that the call gives, and with `--all` every one
+abbrev pub checked_names : Option Board → List Pair → Given → List Text
+checked_names board env g = asked_names g.all env (behind_first board env g.names)
+
 -- ---- a script, or none
 
 -- what is reported of the script, if there is one, and of the names that are asked for, and whether all is well
@@ -122,8 +131,7 @@ pub record AreTexts (g : Given) (told : Text) (sound : Bool) : Type 0 where
   pub there : g.env ≡ Ok env
   pub board : Option Board
   pub are_listed : g.board ≡ Ok board
-  pub checks : ChecksAll (rules_in board g) (env_on board env) g.script (asked_names g.all (env_on board env) g.names)
-      told sound
+  pub checks : ChecksAll (rules_in board g) (env_on board env) g.script (checked_names board (env_on board env) g) told sound
 
 -- The environment is right, and the device list is refused for this.
 pub record IsBadList (g : Given) (fault : BoardError) : Type 0 where
@@ -137,7 +145,7 @@ pub record BeginTexts (g : Given) (told : Text) : Type 0 where
   pub there : g.env ≡ Ok env
   pub board : Option Board
   pub are_listed : g.board ≡ Ok board
-  pub begins : BeginsAll (rules_in board g) (env_on board env) g.script (asked_names g.all (env_on board env) g.names) told
+  pub begins : BeginsAll (rules_in board g) (env_on board env) g.script (checked_names board (env_on board env) g) told
 
 -- all that is reported was written
 abbrev pub TellsAll : Given → (old new : Sink) → (sound : Bool) → Type 0

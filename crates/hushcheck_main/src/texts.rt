@@ -2,9 +2,10 @@
 ghost use Rattle.std.specs.Prelude.{◌≡◌, IfOk, Ok, map, option_map, string_bytes};
 ghost use Rattle.board_start.specs.BoardShown.{board_shown};
 ghost use Rattle.hushcheck.specs.Report.{asked_names};
+ghost use Rattle.hushcheck.specs.Rules.{held_to};
 ghost use Rattle.std.specs.Option.{option_copied};
 ghost use Rattle.hushcheck_main.specs.Asked.{asked_by};
-ghost use Rattle.hushcheck_main.specs.Checking.{ChecksBy, ChecksFrom, ChecksText, LeavesOutput, Lists, ReadsList, WritesAll, env_on, given, given_by, list_in, under};
+ghost use Rattle.hushcheck_main.specs.Checking.{ChecksBy, ChecksFrom, ChecksText, LeavesOutput, Lists, ReadsList, WritesAll, behind_first, env_on, given, given_by, list_in, under};
 ghost use Rattle.hushcheck_main.specs.Shown.{script_shown};
 ghost use Rattle.tool_steps.specs.Scripts.{ReadsNamed};
 ghost use Rattle.tool_files.specs.Told.{IfTold};
@@ -80,6 +81,25 @@ fn env_on(board: &Option<Board>, env: Env) -> Result<Env, AllocError>
     }
 }
 
+/// The variables whose texts run first on the board, of those that are set, and then these. Errors: memory
+/// ran out.
+fn behind_first<'x>(
+    alloc: Global,
+    board: &'x Option<Board>,
+    env: &Env,
+    names: &[&'x [u8]],
+) -> Result<Vec<&'x [u8]>, AllocError>
+    ensures { IfOk result (λ all. map (λ n. n.now) all.items
+        ≡ behind_first (option_map board_shown board.now) env.now (map (λ n. n.now) names.now)) }
+{
+    let Some(board) = board else {
+        return Vec::from_slice(alloc, names);
+    };
+    let mut all = board.start.first_texts(env)?;
+    all.extend_from_slice(names)?;
+    Ok(all)
+}
+
 /// The device commands of a board, if there is one.
 fn devices_of(board: &Option<Board>) -> Option<&Devices>
     ensures { option_map (λ d. d.now) result ≡ option_map (λ b. b.devices) (option_map board_shown board.now) }
@@ -133,6 +153,35 @@ fn check_by<O: Out>(
     }
 }
 
+/// The same on a board, if there is one, in the environment that it gives: the texts that run first by its
+/// list are checked before the others.
+fn check_on<O: Out>(
+    alloc: Global,
+    board: &Option<Board>,
+    env: &Env,
+    script: Option<Script<'_>>,
+    names: &[&[u8]],
+    all: bool,
+    shell: Option<Shell>,
+    strict: bool,
+    out: &mut O,
+) -> Result<bool, CheckFault>
+    ensures { let on = option_map board_shown board.now in
+        ChecksBy (held_to (option_map (λ b. b.devices) on) shell strict) env.now (script_shown script.entry)
+        (asked_names all env.now (behind_first on env.now (map (λ n. n.now) names.now)))
+        (O.sink out.old) (O.sink out.new) result }
+{
+    let rules = Rules {
+        devices: devices_of(board),
+        shell,
+        strict,
+    };
+    let Ok(names) = behind_first(alloc, board, env, names) else {
+        return Err(CheckFault::Shared(Fault::Memory));
+    };
+    check_by(alloc, &rules, env, script, &names, all, out)
+}
+
 /// The same with the device list of a text, if there is one, and with what it gives.
 fn check_env<O: Out>(
     alloc: Global,
@@ -153,12 +202,7 @@ fn check_env<O: Out>(
     let Ok(env) = env_on(&board, env) else {
         return Err(CheckFault::Shared(Fault::Memory));
     };
-    let rules = Rules {
-        devices: devices_of(&board),
-        shell,
-        strict,
-    };
-    check_by(alloc, &rules, &env, script, names, all, out)
+    check_on(alloc, &board, &env, script, names, all, shell, strict, out)
 }
 
 /// The same for images that were read, a single one or a pair.

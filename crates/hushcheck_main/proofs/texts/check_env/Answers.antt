@@ -1,9 +1,8 @@
-use Rattle.std.proofs.Common.{◌≡◌, ap, refl, map, option_map, Ok, Option}
+use Rattle.std.proofs.Common.{refl, map, option_map, Ok}
 use Rattle.std.specs.Option.{option_copied}
 use Rattle.board_start.specs.BoardShown.{board_shown}
-use Rattle.device_list.specs.DeviceList.{Devices}
 use Rattle.hushcheck.specs.Rules.{held_to}
-use Rattle.hushcheck_main.specs.Checking.{given, list_in, rules_in}
+use Rattle.hushcheck_main.specs.Checking.{given, list_in}
 use Rattle.hushcheck_main.specs.Shown.{script_shown}
 use Rattle.hushcheck_main.proofs.CheckLemmas.{texts-by}
 use Rattle.hushcheck_main.proofs.texts.check_env.Goals as goal
@@ -12,6 +11,5 @@ pub returns : goal.returns
 returns g c =
     let all = given (Ok c.args.env) (list_in (option_copied c.args.list)) (script_shown c.args.script) (map (λ n. n.now) c.args.names.now) c.args.all c.args.shell c.args.strict in
     let board = option_map board_shown c.in_ok-board.board in
-    let held : held_to (option_map (λ d. d.now) c.devices_of.result) c.args.shell c.args.strict ≡ rules_in board all =
-    ap (λ (d : Option Devices). held_to d c.args.shell c.args.strict) c.devices_of.ensures in
-    texts-by all c.args.env c.in-Ok.env board _ (g.O.Out.sink c.args.out.now) (g.O.Out.sink c.check_by.new.out) refl c.in_ok-board.ensures held c.in-Ok.ensures c.check_by.result c.check_by.ensures
+    let rules = held_to (option_map (λ b. b.devices) board) c.args.shell c.args.strict in
+    texts-by all c.args.env c.in-Ok.env board rules (g.O.Out.sink c.args.out.now) (g.O.Out.sink c.check_on.new.out) refl c.in_ok-board.ensures refl c.in-Ok.ensures c.check_on.result c.check_on.ensures
