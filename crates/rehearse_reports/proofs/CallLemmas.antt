@@ -1,0 +1,106 @@
+-- Reports of calls.
+use Rattle.std.proofs.Common.{◌≡◌, ◌∙◌, refl, sym, ap, subst, ℕ, Bool, true, false, List, [], ◌∷◌, ◌++◌, cond, map, length, drop, get_or, Vec, Global, ◌<◌, ◌≤◌, arith}
+use Rattle.std.specs.List.{flat_map}
+use Rattle.std.specs.Prelude.{if◌then◌else◌}
+use Rattle.std.proofs.lemmas.List.Concat.{flat_map-cons}
+use Rattle.std.specs.Borrow.{Bor}
+use Rattle.std.specs.Prelude.{OnOk, Result}
+use Rattle.text.specs.TextsShown.{bytes_of_words}
+use Rattle.commands.specs.ComputedShown.{computed_shown}
+use Rattle.commands.specs.declared.computed.Computed.{Computed}
+use Rattle.commands.specs.declared.computed.Computed.TheVariants as names
+use Rattle.commands.specs.VariableNames.{is_bad_name}
+use Rattle.rehearse_terms.specs.State.{Text, State}
+use Rattle.rehearse_rules.specs.Execution.{Limits, Request}
+use Rattle.rehearse_reads.specs.Keys.{Key, Access, Reads, Writes, Environment, AnswerTo, Status, all_read, Covers}
+use Rattle.rehearse_reads.specs.Accesses.{status_written, setenv_accesses, deletion_accesses, computed_accesses, told_reads}
+use Rattle.rehearse_reads.proofs.KeysRead.{covering_joins}
+use Rattle.rehearse_frames.specs.MoveAccesses.{of_asking}
+use Rattle.rehearse_reports.specs.Reports.{Reports, Adds}
+use Rattle.rehearse_reports.proofs.ReportLemmas.{covers_itself, covers_less, covers_through, reports_nothing, reports_as, reports_then}
+use Rattle.rehearse_reports.proofs.CoverLemmas.{covers_status, covers_asking}
+
+-- an access, and then the status is written
+pub then_status : (old new : List Access) (access : Access) → Reports old new (access ∷ []) → Reports old new (access ∷ status_written)
+then_status old new access h = reports_as old new (access ∷ []) (access ∷ status_written) h (covers_less (access ∷ []) status_written covers_status)
+
+pub only_status : (old : List Access) → Reports old old status_written
+only_status old = reports_as old old [] status_written (reports_nothing old) covers_status
+
+-- ---- `setenv`
+
+pub first_word : (words : List (Vec ℕ Global)) (d : Vec ℕ Global) → 1 ≤ length words → d ≡ get_or words 0 d → bytes_of_words words ≡ d.items ∷ bytes_of_words (drop 1 words)
+first_word [] d some is = absurd (omega arith)
+first_word (w ∷ words) d some is = ap (λ (x : Vec ℕ Global). x.items ∷ bytes_of_words words) (sym is)
+
+pub no_word : (words : List (Vec ℕ Global)) → length words < 1 → bytes_of_words words ≡ []
+no_word [] none = refl
+no_word (w ∷ words) none = absurd (omega arith)
+
+pub sets_none : (old : List Access) (words : List (Vec ℕ Global)) → length words < 1 → Reports old old (setenv_accesses (bytes_of_words words))
+sets_none old words none = subst (λ (ws : List Text). Reports old old (setenv_accesses ws)) (sym (no_word words none)) (only_status old)
+
+module _ (words : List (Vec ℕ Global)) (d : Vec ℕ Global) (some : 1 ≤ length words) (is : d ≡ get_or words 0 d) where
+  abbrev accesses_if : Bool → List Access
+  accesses_if b = cond b status_written (Writes (Environment d.items) ∷ status_written)
+
+  pub sets_bad : (old : List Access) (name : Text) → name ≡ d.items → true ≡ is_bad_name name → Reports old old (setenv_accesses (bytes_of_words words))
+  sets_bad old name e bad =
+      subst (λ (ws : List Text). Reports old old (setenv_accesses ws)) (sym (first_word words d some is))
+      (subst (λ (b : Bool). Reports old old (accesses_if b)) (bad ∙ ap is_bad_name e) (only_status old))
+
+  pub sets_named : (old new : List Access) (name written : Text) → name ≡ d.items → false ≡ is_bad_name name → written ≡ d.items → Reports old new (Writes (Environment written) ∷ []) → Reports old new (setenv_accesses (bytes_of_words words))
+  sets_named old new name written e good f h =
+      subst (λ (ws : List Text). Reports old new (setenv_accesses ws)) (sym (first_word words d some is))
+      (subst (λ (b : Bool). Reports old new (accesses_if b)) (good ∙ ap is_bad_name e)
+      (then_status old new (Writes (Environment d.items)) (subst (λ (x : Text). Reports old new (Writes (Environment x) ∷ [])) f h)))
+
+-- ---- `env delete`
+
+abbrev pub deletes : Vec ℕ Global → List Access
+deletes name = Reads (Environment name.items) ∷ Writes (Environment name.items) ∷ []
+
+pub deletes_one : (old mid new : List Access) (name : Vec ℕ Global) (first second : Text) → first ≡ name.items → second ≡ name.items → Reports old mid (Reads (Environment first) ∷ []) → Reports mid new (Writes (Environment second) ∷ []) → Reports old new (deletes name)
+deletes_one old mid new name first second e f h k =
+    reports_then old mid new (Reads (Environment name.items) ∷ []) (Writes (Environment name.items) ∷ [])
+    (subst (λ (x : Text). Reports old mid (Reads (Environment x) ∷ [])) e h) (subst (λ (x : Text). Reports mid new (Writes (Environment x) ∷ [])) f k)
+
+deletes_so : (names : List (Vec ℕ Global)) → deletion_accesses (bytes_of_words names) ≡ flat_map deletes names ++ status_written
+deletes_so [] = refl
+deletes_so (name ∷ names) = ap (λ (xs : List Access). Reads (Environment name.items) ∷ Writes (Environment name.items) ∷ xs) (deletes_so names)
+
+pub deletes_all : (old new : List Access) (names : List (Vec ℕ Global)) → Reports old new (flat_map deletes names) → Reports old new (deletion_accesses (bytes_of_words names))
+deletes_all old new names h =
+    subst (Reports old new) (sym (deletes_so names)) (reports_as old new (flat_map deletes names) (flat_map deletes names ++ status_written) h (covers_less (flat_map deletes names) status_written covers_status))
+
+-- ---- the answer that stays for a command
+
+abbrev told_if : Request → Bool → List Key
+told_if request stays = if stays then AnswerTo (request.name ∷ request.words) ∷ [] else []
+
+pub asks_unsteady : (old : List Access) (limits : Limits) (request : Request) (s : State) (stays : Bool) → request.effect.stays ≡ stays → stays ≡ false → Reports old old (of_asking limits request s)
+asks_unsteady old limits request s stays e f =
+    let none : told_reads request ≡ [] = ap (told_if request) (e ∙ f) in
+    reports_as old old [] (of_asking limits request s) (reports_nothing old) (subst (λ (keys : List Key). Covers (all_read keys) (of_asking limits request s)) none (covers_asking limits request s))
+
+pub asks_steady : (old new : List Access) (limits : Limits) (request : Request) (s : State) (stays : Bool) (call : List Text) → request.effect.stays ≡ stays → stays ≡ true → call ≡ request.name ∷ request.words → Reports old new (Reads (AnswerTo call) ∷ []) → Reports old new (of_asking limits request s)
+asks_steady old new limits request s stays call e f is h =
+    let one : told_reads request ≡ AnswerTo call ∷ [] = ap (told_if request) (e ∙ f) ∙ ap (λ (ws : List Text). AnswerTo ws ∷ []) (sym is) in
+    reports_as old new (Reads (AnswerTo call) ∷ []) (of_asking limits request s) h (subst (λ (keys : List Key). Covers (all_read keys) (of_asking limits request s)) one (covers_asking limits request s))
+
+-- ---- computed calls
+
+module _ (old new : List Access) (computed : Computed) where
+  pub gives_so : (status : ℕ) → computed ≡ names.Gives status → Reports old old (computed_accesses (computed_shown computed))
+  gives_so status e = subst (λ (x : Computed). Reports old old (computed_accesses (computed_shown x))) (sym e) (only_status old)
+
+  pub exists_so : (name : Bor (List ℕ)) (read : Text) → computed ≡ names.Exists name → read ≡ name.now → Reports old new (Reads (Environment read) ∷ []) → Reports old new (computed_accesses (computed_shown computed))
+  exists_so name read e f h =
+      subst (λ (x : Computed). Reports old new (computed_accesses (computed_shown x))) (sym e) (then_status old new (Reads (Environment name.now)) (subst (λ (x : Text). Reports old new (Reads (Environment x) ∷ [])) f h))
+
+  pub number_so : (name : Bor (List ℕ)) (number : ℕ) (written : Text) → computed ≡ names.SetsNumber name number → written ≡ name.now → Reports old new (Writes (Environment written) ∷ []) → Reports old new (computed_accesses (computed_shown computed))
+  number_so name number written e f h =
+      subst (λ (x : Computed). Reports old new (computed_accesses (computed_shown x))) (sym e) (then_status old new (Writes (Environment name.now)) (subst (λ (x : Text). Reports old new (Writes (Environment x) ∷ [])) f h))
+
+  pub computed_as : {E : Type 0} (r : Result (Unit {0}) E) (other : Computed) → computed ≡ other → OnOk r (Reports old new (computed_accesses (computed_shown other))) → OnOk r (Reports old new (computed_accesses (computed_shown computed)))
+  computed_as r other e h = subst (λ (x : Computed). OnOk r (Reports old new (computed_accesses (computed_shown x)))) (sym e) h

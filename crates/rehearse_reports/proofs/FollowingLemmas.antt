@@ -1,0 +1,147 @@
+-- What was read and written, one step after another.
+use Rattle.std.proofs.Common.{◌≡◌, ◌∙◌, refl, sym, ap, subst, List, [], ◌∷◌, ◌++◌, Result, Ok, Err}
+use Rattle.std.specs.Prelude.{IfOk, OnOk}
+use Rattle.bootstore_state.specs.Moment.{Moment}
+use Rattle.bootstore_state.specs.Record.{Record}
+use Rattle.bootstore_state.specs.StoredState.{state_at}
+use Rattle.bootstore_state.specs.declared.store.StoreError.{StoreError}
+use Rattle.rehearse_terms.specs.Outcomes.{Outcome, Success, Failure, OutcomeWord}
+use Rattle.rehearse_terms.specs.State.{Text, State}
+use Rattle.rehearse_rules.specs.Execution.{Limits, Dry, Request}
+use Rattle.rehearse_machine.specs.Frames.{Frame, Lists, Linked, IfCondition, LoopCondition, LoopBody, ForBody, RunNames, RunText, Next, Go, Ask, answered}
+use Rattle.rehearse_machine.specs.AskingCommand.{found_again}
+use Rattle.rehearse_machine.specs.Machine.{Asking, IsAsking}
+use Rattle.rehearse_machine.specs.MovesShown.{next_shown, request_shown, Does, Comes}
+use Rattle.rehearse_machine.specs.Places.{PlaceNext, AskOn, next_of, frames_of, place_answered, place_move}
+use Rattle.rehearse_machine.specs.Turning.{IsSound, Drives}
+use Rattle.rehearse_rules.specs.declared.halt.Halt.{Halt}
+use Rattle.rehearse_machine.specs.declared.ask.Ask.{Ask as AskCode}
+use Rattle.rehearse_machine.specs.declared.ask.Step.{Step}
+use Rattle.rehearse_machine.specs.declared.ask.Step.TheVariants as steps
+use Rattle.rehearse_machine.specs.declared.rehearsal.Stop.{Stop}
+use Rattle.rehearse_machine.specs.declared.rehearsal.Stop.TheVariants as stops
+use Rattle.rehearse_machine.proofs.PlaceMoves.{place_answered-is}
+use Rattle.rehearse_reads.specs.Keys.{Key, Access, AreAmong, keys_in_front, keys_read}
+use Rattle.rehearse_reads.specs.Accesses.{outcome_accesses}
+use Rattle.rehearse_reads.proofs.KeysRead.{stretches_join, more_keys_in_front, all_left, all_right, all_of_more}
+use Rattle.rehearse_frames.specs.ToCome.{of_frames, of_next}
+use Rattle.rehearse_frames.specs.MoveAccesses.{of_move}
+use Rattle.rehearse_frames.specs.KeysToCome.{AreEnough, AreEnoughFrom, AreEnoughAfter, AreEnoughAt}
+use Rattle.rehearse_frames.proofs.MoveAccessLemmas.{outcomes_come_first}
+use Rattle.rehearse_frames.proofs.EnoughSteps.{keys_of_steps}
+use Rattle.rehearse_reports.specs.Reports.{Reports}
+use Rattle.rehearse_reports.specs.Following.{Leads, Follows, FollowsToStop, FollowsOutcome, IsReportedFor, AreEnoughFor, AreEnoughAtStop}
+use Rattle.rehearse_reports.specs.Laws.{KeysOfBothOutcomes}
+use Rattle.rehearse_reports.proofs.ReportLemmas.{covers_itself, reports_nothing, reports_then}
+
+-- one after another
+pub leads_then : (first second third : List Text → List Key → Type 0) (old mid new : List Access) → Leads first second old mid → Leads second third mid new → Leads first third old new
+leads_then first second third old mid new a b = record {
+  accesses = a.accesses ++ b.accesses;
+  enough = λ wanted later h. subst (first wanted) (sym (stretches_join a.accesses b.accesses later)) (a.enough wanted (keys_in_front b.accesses later) (b.enough wanted later h));
+  reported = reports_then old mid new a.accesses b.accesses a.reported b.reported;
+}
+
+pub leads_to : (first second third : List Text → List Key → Type 0) (old new : List Access) → ((wanted : List Text) (later : List Key) → third wanted later → second wanted later) → Leads first second old new → Leads first third old new
+leads_to first second third old new h a = record { accesses = a.accesses; enough = λ wanted later k. a.enough wanted later (h wanted later k); reported = a.reported }
+
+pub follows_first : (limits : Limits) (m : Moment) (old : List Access) → Follows limits m steps.Going m old old
+follows_first limits m old = record { accesses = []; enough = λ wanted later h. h; reported = reports_nothing old }
+
+pub follows_then : (limits : Limits) (m n k : Moment) (step : Step) (old mid new : List Access) → Follows limits m steps.Going n old mid → Follows limits n step k mid new → Follows limits m step k old new
+follows_then limits m n k step old mid new a b =
+    leads_then (λ wanted. AreEnoughFrom limits wanted m) (λ wanted. AreEnoughFrom limits wanted n) (λ wanted. AreEnoughAfter limits wanted step k) old mid new a b
+
+pub follows_step : (limits : Limits) (step : Step) (before after : Record) (old new : List Access) → IsSound before.present → Does step before after (place_move limits before.present.frames)
+    → Reports old new (of_move limits (frames_of before.present.frames) (state_at before.present [])) → Follows limits before.present step after.present old new
+follows_step limits step before after old new sound does reported =
+    let accesses : List Access = of_move limits (frames_of before.present.frames) (state_at before.present []) in
+    record {
+      accesses = accesses;
+      enough = λ wanted later h. keys_of_steps limits wanted step before.present after.present accesses later sound does.0 (covers_itself accesses) h;
+      reported = reported;
+    }
+
+pub follows_as : (limits : Limits) (m n : Moment) (step other : Step) (old new : List Access) → step ≡ other → Follows limits m step n old new → Follows limits m other n old new
+follows_as limits m n step other old new e h = subst (λ (x : Step). Follows limits m x n old new) e h
+
+-- ---- at a device command that asks
+
+-- with no outcome left nothing is read
+frames_dry : (limits : Limits) (wanted : List Text) (fs : List Frame) (s : State) → of_frames limits wanted fs (Dry s) ≡ []
+frames_dry limits wanted [] s = refl
+frames_dry limits wanted (Lists lists ∷ fs) s = frames_dry limits wanted fs s
+frames_dry limits wanted (Linked links ∷ fs) s = frames_dry limits wanted fs s
+frames_dry limits wanted (IfCondition b arms ∷ fs) s = frames_dry limits wanted fs s
+frames_dry limits wanted (LoopCondition until c b last ∷ fs) s = frames_dry limits wanted fs s
+frames_dry limits wanted (LoopBody until c b ∷ fs) s = frames_dry limits wanted fs s
+frames_dry limits wanted (ForBody name values body ∷ fs) s = frames_dry limits wanted fs s
+frames_dry limits wanted (RunNames names ∷ fs) s = frames_dry limits wanted fs s
+frames_dry limits wanted (RunText names ∷ fs) s = frames_dry limits wanted fs s
+
+module _ (limits : Limits) (wanted : List Text) (m : Moment) (asking : Asking limits m) where
+  abbrev asks : Next
+  asks = Ask asking.request (frames_of m.frames) (state_at m [])
+
+  found_so : (w : OutcomeWord) → of_next limits wanted w (next_of (found_again limits m.frames (state_at m w))) ≡ of_next limits wanted w asks
+  found_so w = ap (λ (x : PlaceNext). of_next limits wanted w (next_of x)) (asking.again w)
+
+  both_keys : (won lost : List Key) → AreEnoughFor limits wanted Success m won → AreEnoughFor limits wanted Failure m lost → AreEnoughAt limits wanted m (won ++ lost)
+  both_keys won lost from_success from_failure [] = subst (λ (xs : List Access). AreAmong (keys_read xs) (won ++ lost)) (sym (found_so [] ∙ frames_dry limits wanted (frames_of m.frames) _)) tt
+  both_keys won lost from_success from_failure (Success ∷ w) =
+      all_left (keys_read (of_next limits wanted (Success ∷ w) (next_of (found_again limits m.frames (state_at m (Success ∷ w)))))) won lost (from_success w)
+  both_keys won lost from_success from_failure (Failure ∷ w) =
+      all_right (keys_read (of_next limits wanted (Failure ∷ w) (next_of (found_again limits m.frames (state_at m (Failure ∷ w)))))) won lost (from_failure w)
+
+  -- keys that are enough after an outcome, moved in front of what it writes, are enough for it
+  pub outcome_keys : (outcome : Outcome) (step : Step) (n : Moment) (later : List Key) → ((w : OutcomeWord) → next_shown step n w ≡ place_answered outcome asking.request m.frames (state_at m w))
+      → AreEnoughAfter limits wanted step n later → AreEnoughFor limits wanted outcome m (keys_in_front (outcome_accesses outcome asking.request) later)
+  outcome_keys outcome step n later shown enough w =
+      let accesses : List Access = outcome_accesses outcome asking.request in
+      let next : Next = answered outcome asking.request (frames_of m.frames) (state_at m []) in
+      let after : AreAmong (keys_read (of_next limits wanted w next)) later =
+      subst (λ (x : Next). AreAmong (keys_read (of_next limits wanted w x)) later) (ap next_of (shown []) ∙ place_answered-is outcome asking.request m.frames (state_at m [])) (enough w) in
+      subst (λ (keys : List Key). AreAmong keys (keys_in_front accesses later))
+      (sym (ap keys_read (found_so (outcome ∷ w) ∙ outcomes_come_first limits wanted outcome w asking.request (frames_of m.frames) (state_at m [])) ∙ stretches_join accesses (of_next limits wanted w next) []))
+      (more_keys_in_front accesses (keys_read (of_next limits wanted w next)) later after)
+
+pub keys_of_both_outcomes : KeysOfBothOutcomes
+unfolding IsAsking
+keys_of_both_outcomes limits wanted m won lost asking from_success from_failure = both_keys limits wanted m asking won lost from_success from_failure
+
+-- ---- where a text stops
+
+-- a step that has led to a device command which asks
+pub follows_asking : (limits : Limits) (old new : Record) (step : Step) (ask : AskCode) (before after : List Access) → step ≡ steps.Asks ask → Drives limits step old new → Follows limits old.present step new.present before after → FollowsToStop limits old.present stops.Asks new.present before after
+follows_asking limits old new step ask before after is drives h =
+    let d : Drives limits (steps.Asks ask) old new = subst (λ (x : Step). Drives limits x old new) is drives in
+    let f : Follows limits old.present (steps.Asks ask) new.present before after = subst (λ (x : Step). Follows limits old.present x new.present before after) is h in
+    leads_to (λ wanted. AreEnoughFrom limits wanted old.present) (λ wanted. AreEnoughAfter limits wanted (steps.Asks ask) new.present) (λ wanted. AreEnoughAt limits wanted new.present) before after
+    (λ wanted later k w. subst (λ (x : PlaceNext). AreAmong (keys_read (of_next limits wanted w (next_of x))) later) (d.again w) (k w)) f
+
+pub follows_ended : (limits : Limits) (m n : Moment) (step : Step) (halt : Halt) (before after : List Access) → step ≡ steps.Ends halt → Follows limits m step n before after → FollowsToStop limits m (stops.Ends halt) n before after
+follows_ended limits m n step halt before after is h =
+    let f : Follows limits m (steps.Ends halt) n before after = subst (λ (x : Step). Follows limits m x n before after) is h in
+    leads_to (λ wanted. AreEnoughFrom limits wanted m) (λ wanted. AreEnoughAfter limits wanted (steps.Ends halt) n) (λ wanted. AreEnoughAtStop limits wanted (stops.Ends halt) n) before after
+    (λ wanted later k w. k) f
+
+-- ---- an outcome
+
+pub follows_outcome : (limits : Limits) (outcome : Outcome) (m : Moment) (request : Request) (step : Step) (n : Moment) (before after : List Access) → IsAsking limits m → ((w : OutcomeWord) → found_again limits m.frames (state_at m w) ≡ AskOn request m.frames (state_at m w))
+    → ((w : OutcomeWord) → next_shown step n w ≡ place_answered outcome request m.frames (state_at m w))
+    → Reports before after (outcome_accesses outcome request) → FollowsOutcome limits outcome m step n before after
+unfolding IsAsking
+follows_outcome limits outcome m request step n before after asking again shown reported =
+    let here : Asking limits m = record { request = request; again = again; sound = asking.sound; within = asking.within } in
+    record {
+      accesses = outcome_accesses outcome request;
+      enough = λ wanted later h. outcome_keys limits wanted m here outcome step n later shown h;
+      reported = reported;
+    }
+
+pub reported_for : (limits : Limits) (outcome : Outcome) (m : Moment) (stop : Stop) (n : Moment) (before after : List Access) → before ≡ []
+    → Leads (λ wanted. AreEnoughFor limits wanted outcome m) (λ wanted. AreEnoughAtStop limits wanted stop n) before after → IsReportedFor limits outcome m stop n after
+reported_for limits outcome m stop n before after none leads wanted later h w =
+    let covers : Reports [] after leads.accesses = subst (λ (x : List Access). Reports x after leads.accesses) none leads.reported in
+    all_of_more (keys_read (of_next limits wanted (outcome ∷ w) (next_of (found_again limits m.frames (state_at m (outcome ∷ w)))))) (keys_in_front leads.accesses later) (keys_in_front after later)
+    (leads.enough wanted later h w) (covers later)

@@ -1,0 +1,13 @@
+pub mod MemberLemmas
+pub mod AddingLemmas
+pub mod FoundKeys
+pub mod ReportLemmas
+pub mod CoverLemmas
+pub mod WordLemmas
+pub mod CallLemmas
+pub mod NamedLemmas
+pub mod StartLemmas
+pub mod BeginLemmas
+pub mod FrameLemmas
+pub mod MoveLemmas
+pub mod FollowingLemmas

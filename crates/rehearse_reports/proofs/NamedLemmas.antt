@@ -1,0 +1,103 @@
+-- Reports of what fields name.
+use Rattle.std.proofs.Common.{◌≡◌, ◌∙◌, refl, sym, ap, subst, ℕ, Bool, true, false, List, [], ◌∷◌, ◌++◌, map, length, Option, Some, None, Result, Ok, Err, Vec, Global, if◌then◌else◌, arith}
+use Rattle.std.specs.Prelude.{OnOk}
+use Rattle.text.specs.TextsShown.{bytes_of_words}
+use Rattle.builtins.specs.Builtins as says
+use Rattle.builtins.specs.Builtins.{builtin_of}
+use Rattle.builtins.specs.BuiltinsShown.{builtin_shown}
+use Rattle.builtins.specs.declared.builtins.Builtin.{Builtin}
+use Rattle.commands.specs.Computed.{Computed}
+use Rattle.device_list.specs.DeviceList.{Effect, effect_of, computed_by}
+use Rattle.rehearse_terms.specs.State.{Text, State}
+use Rattle.rehearse_terms.specs.declared.shell.Shell.{Shell}
+use Rattle.rehearse_rules.specs.ByShell.{asks_in, leaves_in, follows, is_refused}
+use Rattle.rehearse_rules.specs.Execution.{Limits, request_of, test_request}
+use Rattle.rehearse_reads.specs.Keys.{Access, Reads, Writes, Local, Status, Covers}
+use Rattle.rehearse_reads.specs.Accesses.{status_written, local_accesses, computed_accesses, nothing_accesses}
+use Rattle.rehearse_frames.specs.MoveAccesses.{of_exit, of_asking, of_builtin, of_call, of_fields}
+use Rattle.rehearse_reports.specs.Reports.{Reports, of_test}
+use Rattle.rehearse_reports.proofs.ReportLemmas.{covers_itself, covers_write, reports_nothing, reports_as}
+use Rattle.rehearse_reports.proofs.CoverLemmas.{covers_status, covers_nothing}
+use Rattle.rehearse_reports.proofs.CallLemmas.{only_status}
+
+pub ok_as : {E P Q : Type 0} (r : Result (Unit {0}) E) → (P → Q) → OnOk r P → OnOk r Q
+ok_as (Ok x) f h = f h
+ok_as (Err x) f h = h
+
+pub quietly : (old ys : List Access) → Covers [] ys → Reports old old ys
+quietly old ys h = reports_as old old [] ys (reports_nothing old) h
+
+pub local_refused : (old : List Access) (shell : Shell) (name value : Text) → true ≡ is_refused shell value → Reports old old (local_accesses shell name value)
+local_refused old shell name value e = subst (λ (b : Bool). Reports old old (if b then [] else Writes (Local name) ∷ [])) e (reports_nothing old)
+
+module _ (limits : Limits) (name : Text) (words : List Text) (s : State) where
+  abbrev test_if : Bool → List Access
+  test_if b = elim b [ true ↦ of_asking limits (test_request limits name words) s | false ↦ status_written ]
+
+  pub test_quiet : (old : List Access) (shell : Shell) → shell ≡ limits.shell → false ≡ asks_in shell words → Reports old old (of_test limits name words s)
+  test_quiet old shell h e = subst (λ (b : Bool). Reports old old (test_if b)) (e ∙ ap (λ (x : Shell). asks_in x words) h) (only_status old)
+
+  pub test_asks : {E : Type 0} (r : Result (Unit {0}) E) (old new : List Access) (shell : Shell) → shell ≡ limits.shell → true ≡ asks_in shell words → OnOk r (Reports old new (of_asking limits (test_request limits name words) s)) → OnOk r (Reports old new (of_test limits name words s))
+  test_asks r old new shell h e k = subst (λ (b : Bool). OnOk r (Reports old new (test_if b))) (e ∙ ap (λ (x : Shell). asks_in x words) h) k
+
+  exits : (o : Option ℕ) → Covers [] (of_exit o [])
+  exits None = covers_status
+  exits (Some status) = covers_write Status [] (covers_itself [])
+
+  runs : (ws : List Text) → Covers [] (of_builtin limits says.Run name ws [] s)
+  runs [] = covers_status
+  runs (w ∷ ws) = covers_itself []
+
+  pub run_quiet : Covers [] (of_builtin limits says.Run name words [] s)
+  run_quiet = runs words
+
+  pub leave_quiet : Covers [] (of_builtin limits says.Leave name words [] s)
+  leave_quiet = exits (leaves_in limits.shell words)
+
+  -- ---- by what the name is
+
+  abbrev call_if : Option Computed → Option says.Builtin → Option Effect → List Access
+  call_if o b f = elim o [ Some computed ↦ computed_accesses computed | None ↦ elim b [ Some builtin ↦ of_builtin limits builtin name words [] s | None ↦ elim f [ Some effect ↦ of_asking limits (request_of name words effect) s | None ↦ [] ] ] ]
+
+  module _ (uncomputed : computed_by limits.devices name words ≡ None) where
+    pub call_builtin : {E : Type 0} (r : Result (Unit {0}) E) (old new : List Access) (b : says.Builtin) → builtin_of name ≡ Some b → OnOk r (Reports old new (of_builtin limits b name words [] s)) → OnOk r (Reports old new (of_call limits name words [] s))
+    call_builtin r old new b e h =
+        subst (λ (o : Option Computed). OnOk r (Reports old new (call_if o (builtin_of name) (effect_of limits.devices name words)))) (sym uncomputed)
+        (subst (λ (o : Option says.Builtin). OnOk r (Reports old new (call_if None o (effect_of limits.devices name words)))) (sym e) h)
+
+    pub call_listed : {E : Type 0} (r : Result (Unit {0}) E) (old new : List Access) (effect : Effect) → builtin_of name ≡ None → effect_of limits.devices name words ≡ Some effect → OnOk r (Reports old new (of_asking limits (request_of name words effect) s)) → OnOk r (Reports old new (of_call limits name words [] s))
+    call_listed r old new effect e f h =
+        subst (λ (o : Option Computed). OnOk r (Reports old new (call_if o (builtin_of name) (effect_of limits.devices name words)))) (sym uncomputed)
+        (subst (λ (o : Option says.Builtin). OnOk r (Reports old new (call_if None o (effect_of limits.devices name words)))) (sym e)
+        (subst (λ (o : Option Effect). OnOk r (Reports old new (call_if None None o))) (sym f) h))
+
+    pub call_unknown : (old : List Access) → builtin_of name ≡ None → effect_of limits.devices name words ≡ None → Reports old old (of_call limits name words [] s)
+    call_unknown old e f =
+        subst (λ (o : Option Computed). Reports old old (call_if o (builtin_of name) (effect_of limits.devices name words))) (sym uncomputed)
+        (subst (λ (o : Option says.Builtin). Reports old old (call_if None o (effect_of limits.devices name words))) (sym e)
+        (subst (λ (o : Option Effect). Reports old old (call_if None None o)) (sym f) (reports_nothing old)))
+
+-- ---- by fields
+
+module _ (limits : Limits) (s : State) where
+  pub fields_none : (old : List Access) (fields : List (Vec ℕ Global)) → length fields ≡ 0 → Reports old old (of_fields limits [] (bytes_of_words fields) s)
+  fields_none old [] e = quietly old (nothing_accesses limits.shell) (covers_nothing limits.shell)
+  fields_none old (x ∷ fields) e = absurd (omega arith)
+
+  module _ (fields : List (Vec ℕ Global)) (first : Vec ℕ Global) (words : List (Vec ℕ Global)) (split : fields ≡ first ∷ words) (shell : Shell) (own : shell ≡ limits.shell) (name : Text) (named : name ≡ first.items) where
+    abbrev fields_if : Bool → List Access
+    fields_if b = elim b [ true ↦ of_call limits first.items (bytes_of_words words) [] s | false ↦ [] ]
+
+    followed : (b : Bool) → b ≡ follows shell limits.devices name (bytes_of_words words) → b ≡ follows limits.shell limits.devices first.items (bytes_of_words words)
+    followed b e = e ∙ ap (λ (x : Shell). follows x limits.devices name (bytes_of_words words)) own ∙ ap (λ (n : Text). follows limits.shell limits.devices n (bytes_of_words words)) named
+
+    pub fields_unfollowed : (old : List Access) → false ≡ follows shell limits.devices name (bytes_of_words words) → Reports old old (of_fields limits [] (bytes_of_words fields) s)
+    fields_unfollowed old e =
+        subst (λ (fs : List (Vec ℕ Global)). Reports old old (of_fields limits [] (bytes_of_words fs) s)) (sym split)
+        (subst (λ (b : Bool). Reports old old (fields_if b)) (followed false e) (reports_nothing old))
+
+    pub fields_followed : {E : Type 0} (r : Result (Unit {0}) E) (old new : List Access) (called : Text) → called ≡ first.items → true ≡ follows shell limits.devices name (bytes_of_words words) → OnOk r (Reports old new (of_call limits called (bytes_of_words words) [] s)) → OnOk r (Reports old new (of_fields limits [] (bytes_of_words fields) s))
+    fields_followed r old new called c e h =
+        subst (λ (fs : List (Vec ℕ Global)). OnOk r (Reports old new (of_fields limits [] (bytes_of_words fs) s))) (sym split)
+        (subst (λ (b : Bool). OnOk r (Reports old new (fields_if b))) (followed true e)
+        (subst (λ (n : Text). OnOk r (Reports old new (of_call limits n (bytes_of_words words) [] s))) c h))

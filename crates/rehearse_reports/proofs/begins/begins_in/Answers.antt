@@ -1,0 +1,16 @@
+use Rattle.std.proofs.Common.{subst, sym, ◌∙◌}
+use Rattle.bootstore_state.specs.declared.frame.FrameKind.{FrameKind}
+use Rattle.rehearse_reports.specs.Begins.{BeginsBy}
+use Rattle.rehearse_reports.proofs.begins.begins_in.Goals as goal
+
+pub returns-in-Text : goal.returns-in-Text
+returns-in-Text c = subst (λ (k : FrameKind). BeginsBy k c.begins_in_script.result c.args.frame.now c.args.status) (sym c.in-Text.is ∙ c.kind.ensures) c.begins_in_script.ensures
+
+pub returns-in-Block : goal.returns-in-Block
+returns-in-Block c = subst (λ (k : FrameKind). BeginsBy k c.begins_in_script-in-Block.result c.args.frame.now c.args.status) (sym c.in-Block.is ∙ c.kind.ensures) c.begins_in_script-in-Block.ensures
+
+pub returns-in-For : goal.returns-in-For
+returns-in-For c = subst (λ (k : FrameKind). BeginsBy k c.begins_in_for.result c.args.frame.now c.args.status) (sym c.in-For.is ∙ c.kind.ensures) (c.begins_in_for.ensures c.args.status)
+
+pub returns-in-Run : goal.returns-in-Run
+returns-in-Run c = subst (λ (k : FrameKind). BeginsBy k c.begins_in_run.result c.args.frame.now c.args.status) (sym c.in-Run.is ∙ c.kind.ensures) c.begins_in_run.ensures

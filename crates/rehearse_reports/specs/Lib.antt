@@ -1,0 +1,5 @@
+pub mod ReportsShown
+pub mod Reports
+pub mod Begins
+pub mod Following
+pub mod Laws

@@ -1,0 +1,26 @@
+-- What a report of accesses promises. Ours.
+use Rattle.std.specs.Prelude.{List, [], ◌++◌}
+use Rattle.builtins.specs.Builtins.{Test}
+use Rattle.bootstore_state.specs.Moment.{Moment}
+use Rattle.bootstore_state.specs.StoredState.{state_at}
+use Rattle.rehearse_terms.specs.State.{Text, Memory, State}
+use Rattle.rehearse_rules.specs.Execution.{Limits}
+use Rattle.rehearse_frames.specs.MoveAccesses.{of_builtin}
+use Rattle.rehearse_reads.specs.Keys.{Access, Covers}
+
+-- the new report may stand for the old one and these accesses after it: no fewer keys have to be known before it
+abbrev pub Reports : (old new accesses : List Access) → Type 0
+Reports old new accesses = Covers new (old ++ accesses)
+
+-- and it names no key too many: whatever has to be known later, the same keys have to be known before both
+pub record Adds (old new accesses : List Access) : Type 0 where
+  pub covers : Covers new (old ++ accesses)
+  pub no_more : Covers (old ++ accesses) new
+
+-- the memory of a run at a moment
+abbrev pub memory_at : Moment → Memory
+memory_at m = (state_at m []).memory
+
+-- a call of `test`
+abbrev pub of_test : Limits → (name : Text) → (words : List Text) → State → List Access
+of_test limits name words s = of_builtin limits Test name words [] s

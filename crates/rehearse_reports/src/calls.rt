@@ -1,0 +1,204 @@
+//! What the calls of commands read and write, by their fields.
+ghost use Rattle.std.specs.Prelude.{◌≡◌, [], OnOk, option_map};
+ghost use Rattle.builtins.specs.Builtins.{builtin_of};
+ghost use Rattle.builtins.specs.BuiltinsShown.{builtin_shown};
+ghost use Rattle.commands.specs.ComputedShown.{computed_shown};
+ghost use Rattle.text.specs.TextsShown.{bytes_of_words};
+ghost use Rattle.rehearse_terms.specs.State.{State};
+ghost use Rattle.rehearse_rules.specs.Execution.{Limits, Request};
+ghost use Rattle.rehearse_machine.specs.MovesShown.{limits_of};
+ghost use Rattle.rehearse_reads.specs.Accesses.{computed_accesses, deletion_accesses, setenv_accesses};
+ghost use Rattle.rehearse_frames.specs.MoveAccesses.{of_asking, of_builtin, of_call, of_fields};
+ghost use Rattle.rehearse_reports.specs.Reports.{Reports, of_test};
+ghost use Rattle.rehearse_reports.specs.ReportsShown.{accesses_shown};
+
+use crate::key::Key;
+use crate::reported::Reported;
+use bootstore_state::StoreError;
+use builtins::{Builtin, builtin_of};
+use commands::{Computed, is_bad_name};
+use device_list::Devices;
+use rehearse_machine::{asks_in, follows, question_in};
+use rehearse_terms::RunBounds;
+use std::alloc::Global;
+use text::copied_words;
+
+/// Reports what `setenv` writes: the variable that its first word names. Errors: `Memory`.
+fn report_setenv(
+    alloc: Global,
+    reported: &mut Reported,
+    words: &[Vec<u8>],
+) -> Result<(), StoreError>
+    ensures { OnOk result (Reports (accesses_shown reported.old) (accesses_shown reported.new)
+        (setenv_accesses (bytes_of_words words.now))) }
+{
+    let [name, ..] = words else {
+        return Ok(());
+    };
+    if is_bad_name(name) {
+        return Ok(());
+    }
+    reported.writes(Key::Environment(Vec::from_slice(alloc, name)?))?;
+    Ok(())
+}
+
+/// Reports what `env delete` reads and writes: each variable is read before it is deleted. Errors:
+/// `Memory`.
+fn report_deletions(
+    alloc: Global,
+    reported: &mut Reported,
+    names: &[Vec<u8>],
+) -> Result<(), StoreError>
+    ensures { OnOk result (Reports (accesses_shown reported.old) (accesses_shown reported.new)
+        (deletion_accesses (bytes_of_words names.now))) }
+{
+    for name in names {
+        reported.reads(Key::Environment(Vec::from_slice(alloc, name)?))?;
+        reported.writes(Key::Environment(Vec::from_slice(alloc, name)?))?;
+    }
+    Ok(())
+}
+
+/// Reports what a computed call reads and writes. Errors: `Memory`.
+fn report_computed(
+    alloc: Global,
+    reported: &mut Reported,
+    computed: Computed<'_>,
+) -> Result<(), StoreError>
+    ensures { OnOk result (Reports (accesses_shown reported.old) (accesses_shown reported.new)
+        (computed_accesses (computed_shown computed.entry))) }
+{
+    match computed {
+        Computed::Gives(_) => Ok(()),
+        Computed::Exists(name) => {
+            reported.reads(Key::Environment(Vec::from_slice(alloc, name)?))?;
+            Ok(())
+        }
+        Computed::Sets(words) => report_setenv(alloc, reported, words),
+        Computed::Deletes(names) => report_deletions(alloc, reported, names),
+        Computed::SetsNumber(name, _) => {
+            reported.writes(Key::Environment(Vec::from_slice(alloc, name)?))?;
+            Ok(())
+        }
+    }
+}
+
+/// Reports that a device command reads the answer that stays for it, if its answers stay. Errors:
+/// `Memory`.
+fn report_asking(
+    alloc: Global,
+    reported: &mut Reported,
+    name: &[u8],
+    words: &[Vec<u8>],
+    stays: bool,
+) -> Result<(), StoreError>
+    ensures { (limits : Limits) (request : Request) (s : State) → request.name ≡ name.now
+        → request.words ≡ bytes_of_words words.now → request.effect.stays ≡ stays
+        → OnOk result (Reports (accesses_shown reported.old) (accesses_shown reported.new)
+        (of_asking limits request s)) }
+{
+    if !stays {
+        return Ok(());
+    }
+    let mut call = copied_words(alloc, words)?;
+    call.insert(0, Vec::from_slice(alloc, name)?)?;
+    reported.reads(Key::AnswerTo(call))?;
+    Ok(())
+}
+
+/// Reports what `test` reads: the answer about the file that it asks for, if the answers stay. Errors:
+/// `Memory`.
+fn report_test(
+    alloc: Global,
+    reported: &mut Reported,
+    devices: &Devices,
+    bounds: RunBounds,
+    name: &[u8],
+    words: &[Vec<u8>],
+) -> Result<(), StoreError>
+    ensures { (s : State) → OnOk result (Reports (accesses_shown reported.old)
+        (accesses_shown reported.new) (of_test (limits_of devices.now bounds) name.now
+        (bytes_of_words words.now) s)) }
+{
+    if !asks_in(bounds.shell(), words) {
+        return Ok(());
+    }
+    let question = question_in(alloc, bounds.shell(), words)?;
+    report_asking(alloc, reported, name, &question, devices.test_stays())
+}
+
+/// Reports what a call of a built-in command reads and writes. Errors: `Memory`.
+fn report_builtin(
+    alloc: Global,
+    reported: &mut Reported,
+    devices: &Devices,
+    bounds: RunBounds,
+    builtin: Builtin,
+    name: &[u8],
+    words: &[Vec<u8>],
+) -> Result<(), StoreError>
+    ensures { (s : State) → OnOk result (Reports (accesses_shown reported.old)
+        (accesses_shown reported.new) (of_builtin (limits_of devices.now bounds)
+        (builtin_shown builtin) name.now (bytes_of_words words.now) [] s)) }
+{
+    match builtin {
+        Builtin::SetEnv => report_setenv(alloc, reported, words),
+        Builtin::Test => report_test(alloc, reported, devices, bounds, name, words),
+        Builtin::Run => Ok(()),
+        Builtin::Echo => Ok(()),
+        Builtin::True => Ok(()),
+        Builtin::False => Ok(()),
+        Builtin::Leave => Ok(()),
+    }
+}
+
+/// Reports what the command of a name reads and writes, which is this built-in command if it is one.
+/// Errors: `Memory`.
+fn report_named(
+    alloc: Global,
+    reported: &mut Reported,
+    devices: &Devices,
+    bounds: RunBounds,
+    builtin: Option<Builtin>,
+    name: &[u8],
+    words: &[Vec<u8>],
+) -> Result<(), StoreError>
+    requires { option_map builtin_shown builtin ≡ builtin_of name.now }
+    ensures { (s : State) → OnOk result (Reports (accesses_shown reported.old)
+        (accesses_shown reported.new) (of_call (limits_of devices.now bounds) name.now
+        (bytes_of_words words.now) [] s)) }
+{
+    if let Some(computed) = devices.computed(name, words) {
+        return report_computed(alloc, reported, computed);
+    }
+    if let Some(builtin) = builtin {
+        return report_builtin(alloc, reported, devices, bounds, builtin, name, words);
+    }
+    match devices.effect(name, words) {
+        Some(effect) => report_asking(alloc, reported, name, words, effect.stays),
+        None => Ok(()),
+    }
+}
+
+/// Reports what the command that fields name reads and writes, if the shell's call of it is followed.
+/// Errors: `Memory`.
+pub(crate) fn report_fields(
+    alloc: Global,
+    reported: &mut Reported,
+    devices: &Devices,
+    bounds: RunBounds,
+    fields: &[Vec<u8>],
+) -> Result<(), StoreError>
+    ensures { (s : State) → OnOk result (Reports (accesses_shown reported.old)
+        (accesses_shown reported.new) (of_fields (limits_of devices.now bounds) []
+        (bytes_of_words fields.now) s)) }
+{
+    let Some((name, words)) = fields.split_first() else {
+        return Ok(());
+    };
+    let builtin = builtin_of(name);
+    if !follows(bounds.shell(), devices, builtin, name, words) {
+        return Ok(());
+    }
+    report_named(alloc, reported, devices, bounds, builtin, name, words)
+}
