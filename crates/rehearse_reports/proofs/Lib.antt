@@ -11,3 +11,4 @@ pub mod BeginLemmas
 pub mod FrameLemmas
 pub mod MoveLemmas
 pub mod FollowingLemmas
+pub mod OutcomeLemmas

@@ -1,0 +1,122 @@
+-- Reports of outcomes.
+use Rattle.std.proofs.Common.{◌≡◌, ◌∙◌, refl, sym, ap, subst, Bool, true, false, List, [], ◌∷◌, ◌++◌, map, Option, Some, None, Result, Ok, Err, Vec, Global, ℕ}
+use Rattle.std.specs.Prelude.{OnOk, IfOk}
+use Rattle.std.specs.List.{flat_map}
+use Rattle.device_list.specs.Called.{sets_in, set_in, variable_of, value_of}
+use Rattle.device_list.specs.DeviceList as says
+use Rattle.device_list.specs.DevicesShown.{setting_shown}
+use Rattle.device_list.specs.declared.setting.Setting.{Setting}
+use Rattle.bootstore_state.specs.Record.{Record}
+use Rattle.bootstore_state.specs.StoredState.{state_at}
+use Rattle.bootstore_state.specs.Moment.{Moment, RunningFrame}
+use Rattle.bootstore_state.specs.declared.store.StoreError.{StoreError}
+use Rattle.rehearse_terms.specs.Outcomes.{Outcome, OutcomeWord}
+use Rattle.rehearse_terms.specs.State.{Text, State}
+use Rattle.rehearse_rules.specs.Execution.{Limits, Request, outcome_when}
+use Rattle.rehearse_machine.specs.AskingCommand.{found_again}
+use Rattle.rehearse_machine.specs.Machine.{Asking, IsAsking}
+use Rattle.rehearse_machine.specs.MovesShown.{next_shown, request_shown, Does, Comes}
+use Rattle.rehearse_machine.specs.Places.{AskOn, place_answered}
+use Rattle.rehearse_machine.specs.declared.ask.Ask.{Ask}
+use Rattle.rehearse_machine.specs.declared.ask.Step.{Step}
+use Rattle.rehearse_machine.specs.declared.ask.Step.TheVariants as steps
+use Rattle.rehearse_machine.specs.declared.rehearsal.Stop.{Stop}
+use Rattle.rehearse_machine.specs.declared.rehearsal.Stop.TheVariants as stops
+use Rattle.rehearse_rules.specs.declared.halt.Halt.{Halt}
+use Rattle.rehearse_reads.specs.Keys.{Key, Access, Writes, Environment, Status}
+use Rattle.rehearse_reads.specs.Accesses.{names_written, outcome_accesses, status_written}
+use Rattle.rehearse_frames.specs.KeysToCome.{AreEnoughFrom, AreEnoughAfter}
+use Rattle.rehearse_reports.specs.Reports.{Reports}
+use Rattle.rehearse_reports.specs.Following.{Leads, FollowsOutcome, FollowsToStop, IsReportedFor, AreEnoughFor, AreEnoughAtStop}
+use Rattle.rehearse_reports.proofs.ReportLemmas.{reports_nothing, reports_then}
+use Rattle.rehearse_reports.proofs.FollowingLemmas.{follows_outcome, leads_then, reported_for}
+
+abbrev names_of : List (Text × Text) → List Access
+names_of sets = names_written (map (λ e. e.0) sets)
+
+-- what one setting writes
+abbrev pub of_setting : List Text → Setting → List Access
+of_setting words set = names_of (sets_in words (setting_shown set ∷ []))
+
+pub sets_no_name : (old : List Access) (words : List Text) (set : says.Setting) → None ≡ variable_of set.0 words → Reports old old (names_of (sets_in words (set ∷ [])))
+sets_no_name old words set e = subst (λ (o : Option Text). Reports old old (names_of (set_in o (value_of set.1 words) ++ []))) e (reports_nothing old)
+
+no_value : (o : Option Text) → names_of (set_in o None ++ []) ≡ []
+no_value None = refl
+no_value (Some name) = refl
+
+pub sets_no_value : (old : List Access) (words : List Text) (set : says.Setting) → None ≡ value_of set.1 words → Reports old old (names_of (sets_in words (set ∷ [])))
+sets_no_value old words set e =
+    subst (λ (o : Option Text). Reports old old (names_of (set_in (variable_of set.0 words) o ++ []))) e (subst (Reports old old) (sym (no_value (variable_of set.0 words))) (reports_nothing old))
+
+pub sets_one : (old new : List Access) (words : List Text) (set : says.Setting) (name value written : Text) → Some name ≡ variable_of set.0 words → Some value ≡ value_of set.1 words → written ≡ name → Reports old new (Writes (Environment written) ∷ []) → Reports old new (names_of (sets_in words (set ∷ [])))
+sets_one old new words set name value written e f is h =
+    subst (λ (o : Option Text). Reports old new (names_of (set_in o (value_of set.1 words) ++ []))) e
+    (subst (λ (o : Option Text). Reports old new (names_of (set_in (Some name) o ++ []))) f (subst (λ (n : Text). Reports old new (Writes (Environment n) ∷ [])) is h))
+
+names_joined : (xs ys : List (Text × Text)) → names_of (xs ++ ys) ≡ names_of (xs ++ []) ++ names_of ys
+names_joined [] ys = refl
+names_joined (x ∷ xs) ys = ap (λ (zs : List Access). Writes (Environment x.0) ∷ zs) (names_joined xs ys)
+
+settings_so : (words : List Text) (sets : List Setting) → flat_map (of_setting words) sets ≡ names_of (sets_in words (map setting_shown sets))
+settings_so words [] = refl
+settings_so words (set ∷ sets) =
+    ap (λ (xs : List Access). of_setting words set ++ xs) (settings_so words sets)
+    ∙ sym (names_joined (set_in (variable_of (setting_shown set).0 words) (value_of (setting_shown set).1 words)) (sets_in words (map setting_shown sets)))
+
+pub settings_done : (old new : List Access) (words : List Text) (sets : List Setting) → Reports old new (flat_map (of_setting words) sets) → Reports old new (names_of (sets_in words (map setting_shown sets)))
+settings_done old new words sets h = subst (Reports old new) (settings_so words sets) h
+
+pub failed_so : (old new : List Access) (request : Request) (success : Bool) → success ≡ false → Reports old new (Writes Status ∷ []) → Reports old new (outcome_accesses (outcome_when success) request)
+failed_so old new request success e h = subst (λ (b : Bool). Reports old new (outcome_accesses (outcome_when b) request)) (sym e) h
+
+pub won_so : {E : Type 0} (r : Result (Unit {0}) E) (old mid new : List Access) (request : Request) (success : Bool) (words : List Text) → success ≡ true → words ≡ request.words → Reports old mid (Writes Status ∷ []) → OnOk r (Reports mid new (names_of (sets_in words request.effect.sets))) → OnOk r (Reports old new (outcome_accesses (outcome_when success) request))
+won_so (Ok x) old mid new request success words e w h k =
+    subst (λ (b : Bool). Reports old new (outcome_accesses (outcome_when b) request)) (sym e)
+    (reports_then old mid new (Writes Status ∷ []) (names_of (sets_in request.words request.effect.sets)) h (subst (λ (ws : List Text). Reports mid new (names_of (sets_in ws request.effect.sets))) w k))
+won_so (Err x) old mid new request success words e w h k = k
+
+-- ---- a device command takes its outcome
+
+module _ (limits : Limits) (old mid new : Record) (step : Step) (ask : Ask) (outcome : Outcome) (before after : List Access) (asks : Asking limits old.present) (finds : Does step old mid (found_again limits old.present.frames)) (is : step ≡ steps.Asks ask)
+    (reported : Reports before after (outcome_accesses outcome (request_shown ask))) where
+  asks_so : (w : OutcomeWord) → AskOn (request_shown ask) mid.present.frames (state_at mid.present w) ≡ AskOn asks.request old.present.frames (state_at old.present w)
+  asks_so w = sym (ap (λ (x : Step). next_shown x mid.present w) is) ∙ (finds.0 w ∙ asks.again w)
+
+  same_request : request_shown ask ≡ asks.request
+  same_request = let e = asks_so [] in cc
+
+  same_frames : mid.present.frames ≡ old.present.frames
+  same_frames = let e = asks_so [] in cc
+
+  same_state : (w : OutcomeWord) → state_at mid.present w ≡ state_at old.present w
+  same_state w = let e = asks_so w in cc
+
+  given : (next : Step) → Does next mid new (place_answered outcome (request_shown ask) mid.present.frames) → FollowsOutcome limits outcome old.present next new.present before after
+  unfolding IsAsking
+  given next does =
+      follows_outcome limits outcome old.present asks.request next new.present before after asks asks.again
+      (λ w. does.0 w
+      ∙ ap (λ (r : Request). place_answered outcome r mid.present.frames (state_at mid.present w)) same_request
+      ∙ ap (λ (ps : List RunningFrame). place_answered outcome asks.request ps (state_at mid.present w)) same_frames
+      ∙ ap (place_answered outcome asks.request old.present.frames) (same_state w))
+      (subst (λ (r : Request). Reports before after (outcome_accesses outcome r)) same_request reported)
+
+pub all_given : (limits : Limits) (old mid new : Record) (step : Step) (ask : Ask) (outcome : Outcome) (before after : List Access) → IsAsking limits old.present → Does step old mid (found_again limits old.present.frames) → step ≡ steps.Asks ask → Reports before after (outcome_accesses outcome (request_shown ask))
+    → (r : Result Step StoreError) → Comes r mid new (place_answered outcome (request_shown ask) mid.present.frames) → IfOk r (λ next. FollowsOutcome limits outcome old.present next new.present before after)
+unfolding IsAsking
+all_given limits old mid new step ask outcome before after asks finds is reported (Ok next) does = given limits old mid new step ask outcome before after asks finds is reported next does
+all_given limits old mid new step ask outcome before after asks finds is reported (Err x) does = tt
+
+-- ---- up to the next stop
+
+pub all_reported : (r : Result Stop StoreError) (limits : Limits) (outcome : Outcome) (m n k : Moment) (old mid new : List Access) → old ≡ [] → FollowsOutcome limits outcome m steps.Going n old mid → IfOk r (λ stop. FollowsToStop limits n stop k mid new) → IfOk r (λ stop. IsReportedFor limits outcome m stop k new)
+all_reported (Ok stop) limits outcome m n k old mid new e a b =
+    reported_for limits outcome m stop k old new e
+    (leads_then (λ wanted. AreEnoughFor limits wanted outcome m) (λ wanted. AreEnoughFrom limits wanted n) (λ wanted. AreEnoughAtStop limits wanted stop k) old mid new a b)
+all_reported (Err x) limits outcome m n k old mid new e a b = b
+
+pub end_reported : (limits : Limits) (outcome : Outcome) (m n : Moment) (step : Step) (halt : Halt) (old new : List Access) → old ≡ [] → step ≡ steps.Ends halt → FollowsOutcome limits outcome m step n old new → IsReportedFor limits outcome m (stops.Ends halt) n new
+end_reported limits outcome m n step halt old new e is a wanted later h =
+    let f : FollowsOutcome limits outcome m (steps.Ends halt) n old new = subst (λ (x : Step). FollowsOutcome limits outcome m x n old new) is a in
+    reported_for limits outcome m (stops.Ends halt) n old new e (record { accesses = f.accesses; enough = λ names keys k. f.enough names keys (λ w. k); reported = f.reported }) wanted later h

@@ -1,0 +1,73 @@
+//! What the outcome of a device command writes.
+ghost use Rattle.std.specs.Prelude.{◌∷◌, [], OnOk, map};
+ghost use Rattle.text.specs.TextsShown.{bytes_of_words};
+ghost use Rattle.device_list.specs.Called.{sets_in};
+ghost use Rattle.device_list.specs.DevicesShown.{setting_shown};
+ghost use Rattle.rehearse_machine.specs.Machine.{outcome_when};
+ghost use Rattle.rehearse_machine.specs.MovesShown.{request_shown};
+ghost use Rattle.rehearse_reads.specs.Accesses.{names_written, outcome_accesses};
+ghost use Rattle.rehearse_reports.specs.Reports.{Reports};
+ghost use Rattle.rehearse_reports.specs.ReportsShown.{accesses_shown};
+
+use crate::key::Key;
+use crate::reported::Reported;
+use bootstore_state::StoreError;
+use device_list::Setting;
+use rehearse_machine::{Ask, value_of, variable_of};
+use std::alloc::Global;
+
+/// Reports the variable that a setting writes in a call with these words. Errors: `Memory`.
+fn report_setting(
+    alloc: Global,
+    reported: &mut Reported,
+    words: &[Vec<u8>],
+    set: &Setting,
+) -> Result<(), StoreError>
+    ensures { OnOk result (Reports (accesses_shown reported.old) (accesses_shown reported.new)
+        (names_written (map (λ e. e.0)
+        (sets_in (bytes_of_words words.now) (setting_shown set.now ∷ []))))) }
+{
+    let Some(name) = variable_of(&set.left, words) else {
+        return Ok(());
+    };
+    let Some(_value) = value_of(&set.value, words) else {
+        return Ok(());
+    };
+    reported.writes(Key::Environment(Vec::from_slice(alloc, name)?))?;
+    Ok(())
+}
+
+/// Reports the variables that settings write in a call with these words. Errors: `Memory`.
+fn report_settings(
+    alloc: Global,
+    reported: &mut Reported,
+    words: &[Vec<u8>],
+    sets: &[Setting],
+) -> Result<(), StoreError>
+    ensures { OnOk result (Reports (accesses_shown reported.old) (accesses_shown reported.new)
+        (names_written (map (λ e. e.0)
+        (sets_in (bytes_of_words words.now) (map setting_shown sets.now))))) }
+{
+    for set in sets {
+        report_setting(alloc, reported, words, set)?;
+    }
+    Ok(())
+}
+
+/// Reports what an outcome of a device command writes: the status, and on success what the settings of
+/// the command say. Errors: `Memory`.
+pub(crate) fn report_outcome(
+    alloc: Global,
+    reported: &mut Reported,
+    ask: &Ask<'_>,
+    success: bool,
+) -> Result<(), StoreError>
+    ensures { OnOk result (Reports (accesses_shown reported.old) (accesses_shown reported.new)
+        (outcome_accesses (outcome_when success) (request_shown ask.now))) }
+{
+    reported.writes(Key::Status)?;
+    if !success {
+        return Ok(());
+    }
+    report_settings(alloc, reported, &ask.words, ask.effect.sets)
+}
