@@ -13,7 +13,7 @@ use Rattle.bootstore_state.specs.declared.frame.At.{At}
 use Rattle.rehearse_terms.specs.State.{Text, State, get}
 use Rattle.rehearse_terms.specs.declared.shell.Shell.{Shell}
 use Rattle.rehearse_terms.specs.declared.shell.Shell.TheVariants.{Profile, Old2023, Old2025}
-use Rattle.rehearse_rules.specs.ByShell.{leaves_in, asks_in, fields_in, turns_in, follows}
+use Rattle.rehearse_rules.specs.ByShell.{leaves_in, asks_in, fields_in, turns_in, follows, reads_again}
 use Rattle.rehearse_rules.specs.Parameters.{parameters_in}
 use Rattle.rehearse_rules.specs.Execution.{Limits, goes, holds, request_of, test_request}
 use Rattle.rehearse_machine.specs.Frames.{Frame, Lists, Linked, IfCondition, LoopCondition, LoopBody, ForBody, RunNames, RunText}
@@ -53,50 +53,50 @@ exit_over (Some status) fs = by (of_leaving fs) (leaving_so fs)
     by xs (inr e) = subst (λ (ys : List Access). Covers (Writes Status ∷ Reads Status ∷ []) (Writes Status ∷ ys)) (sym e) (covers_itself (Writes Status ∷ Reads Status ∷ []))
 
 module _ (limits : Limits) (fs : List Frame) where
-  builtin_over : (builtin : Builtin) (name : Text) (words : List Text) (s : State) → Covers (of_builtin limits builtin name words [] s) (of_builtin limits builtin name words fs s)
-  builtin_over SetEnv name words s = covers_itself (setenv_accesses words)
-  builtin_over Run name [] s = covers_itself status_written
-  builtin_over Run name (w ∷ ws) s = covers_itself []
-  builtin_over Test name words s = covers_itself (of_builtin limits Test name words [] s)
-  builtin_over Echo name words s = covers_itself status_written
-  builtin_over True name words s = covers_itself status_written
-  builtin_over False name words s = covers_itself status_written
-  builtin_over Leave name words s = exit_over (leaves_in limits.shell words) fs
+  builtin_over : (again : Bool) (builtin : Builtin) (name : Text) (words : List Text) (s : State) → Covers (of_builtin limits again builtin name words [] s) (of_builtin limits again builtin name words fs s)
+  builtin_over again SetEnv name words s = covers_itself (setenv_accesses words)
+  builtin_over again Run name [] s = covers_itself status_written
+  builtin_over again Run name (w ∷ ws) s = covers_itself []
+  builtin_over again Test name words s = covers_itself (of_builtin limits again Test name words [] s)
+  builtin_over again Echo name words s = covers_itself status_written
+  builtin_over again True name words s = covers_itself status_written
+  builtin_over again False name words s = covers_itself status_written
+  builtin_over again Leave name words s = exit_over (leaves_in limits.shell again words) fs
 
-  call_over : (name : Text) (words : List Text) (s : State) → Covers (of_call limits name words [] s) (of_call limits name words fs s)
-  call_over name words s = by (computed_by limits.devices name words) (builtin_of name)
+  call_over : (again : Bool) (name : Text) (words : List Text) (s : State) → Covers (of_call limits again name words [] s) (of_call limits again name words fs s)
+  call_over again name words s = by (computed_by limits.devices name words) (builtin_of name)
     where
       other : Option Effect → List Access
       other o = elim o [ Some effect ↦ of_asking limits (request_of name words effect) s | None ↦ [] ]
 
       by : (o : Option Computed) (b : Option Builtin) → Covers
-          (elim o [ Some computed ↦ computed_accesses computed | None ↦ elim b [ Some builtin ↦ of_builtin limits builtin name words [] s | None ↦ elim (effect_of limits.devices name words) [ Some effect ↦ of_asking limits (request_of name words effect) s | None ↦ [] ] ] ])
-          (elim o [ Some computed ↦ computed_accesses computed | None ↦ elim b [ Some builtin ↦ of_builtin limits builtin name words fs s | None ↦ elim (effect_of limits.devices name words) [ Some effect ↦ of_asking limits (request_of name words effect) s | None ↦ [] ] ] ])
+          (elim o [ Some computed ↦ computed_accesses computed | None ↦ elim b [ Some builtin ↦ of_builtin limits again builtin name words [] s | None ↦ elim (effect_of limits.devices name words) [ Some effect ↦ of_asking limits (request_of name words effect) s | None ↦ [] ] ] ])
+          (elim o [ Some computed ↦ computed_accesses computed | None ↦ elim b [ Some builtin ↦ of_builtin limits again builtin name words fs s | None ↦ elim (effect_of limits.devices name words) [ Some effect ↦ of_asking limits (request_of name words effect) s | None ↦ [] ] ] ])
       by (Some computed) b = covers_itself (computed_accesses computed)
-      by None (Some builtin) = builtin_over builtin name words s
+      by None (Some builtin) = builtin_over again builtin name words s
       by None None = covers_itself (elim (effect_of limits.devices name words) [ Some effect ↦ of_asking limits (request_of name words effect) s | None ↦ [] ])
 
-  fields_over : (fields : List Text) (s : State) → Covers (of_fields limits [] fields s) (of_fields limits fs fields s)
-  fields_over [] s = covers_itself (nothing_accesses limits.shell)
-  fields_over (name ∷ words) s = by (follows limits.shell limits.devices name words)
+  fields_over : (again : Bool) (fields : List Text) (s : State) → Covers (of_fields limits again [] fields s) (of_fields limits again fs fields s)
+  fields_over again [] s = covers_itself (nothing_accesses limits.shell)
+  fields_over again (name ∷ words) s = by (follows limits.shell limits.devices name words)
     where
-      by : (b : Bool) → Covers (elim b [ true ↦ of_call limits name words [] s | false ↦ [] ]) (elim b [ true ↦ of_call limits name words fs s | false ↦ [] ])
-      by true = call_over name words s
+      by : (b : Bool) → Covers (elim b [ true ↦ of_call limits again name words [] s | false ↦ [] ]) (elim b [ true ↦ of_call limits again name words fs s | false ↦ [] ])
+      by true = call_over again name words s
       by false = covers_itself []
 
   pub command_over : (command : Command) (s : State) → Covers (of_command limits command [] s) (of_command limits command fs s)
   command_over (tree.Simple words) s = by (nat_lt s.steps limits.step_bound)
     where
-      sized : (b : Bool) (fields : List Text) (t : State) → Covers (elim b [ true ↦ of_fields limits [] fields t | false ↦ [] ]) (elim b [ true ↦ of_fields limits fs fields t | false ↦ [] ])
-      sized true fields t = fields_over fields t
+      sized : (b : Bool) (fields : List Text) (t : State) → Covers (elim b [ true ↦ of_fields limits (reads_again words) [] fields t | false ↦ [] ]) (elim b [ true ↦ of_fields limits (reads_again words) fs fields t | false ↦ [] ])
+      sized true fields t = fields_over (reads_again words) fields t
       sized false fields t = covers_itself []
 
       by : (b : Bool) → Covers
-          (elim b [ true ↦ all_read (words_reads s.memory words) ++ sized_accesses (fields_in limits.shell (parameters_in s.memory) words) (of_fields limits []) (record s { steps = suc s.steps }) | false ↦ [] ])
-          (elim b [ true ↦ all_read (words_reads s.memory words) ++ sized_accesses (fields_in limits.shell (parameters_in s.memory) words) (of_fields limits fs) (record s { steps = suc s.steps }) | false ↦ [] ])
+          (elim b [ true ↦ all_read (words_reads s.memory words) ++ sized_accesses (fields_in limits.shell (parameters_in s.memory) words) (of_fields limits (reads_again words) []) (record s { steps = suc s.steps }) | false ↦ [] ])
+          (elim b [ true ↦ all_read (words_reads s.memory words) ++ sized_accesses (fields_in limits.shell (parameters_in s.memory) words) (of_fields limits (reads_again words) fs) (record s { steps = suc s.steps }) | false ↦ [] ])
       by true =
-          covering_joins (all_read (words_reads s.memory words)) (sized_accesses (fields_in limits.shell (parameters_in s.memory) words) (of_fields limits fs) (record s { steps = suc s.steps }))
-          (all_read (words_reads s.memory words)) (sized_accesses (fields_in limits.shell (parameters_in s.memory) words) (of_fields limits []) (record s { steps = suc s.steps })) (covers_itself (all_read (words_reads s.memory words)))
+          covering_joins (all_read (words_reads s.memory words)) (sized_accesses (fields_in limits.shell (parameters_in s.memory) words) (of_fields limits (reads_again words) fs) (record s { steps = suc s.steps }))
+          (all_read (words_reads s.memory words)) (sized_accesses (fields_in limits.shell (parameters_in s.memory) words) (of_fields limits (reads_again words) []) (record s { steps = suc s.steps })) (covers_itself (all_read (words_reads s.memory words)))
           (sized (nat_le (size (fields_in limits.shell (parameters_in s.memory) words)) most_bytes) (fields_in limits.shell (parameters_in s.memory) words) (record s { steps = suc s.steps }))
       by false = covers_itself []
   command_over (tree.Assign pairs) s = covers_itself (of_command limits (tree.Assign pairs) [] s)

@@ -9,7 +9,7 @@ use Rattle.rehearse_terms.specs.Outcomes.{Success, Failure}
 use Rattle.rehearse_terms.specs.State.{Text, Memory, State, get}
 use Rattle.rehearse_terms.specs.declared.shell.Shell.{Shell}
 use Rattle.rehearse_terms.specs.declared.shell.Shell.TheVariants.{Profile, Old2023, Old2025}
-use Rattle.rehearse_rules.specs.ByShell.{fields_in, turns_in, assigned_in, is_refused}
+use Rattle.rehearse_rules.specs.ByShell.{fields_in, turns_in, assigned_in, is_refused, reads_again}
 use Rattle.rehearse_rules.specs.Parameters.{parameters_in}
 use Rattle.rehearse_rules.specs.Execution.{Limits, Request, told, outcome_when, assign_local}
 use Rattle.rehearse_reads.specs.Keys.{Key, Access, Reads, Writes, Environment, Local, Status, all_read, Covers}
@@ -79,12 +79,12 @@ begun_so limits body s b e = ap (λ (x : Bool). elim x [ true ↦ body (record s
 
 -- a simple command whose fields are known
 pub call_so : (limits : Limits) (words : List tree.Word) (s : State) (fields : List Text) → nat_lt s.steps limits.step_bound ≡ true → fields ≡ fields_in limits.shell (parameters_in s.memory) words → nat_le (size fields) most_bytes ≡ true
-    → all_read (words_reads s.memory words) ++ of_fields limits [] fields (record s { steps = suc s.steps }) ≡ of_command limits (tree.Simple words) [] s
+    → all_read (words_reads s.memory words) ++ of_fields limits (reads_again words) [] fields (record s { steps = suc s.steps }) ≡ of_command limits (tree.Simple words) [] s
 call_so limits words s fields e is fits =
     let t : State = record s { steps = suc s.steps } in
-    sym (begun_so limits (λ u. all_read (words_reads u.memory words) ++ sized_accesses (fields_in limits.shell (parameters_in u.memory) words) (of_fields limits []) u) s true e
-    ∙ ap (λ (fs : List Text). all_read (words_reads s.memory words) ++ sized_accesses fs (of_fields limits []) t) (sym is)
-    ∙ ap (λ (b : Bool). all_read (words_reads s.memory words) ++ (elim b [ true ↦ of_fields limits [] fields t | false ↦ [] ])) fits)
+    sym (begun_so limits (λ u. all_read (words_reads u.memory words) ++ sized_accesses (fields_in limits.shell (parameters_in u.memory) words) (of_fields limits (reads_again words) []) u) s true e
+    ∙ ap (λ (fs : List Text). all_read (words_reads s.memory words) ++ sized_accesses fs (of_fields limits (reads_again words) []) t) (sym is)
+    ∙ ap (λ (b : Bool). all_read (words_reads s.memory words) ++ (elim b [ true ↦ of_fields limits (reads_again words) [] fields t | false ↦ [] ])) fits)
 
 -- and one whose fields hold too many bytes
 pub long_so : (limits : Limits) (words : List tree.Word) (s : State) → nat_lt s.steps limits.step_bound ≡ true → nat_le (size (fields_in limits.shell (parameters_in s.memory) words)) most_bytes ≡ false
@@ -92,8 +92,8 @@ pub long_so : (limits : Limits) (words : List tree.Word) (s : State) → nat_lt 
 long_so limits words s e fits =
     let fields : List Text = fields_in limits.shell (parameters_in s.memory) words in
     let t : State = record s { steps = suc s.steps } in
-    sym (begun_so limits (λ u. all_read (words_reads u.memory words) ++ sized_accesses (fields_in limits.shell (parameters_in u.memory) words) (of_fields limits []) u) s true e
-    ∙ ap (λ (b : Bool). all_read (words_reads s.memory words) ++ (elim b [ true ↦ of_fields limits [] fields t | false ↦ [] ])) fits
+    sym (begun_so limits (λ u. all_read (words_reads u.memory words) ++ sized_accesses (fields_in limits.shell (parameters_in u.memory) words) (of_fields limits (reads_again words) []) u) s true e
+    ∙ ap (λ (b : Bool). all_read (words_reads s.memory words) ++ (elim b [ true ↦ of_fields limits (reads_again words) [] fields t | false ↦ [] ])) fits
     ∙ nothing_after (all_read (words_reads s.memory words)))
 
 -- ---- assignments
@@ -184,7 +184,7 @@ assign_none limits s = by (nat_lt s.steps limits.step_bound)
 -- no step is left
 pub none_begun : (limits : Limits) (command : tree.Command) (s : State) → nat_lt s.steps limits.step_bound ≡ false → Covers [] (of_command limits command [] s)
 none_begun limits (tree.Simple words) s e =
-    subst (Covers []) (sym (begun_so limits (λ u. all_read (words_reads u.memory words) ++ sized_accesses (fields_in limits.shell (parameters_in u.memory) words) (of_fields limits []) u) s false e)) (covers_itself [])
+    subst (Covers []) (sym (begun_so limits (λ u. all_read (words_reads u.memory words) ++ sized_accesses (fields_in limits.shell (parameters_in u.memory) words) (of_fields limits (reads_again words) []) u) s false e)) (covers_itself [])
 none_begun limits (tree.Assign pairs) s e = subst (Covers []) (sym (begun_so limits (assign_accesses limits.shell pairs) s false e)) (covers_itself [])
 none_begun limits (tree.If arms) s e = covers_arms limits.shell arms
 none_begun limits (tree.Loop until c b) s e = covers_itself []

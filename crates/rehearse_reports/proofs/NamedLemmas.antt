@@ -44,34 +44,35 @@ module _ (limits : Limits) (name : Text) (words : List Text) (s : State) where
   exits None = covers_status
   exits (Some status) = covers_write Status [] (covers_itself [])
 
-  runs : (ws : List Text) → Covers [] (of_builtin limits says.Run name ws [] s)
-  runs [] = covers_status
-  runs (w ∷ ws) = covers_itself []
+  runs : (again : Bool) (ws : List Text) → Covers [] (of_builtin limits again says.Run name ws [] s)
+  runs again [] = covers_status
+  runs again (w ∷ ws) = covers_itself []
 
-  pub run_quiet : Covers [] (of_builtin limits says.Run name words [] s)
-  run_quiet = runs words
+  pub run_quiet : (again : Bool) → Covers [] (of_builtin limits again says.Run name words [] s)
+  run_quiet again = runs again words
 
-  pub leave_quiet : Covers [] (of_builtin limits says.Leave name words [] s)
-  leave_quiet = exits (leaves_in limits.shell words)
+  pub leave_quiet : (again : Bool) → Covers [] (of_builtin limits again says.Leave name words [] s)
+  leave_quiet again = exits (leaves_in limits.shell again words)
 
-  -- ---- by what the name is
+-- ---- by what the name is
 
+module _ (limits : Limits) (again : Bool) (name : Text) (words : List Text) (s : State) where
   abbrev call_if : Option Computed → Option says.Builtin → Option Effect → List Access
-  call_if o b f = elim o [ Some computed ↦ computed_accesses computed | None ↦ elim b [ Some builtin ↦ of_builtin limits builtin name words [] s | None ↦ elim f [ Some effect ↦ of_asking limits (request_of name words effect) s | None ↦ [] ] ] ]
+  call_if o b f = elim o [ Some computed ↦ computed_accesses computed | None ↦ elim b [ Some builtin ↦ of_builtin limits again builtin name words [] s | None ↦ elim f [ Some effect ↦ of_asking limits (request_of name words effect) s | None ↦ [] ] ] ]
 
   module _ (uncomputed : computed_by limits.devices name words ≡ None) where
-    pub call_builtin : {E : Type 0} (r : Result (Unit {0}) E) (old new : List Access) (b : says.Builtin) → builtin_of name ≡ Some b → OnOk r (Reports old new (of_builtin limits b name words [] s)) → OnOk r (Reports old new (of_call limits name words [] s))
+    pub call_builtin : {E : Type 0} (r : Result (Unit {0}) E) (old new : List Access) (b : says.Builtin) → builtin_of name ≡ Some b → OnOk r (Reports old new (of_builtin limits again b name words [] s)) → OnOk r (Reports old new (of_call limits again name words [] s))
     call_builtin r old new b e h =
         subst (λ (o : Option Computed). OnOk r (Reports old new (call_if o (builtin_of name) (effect_of limits.devices name words)))) (sym uncomputed)
         (subst (λ (o : Option says.Builtin). OnOk r (Reports old new (call_if None o (effect_of limits.devices name words)))) (sym e) h)
 
-    pub call_listed : {E : Type 0} (r : Result (Unit {0}) E) (old new : List Access) (effect : Effect) → builtin_of name ≡ None → effect_of limits.devices name words ≡ Some effect → OnOk r (Reports old new (of_asking limits (request_of name words effect) s)) → OnOk r (Reports old new (of_call limits name words [] s))
+    pub call_listed : {E : Type 0} (r : Result (Unit {0}) E) (old new : List Access) (effect : Effect) → builtin_of name ≡ None → effect_of limits.devices name words ≡ Some effect → OnOk r (Reports old new (of_asking limits (request_of name words effect) s)) → OnOk r (Reports old new (of_call limits again name words [] s))
     call_listed r old new effect e f h =
         subst (λ (o : Option Computed). OnOk r (Reports old new (call_if o (builtin_of name) (effect_of limits.devices name words)))) (sym uncomputed)
         (subst (λ (o : Option says.Builtin). OnOk r (Reports old new (call_if None o (effect_of limits.devices name words)))) (sym e)
         (subst (λ (o : Option Effect). OnOk r (Reports old new (call_if None None o))) (sym f) h))
 
-    pub call_unknown : (old : List Access) → builtin_of name ≡ None → effect_of limits.devices name words ≡ None → Reports old old (of_call limits name words [] s)
+    pub call_unknown : (old : List Access) → builtin_of name ≡ None → effect_of limits.devices name words ≡ None → Reports old old (of_call limits again name words [] s)
     call_unknown old e f =
         subst (λ (o : Option Computed). Reports old old (call_if o (builtin_of name) (effect_of limits.devices name words))) (sym uncomputed)
         (subst (λ (o : Option says.Builtin). Reports old old (call_if None o (effect_of limits.devices name words))) (sym e)
@@ -79,25 +80,25 @@ module _ (limits : Limits) (name : Text) (words : List Text) (s : State) where
 
 -- ---- by fields
 
-module _ (limits : Limits) (s : State) where
-  pub fields_none : (old : List Access) (fields : List (Vec ℕ Global)) → length fields ≡ 0 → Reports old old (of_fields limits [] (bytes_of_words fields) s)
+module _ (limits : Limits) (again : Bool) (s : State) where
+  pub fields_none : (old : List Access) (fields : List (Vec ℕ Global)) → length fields ≡ 0 → Reports old old (of_fields limits again [] (bytes_of_words fields) s)
   fields_none old [] e = quietly old (nothing_accesses limits.shell) (covers_nothing limits.shell)
   fields_none old (x ∷ fields) e = absurd (omega arith)
 
   module _ (fields : List (Vec ℕ Global)) (first : Vec ℕ Global) (words : List (Vec ℕ Global)) (split : fields ≡ first ∷ words) (shell : Shell) (own : shell ≡ limits.shell) (name : Text) (named : name ≡ first.items) where
     abbrev fields_if : Bool → List Access
-    fields_if b = elim b [ true ↦ of_call limits first.items (bytes_of_words words) [] s | false ↦ [] ]
+    fields_if b = elim b [ true ↦ of_call limits again first.items (bytes_of_words words) [] s | false ↦ [] ]
 
     followed : (b : Bool) → b ≡ follows shell limits.devices name (bytes_of_words words) → b ≡ follows limits.shell limits.devices first.items (bytes_of_words words)
     followed b e = e ∙ ap (λ (x : Shell). follows x limits.devices name (bytes_of_words words)) own ∙ ap (λ (n : Text). follows limits.shell limits.devices n (bytes_of_words words)) named
 
-    pub fields_unfollowed : (old : List Access) → false ≡ follows shell limits.devices name (bytes_of_words words) → Reports old old (of_fields limits [] (bytes_of_words fields) s)
+    pub fields_unfollowed : (old : List Access) → false ≡ follows shell limits.devices name (bytes_of_words words) → Reports old old (of_fields limits again [] (bytes_of_words fields) s)
     fields_unfollowed old e =
-        subst (λ (fs : List (Vec ℕ Global)). Reports old old (of_fields limits [] (bytes_of_words fs) s)) (sym split)
+        subst (λ (fs : List (Vec ℕ Global)). Reports old old (of_fields limits again [] (bytes_of_words fs) s)) (sym split)
         (subst (λ (b : Bool). Reports old old (fields_if b)) (followed false e) (reports_nothing old))
 
-    pub fields_followed : {E : Type 0} (r : Result (Unit {0}) E) (old new : List Access) (called : Text) → called ≡ first.items → true ≡ follows shell limits.devices name (bytes_of_words words) → OnOk r (Reports old new (of_call limits called (bytes_of_words words) [] s)) → OnOk r (Reports old new (of_fields limits [] (bytes_of_words fields) s))
+    pub fields_followed : {E : Type 0} (r : Result (Unit {0}) E) (old new : List Access) (called : Text) → called ≡ first.items → true ≡ follows shell limits.devices name (bytes_of_words words) → OnOk r (Reports old new (of_call limits again called (bytes_of_words words) [] s)) → OnOk r (Reports old new (of_fields limits again [] (bytes_of_words fields) s))
     fields_followed r old new called c e h =
-        subst (λ (fs : List (Vec ℕ Global)). OnOk r (Reports old new (of_fields limits [] (bytes_of_words fs) s))) (sym split)
+        subst (λ (fs : List (Vec ℕ Global)). OnOk r (Reports old new (of_fields limits again [] (bytes_of_words fs) s))) (sym split)
         (subst (λ (b : Bool). OnOk r (Reports old new (fields_if b))) (followed true e)
-        (subst (λ (n : Text). OnOk r (Reports old new (of_call limits n (bytes_of_words words) [] s))) c h))
+        (subst (λ (n : Text). OnOk r (Reports old new (of_call limits again n (bytes_of_words words) [] s))) c h))

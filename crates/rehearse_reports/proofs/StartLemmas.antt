@@ -9,7 +9,7 @@ use Rattle.hushlang.specs.Expansion.{Parameters, size, most_bytes}
 use Rattle.hushlang.specs.declared.tree.Word.{Word}
 use Rattle.rehearse_terms.specs.State.{Text, Memory, State}
 use Rattle.rehearse_terms.specs.declared.shell.Shell.{Shell}
-use Rattle.rehearse_rules.specs.ByShell.{fields_in, assigned_in}
+use Rattle.rehearse_rules.specs.ByShell.{fields_in, assigned_in, reads_again}
 use Rattle.rehearse_rules.specs.Parameters.{parameters_in}
 use Rattle.rehearse_rules.specs.Execution.{Limits}
 use Rattle.rehearse_machine.specs.MovesShown.{IsExpanded, IsExpandedOne}
@@ -30,9 +30,9 @@ module _ (limits : Limits) (s : State) (words : List tree.Word) (less : nat_lt s
   reads_so = subst (λ (ws : List tree.Word). Reports old mid (all_read (words_reads s.memory ws))) same reads
 
   pub call_reports : {E : Type 0} (r : Result (Unit {0}) E) (new : List Access) (fields : List Text) → fields ≡ fields_in limits.shell (parameters_in s.memory) words → nat_le (size fields) most_bytes ≡ true
-      → OnOk r (Reports mid new (of_fields limits [] fields (record s { steps = suc s.steps }))) → OnOk r (Reports old new (of_command limits (tree.Simple words) [] s))
+      → OnOk r (Reports mid new (of_fields limits (reads_again words) [] fields (record s { steps = suc s.steps }))) → OnOk r (Reports old new (of_command limits (tree.Simple words) [] s))
   call_reports r new fields is fits h =
-      ok_as r (λ k. subst (Reports old new) (call_so limits words s fields less is fits) (reports_then old mid new (all_read (words_reads s.memory words)) (of_fields limits [] fields (record s { steps = suc s.steps })) reads_so k)) h
+      ok_as r (λ k. subst (Reports old new) (call_so limits words s fields less is fits) (reports_then old mid new (all_read (words_reads s.memory words)) (of_fields limits (reads_again words) [] fields (record s { steps = suc s.steps })) reads_so k)) h
 
   -- fields that were expanded
   module _ (shell : Shell) (parameters : Parameters) (expanded : List tree.Word) (own : shell ≡ limits.shell) (here : parameters ≡ parameters_in s.memory) (again : expanded ≡ words) where
@@ -46,7 +46,7 @@ module _ (limits : Limits) (s : State) (words : List tree.Word) (less : nat_lt s
         subst (Reports old mid) (long_so limits words s less (ap (λ (fs : List Text). nat_le (size fs) most_bytes) (sym fields_are) ∙ long)) reads_so
 
     pub call_expanded : {E : Type 0} (r : Result (Unit {0}) E) (new : List Access) (fit : Bool) (found fields : List Text) → fit ≡ true → IsExpanded fit found (fields_in shell parameters expanded) → fields ≡ found
-        → OnOk r (Reports mid new (of_fields limits [] fields (record s { steps = suc s.steps }))) → OnOk r (Reports old new (of_command limits (tree.Simple words) [] s))
+        → OnOk r (Reports mid new (of_fields limits (reads_again words) [] fields (record s { steps = suc s.steps }))) → OnOk r (Reports old new (of_command limits (tree.Simple words) [] s))
     call_expanded r new fit found fields e h is k =
         let both : (found ≡ fields_in shell parameters expanded) × (nat_le (size (fields_in shell parameters expanded)) most_bytes ≡ true) = subst (λ (b : Bool). IsExpanded b found (fields_in shell parameters expanded)) e h in
         call_reports r new fields (is ∙ both.0 ∙ fields_are) (ap (λ (fs : List Text). nat_le (size fs) most_bytes) (is ∙ both.0) ∙ both.1) k

@@ -1,5 +1,5 @@
 -- What a report of accesses promises. Ours.
-use Rattle.std.specs.Prelude.{List, [], ◌++◌}
+use Rattle.std.specs.Prelude.{List, [], ◌++◌, false}
 use Rattle.builtins.specs.Builtins.{Test}
 use Rattle.bootstore_state.specs.Moment.{Moment}
 use Rattle.bootstore_state.specs.StoredState.{state_at}
@@ -23,4 +23,4 @@ memory_at m = (state_at m []).memory
 
 -- a call of `test`
 abbrev pub of_test : Limits → (name : Text) → (words : List Text) → State → List Access
-of_test limits name words s = of_builtin limits Test name words [] s
+of_test limits name words s = of_builtin limits false Test name words [] s

@@ -1,5 +1,5 @@
 //! What the calls of commands read and write, by their fields.
-ghost use Rattle.std.specs.Prelude.{◌≡◌, [], OnOk, option_map};
+ghost use Rattle.std.specs.Prelude.{◌≡◌, [], OnOk, option_map, Bool};
 ghost use Rattle.builtins.specs.Builtins.{builtin_of};
 ghost use Rattle.builtins.specs.BuiltinsShown.{builtin_shown};
 ghost use Rattle.commands.specs.ComputedShown.{computed_shown};
@@ -137,8 +137,8 @@ fn report_builtin(
     name: &[u8],
     words: &[Vec<u8>],
 ) -> Result<(), StoreError>
-    ensures { (s : State) → OnOk result (Reports (accesses_shown reported.old)
-        (accesses_shown reported.new) (of_builtin (limits_of devices.now bounds)
+    ensures { (again : Bool) (s : State) → OnOk result (Reports (accesses_shown reported.old)
+        (accesses_shown reported.new) (of_builtin (limits_of devices.now bounds) again
         (builtin_shown builtin) name.now (bytes_of_words words.now) [] s)) }
 {
     match builtin {
@@ -164,8 +164,8 @@ fn report_named(
     words: &[Vec<u8>],
 ) -> Result<(), StoreError>
     requires { option_map builtin_shown builtin ≡ builtin_of name.now }
-    ensures { (s : State) → OnOk result (Reports (accesses_shown reported.old)
-        (accesses_shown reported.new) (of_call (limits_of devices.now bounds) name.now
+    ensures { (again : Bool) (s : State) → OnOk result (Reports (accesses_shown reported.old)
+        (accesses_shown reported.new) (of_call (limits_of devices.now bounds) again name.now
         (bytes_of_words words.now) [] s)) }
 {
     if let Some(computed) = devices.computed(name, words) {
@@ -189,8 +189,8 @@ pub(crate) fn report_fields(
     bounds: RunBounds,
     fields: &[Vec<u8>],
 ) -> Result<(), StoreError>
-    ensures { (s : State) → OnOk result (Reports (accesses_shown reported.old)
-        (accesses_shown reported.new) (of_fields (limits_of devices.now bounds) []
+    ensures { (again : Bool) (s : State) → OnOk result (Reports (accesses_shown reported.old)
+        (accesses_shown reported.new) (of_fields (limits_of devices.now bounds) again []
         (bytes_of_words fields.now) s)) }
 {
     let Some((name, words)) = fields.split_first() else {

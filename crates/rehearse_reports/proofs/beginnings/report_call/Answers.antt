@@ -6,6 +6,7 @@ use Rattle.hushlang.specs.TreesShown as view
 use Rattle.hushlang.specs.Expansion.{size, most_bytes}
 use Rattle.rehearse_terms.specs.State.{Text}
 use Rattle.bootstore_state.specs.StoredState.{state_at}
+use Rattle.rehearse_rules.specs.ByShell.{reads_again}
 use Rattle.rehearse_rules.specs.Parameters.{parameters_in}
 use Rattle.rehearse_rules.proofs.FieldLemmas.{known_in_each}
 use Rattle.rehearse_machine.specs.Variables.{parameters_at}
@@ -34,7 +35,7 @@ returns-in-Some g c =
     let shown = ap bytes_of_words c.as_slice.ensures.value ∙ ap (λ (x : Vec (Vec ℕ Global) Global). bytes_of_words x.items) c.deref.ensures in
     let known = known_in_each c.args.bounds.shell (parameters_in s.memory) words _ c.in-Some.ensures.known (c.in-Some.ensures.fields (parameters_in s.memory)) in
     call_reports (limits_of c.args.devices.now c.args.bounds) s words less (accesses_shown c.args.reported.now) (accesses_shown c.report_words.new.reported) _ c.words.ensures c.in_ok-report_words.ensures c.report_fields.result (accesses_shown c.report_fields.new.reported) (bytes_of_words c.as_slice.result.now)
-    (shown ∙ known) (ap (λ (fs : List Text). nat_le (size fs) most_bytes) shown ∙ c.in-Some.ensures.within_limit) (c.report_fields.ensures (record s { steps = suc s.steps }))
+    (shown ∙ known) (ap (λ (fs : List Text). nat_le (size fs) most_bytes) shown ∙ c.in-Some.ensures.within_limit) (c.report_fields.ensures (reads_again (view.call c.args.call.now)) (record s { steps = suc s.steps }))
 
 pub returns-then-not-fit : goal.returns-then-not-fit
 returns-then-not-fit g c =
@@ -50,4 +51,4 @@ returns g c =
     let s = state_at now [] in
     let a = c.steps.ensures in let b = c.steps-2.ensures.steps in let h = c.if-steps.false in
     let less : nat_lt now.steps c.args.bounds.steps ≡ true = lt-ltb now.steps c.args.bounds.steps (omega arith) in
-    call_expanded (limits_of c.args.devices.now c.args.bounds) s (view.call c.args.call.now) less (accesses_shown c.args.reported.now) (accesses_shown c.report_words.new.reported) _ c.words.ensures c.in_ok-report_words.ensures c.shell.result (parameters_at now) _ c.shell.ensures (same_parameters now []) c.words-2.ensures c.report_fields-2.result (accesses_shown c.report_fields-2.new.reported) c.in_ok-fit.fit c.expanded.new.fields (bytes_of_words c.as_slice-2.result.now) c.if-not-fit.false c.in_ok-fit.ensures c.as_slice-2.ensures (c.report_fields-2.ensures (record s { steps = suc s.steps }))
+    call_expanded (limits_of c.args.devices.now c.args.bounds) s (view.call c.args.call.now) less (accesses_shown c.args.reported.now) (accesses_shown c.report_words.new.reported) _ c.words.ensures c.in_ok-report_words.ensures c.shell.result (parameters_at now) _ c.shell.ensures (same_parameters now []) c.words-2.ensures c.report_fields-2.result (accesses_shown c.report_fields-2.new.reported) c.in_ok-fit.fit c.expanded.new.fields (bytes_of_words c.as_slice-2.result.now) c.if-not-fit.false c.in_ok-fit.ensures c.as_slice-2.ensures (c.report_fields-2.ensures (reads_again (view.call c.args.call.now)) (record s { steps = suc s.steps }))

@@ -4,12 +4,12 @@ use Rattle.rehearse_reports.proofs.NamedLemmas.{fields_none, fields_unfollowed, 
 use Rattle.rehearse_reports.proofs.calls.report_fields.Goals as goal
 
 pub returns-in_default : goal.returns-in_default
-returns-in_default c s = fields_none (limits_of c.args.devices.now c.args.bounds) s (accesses_shown c.args.reported.now) c.args.fields.now c.in_default.ensures.cases
+returns-in_default c again s = fields_none (limits_of c.args.devices.now c.args.bounds) again s (accesses_shown c.args.reported.now) c.args.fields.now c.in_default.ensures.cases
 
 pub returns-then-not-follows : goal.returns-then-not-follows
-returns-then-not-follows c s =
-    fields_unfollowed (limits_of c.args.devices.now c.args.bounds) s c.args.fields.now c.in-Some.name.now c.in-Some.words.now c.in-Some.ensures.cases.0 c.shell.result c.shell.ensures c.deref-2.result.now c.deref-2.ensures.value (accesses_shown c.args.reported.now) c.if-not-follows.ensures
+returns-then-not-follows c again s =
+    fields_unfollowed (limits_of c.args.devices.now c.args.bounds) again s c.args.fields.now c.in-Some.name.now c.in-Some.words.now c.in-Some.ensures.cases.0 c.shell.result c.shell.ensures c.deref-2.result.now c.deref-2.ensures.value (accesses_shown c.args.reported.now) c.if-not-follows.ensures
 
 pub returns : goal.returns
-returns c s =
-    fields_followed (limits_of c.args.devices.now c.args.bounds) s c.args.fields.now c.in-Some.name.now c.in-Some.words.now c.in-Some.ensures.cases.0 c.shell.result c.shell.ensures c.deref-2.result.now c.deref-2.ensures.value c.report_named.result (accesses_shown c.args.reported.now) (accesses_shown c.report_named.new.reported) c.deref-3.result.now c.deref-3.ensures.value c.if-not-follows.ensures (c.report_named.ensures s)
+returns c again s =
+    fields_followed (limits_of c.args.devices.now c.args.bounds) again s c.args.fields.now c.in-Some.name.now c.in-Some.words.now c.in-Some.ensures.cases.0 c.shell.result c.shell.ensures c.deref-2.result.now c.deref-2.ensures.value c.report_named.result (accesses_shown c.args.reported.now) (accesses_shown c.report_named.new.reported) c.deref-3.result.now c.deref-3.ensures.value c.if-not-follows.ensures (c.report_named.ensures again s)
