@@ -67,9 +67,10 @@ neither is a boot for a check
 
 inside a text that runs
   $ script inner 'bootcmd=run t; load' t=reset
-  $ ubtool rehearse -c inner.config -d devices --limit 1
+  $ ubtool rehearse -c inner.config -d devices --limit 1 a
   run 0
   dev 0 reset
+  unset a
   restarted reset
   more 0
 
@@ -93,7 +94,7 @@ the calls with a first word alone, and lines of calls
   ends 2 first 011 fewest 2 011 end 1
   fails mmc boot
   fails usb reset
-  all 6 states 5
+  all 6 states 4
 
 of two lines the first that says how
   $ printf 'reset\nhalt reset\nrestart reset\n' >twice
@@ -118,9 +119,9 @@ faulty lines
   $ for line in 'restart halt x' 'final restart x' 'steady restart x' 'call x : restart halt' 'restart echo'; do
   >     echo "$line" >faulty && ubtool rehearse --script reset.cmd -d faulty
   > done
-  ubtool: device list line 1: bad line
-  ubtool: device list line 1: bad line
-  ubtool: device list line 1: bad line
-  ubtool: device list line 1: bad line
-  ubtool: device list line 1: built-in command
+  ! ubtool: device list line 1: bad line
+  ! ubtool: device list line 1: bad line
+  ! ubtool: device list line 1: bad line
+  ! ubtool: device list line 1: bad line
+  ! ubtool: device list line 1: built-in command
   [1]
