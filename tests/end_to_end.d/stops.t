@@ -65,6 +65,20 @@ neither is a boot for a check
   fails load
   [1]
 
+nor is one that halts
+  $ ubtool causes --script boot.cmd -d devices --failures 2 --check
+  cause 1 restarted reset
+  fails bootm
+  cause 2 halted poweroff
+  fails bootm
+  fails reset
+  cause 1 restarted reset
+  fails load
+  cause 2 halted poweroff
+  fails load
+  fails reset
+  [1]
+
 inside a text that runs
   $ script inner 'bootcmd=run t; load' t=reset
   $ ubtool rehearse -c inner.config -d devices --limit 1 a
