@@ -1,5 +1,5 @@
 -- Worked examples of the lines of calls, computed.
-use Rattle.std.proofs.Common.{◌≡◌, true, false, [], ◌∷◌, map, Some, None, Ok, Err, refl}
+use Rattle.std.proofs.Common.{◌≡◌, true, false, List, [], ◌∷◌, map, Some, None, Ok, Err, refl}
 use Rattle.std.specs.Prelude.{codes}
 use Rattle.text.specs.Lines.{Text}
 use Rattle.device_list.specs.declared.finish.BoardEnd.TheVariants.{Boots, Restarts, Halts}
@@ -60,8 +60,8 @@ ends_once : map (λ line. listed line) (codes "call go : restart" ∷ codes "cal
 ends_once = refl
 
 in_any_order : map (λ line. listed line) (codes "call go ** : final a=1 steady" ∷ codes "call go ** : steady final a=1" ∷ [])
-    ≡ Ok (one (codes "go") any (record { ends = Some Boots; stays = true; always = None; sets = (Variable (codes "a"), Literal (codes "1")) ∷ [] }))
-    ∷ Ok (one (codes "go") any (record { ends = Some Boots; stays = true; always = None; sets = (Variable (codes "a"), Literal (codes "1")) ∷ [] })) ∷ []
+    ≡ Ok (one (codes "go") any (record { ends = Some Boots; stays = true; always = None; needs = []; sets = (Variable (codes "a"), Literal (codes "1")) ∷ [] }))
+    ∷ Ok (one (codes "go") any (record { ends = Some Boots; stays = true; always = None; needs = []; sets = (Variable (codes "a"), Literal (codes "1")) ∷ [] })) ∷ []
 in_any_order = refl
 
 always_succeeds : listed (codes "call pci enum : always 0") ≡ Ok (one (codes "pci") (record { words = Exactly (codes "enum") ∷ []; more = false }) (record quiet { always = Some true }))
@@ -76,9 +76,58 @@ other_status = refl
 
 -- what follows the status is the next clause, before other clauses and after them
 after_the_status : map (λ line. listed line) (codes "call usb ** : always 0 a=1 final" ∷ codes "call usb ** : final a=1 always 0" ∷ [])
-    ≡ Ok (one (codes "usb") any (record { ends = Some Boots; stays = false; always = Some true; sets = (Variable (codes "a"), Literal (codes "1")) ∷ [] }))
-    ∷ Ok (one (codes "usb") any (record { ends = Some Boots; stays = false; always = Some true; sets = (Variable (codes "a"), Literal (codes "1")) ∷ [] })) ∷ []
+    ≡ Ok (one (codes "usb") any (record { ends = Some Boots; stays = false; always = Some true; needs = []; sets = (Variable (codes "a"), Literal (codes "1")) ∷ [] }))
+    ∷ Ok (one (codes "usb") any (record { ends = Some Boots; stays = false; always = Some true; needs = []; sets = (Variable (codes "a"), Literal (codes "1")) ∷ [] })) ∷ []
 after_the_status = refl
+
+-- ---- `needs`
+
+-- a list of one line, which needs a call that begins so
+abbrev needing : Effect → List Text → Devices
+needing effect needs = record (one (codes "boot") any (record effect { needs = needs })) { needed = needs ∷ [] }
+
+needs_a_name : listed (codes "call boot ** : needs load") ≡ Ok (needing quiet (codes "load" ∷ []))
+needs_a_name = refl
+
+needs_a_first_word : listed (codes "call boot ** : needs load mmc") ≡ Ok (needing quiet (codes "load" ∷ codes "mmc" ∷ []))
+needs_a_first_word = refl
+
+-- the word after the name is no first word if it is a clause, and the clause counts
+needs_before_a_clause : map (λ line. listed line) (codes "call boot ** : needs load final" ∷ codes "call boot ** : needs load steady" ∷ codes "call boot ** : needs load always 0" ∷ codes "call boot ** : needs load a=1" ∷ [])
+    ≡ Ok (needing (record quiet { ends = Some Boots }) (codes "load" ∷ [])) ∷ Ok (needing (record quiet { stays = true }) (codes "load" ∷ []))
+    ∷ Ok (needing (record quiet { always = Some true }) (codes "load" ∷ [])) ∷ Ok (needing (record quiet { sets = (Variable (codes "a"), Literal (codes "1")) ∷ [] }) (codes "load" ∷ [])) ∷ []
+needs_before_a_clause = refl
+
+-- in any order, and what follows the first word is the next clause
+needs_in_any_order : map (λ line. listed line) (codes "call boot ** : needs load mmc final steady" ∷ codes "call boot ** : steady needs load mmc final" ∷ codes "call boot ** : final steady needs load mmc" ∷ [])
+    ≡ (let list = Ok (needing (record quiet { ends = Some Boots; stays = true }) (codes "load" ∷ codes "mmc" ∷ [])) in list ∷ list ∷ list ∷ [])
+needs_in_any_order = refl
+
+-- a status is a word as any other
+needs_a_digit : listed (codes "call boot ** : needs mmc 1 always 0") ≡ Ok (needing (record quiet { always = Some true }) (codes "mmc" ∷ codes "1" ∷ []))
+needs_a_digit = refl
+
+-- without a name, twice, with a third word, with a word that is kept for a clause
+bad_needs : map (λ line. listed line) (codes "call boot : needs" ∷ codes "call boot : needs final" ∷ codes "call boot : needs a=1" ∷ codes "call boot : needs needs" ∷ codes "call boot : needs load needs load" ∷ codes "call boot : needs load mmc 0" ∷ codes "call boot : needs normal" ∷ codes "call boot : needs load normal" ∷ [])
+    ≡ Err (BadLine 1) ∷ Err (BadLine 1) ∷ Err (BadLine 1) ∷ Err (BadLine 1) ∷ Err (BadLine 1) ∷ Err (BadLine 1) ∷ Err (BadLine 1) ∷ Err (BadLine 1) ∷ []
+bad_needs = refl
+
+-- a star, a quote, a `:`, and the name of a built-in command
+odd_needs : map (λ line. listed line) (codes "call boot : needs lo*" ∷ codes "call boot : needs load *" ∷ codes "call boot : needs 'load'" ∷ codes "call boot : needs load 'a'" ∷ codes "call boot : needs :" ∷ codes "call boot : needs load :" ∷ codes "call boot : needs echo" ∷ [])
+    ≡ Err (BadLine 1) ∷ Err (BadLine 1) ∷ Err (BadLine 1) ∷ Err (BadLine 1) ∷ Err (BadLine 1) ∷ Err (BadLine 1) ∷ Err (BadLine 1) ∷ []
+odd_needs = refl
+
+-- each call that is needed is kept once
+needed_calls : elim (listed (codes "call a : needs load\ncall b : needs load mmc\ncall c :\ncall a x : needs load")) [ Ok devices ↦ devices.needed | Err fault ↦ [] ]
+    ≡ (codes "load" ∷ []) ∷ (codes "load" ∷ codes "mmc" ∷ []) ∷ []
+needed_calls = refl
+
+-- in the other lines it is a name, or no setting
+needs_elsewhere : map (λ line. listed line) (codes "needs" ∷ codes "load needs" ∷ [])
+    ≡ Ok (only ((codes "needs", quiet) ∷ [])) ∷ Err (BadLine 1) ∷ []
+needs_elsewhere = refl
+
+-- ---- other clauses
 
 -- the first `:` ends the pattern, and a second one is no clause
 second_colon : listed (codes "call usb : final : steady") ≡ Err (BadLine 1)
@@ -193,6 +242,7 @@ rescan = record {
   commands = (codes "mmc", quiet) ∷ [];
   subs = (codes "mmc", (codes "dev", record quiet { stays = true }) ∷ []) ∷ [];
   calls = (codes "mmc", (record { words = Exactly (codes "dev") ∷ Exactly (codes "0") ∷ []; more = false }, record quiet { always = Some true }) ∷ (record { words = Exactly (codes "dev") ∷ []; more = true }, record quiet { ends = Some Boots }) ∷ (record { words = Exactly (codes "dev") ∷ Exactly (codes "1") ∷ []; more = false }, quiet) ∷ []) ∷ [];
+  needed = [];
   known = [];
   test_stays = false;
 }
@@ -234,10 +284,15 @@ steady_lines : all_steady rescan ≡ record {
   commands = (codes "mmc", record quiet { stays = true }) ∷ [];
   subs = (codes "mmc", (codes "dev", record quiet { stays = true }) ∷ []) ∷ [];
   calls = (codes "mmc", (record { words = Exactly (codes "dev") ∷ Exactly (codes "0") ∷ []; more = false }, record quiet { always = Some true }) ∷ (record { words = Exactly (codes "dev") ∷ []; more = true }, record quiet { ends = Some Boots; stays = true }) ∷ (record { words = Exactly (codes "dev") ∷ Exactly (codes "1") ∷ []; more = false }, record quiet { stays = true }) ∷ []) ∷ [];
+  needed = [];
   known = [];
   test_stays = true;
 }
 steady_lines = refl
+
+-- what a call needs, it needs if its answers stay
+steady_needs : all_steady (needing quiet (codes "load" ∷ [])) ≡ record (needing (record quiet { stays = true }) (codes "load" ∷ [])) { test_stays = true }
+steady_needs = refl
 
 -- as the list would say it
 as_if_said : map (λ text. listed text) (codes "steady load a=1\nfinal steady go\nsteady sub mmc dev\nsteady test" ∷ []) ≡ Ok (all_steady (record (only ((codes "load", record quiet { sets = (Variable (codes "a"), Literal (codes "1")) ∷ [] }) ∷ (codes "go", record quiet { ends = Some Boots }) ∷ [])) { subs = (codes "mmc", (codes "dev", quiet) ∷ []) ∷ [] })) ∷ []

@@ -13,5 +13,6 @@ pub mod PlaceLemmas
 pub mod QuietNames
 pub mod PlainLists
 pub mod SteadyLemmas
+pub mod NeedsLemmas
 pub mod WordLemmas
 pub mod QuoteLemmas

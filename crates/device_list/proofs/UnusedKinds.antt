@@ -98,20 +98,20 @@ module _ (kind : Kind) (P : Devices → Type 0)
 -- ---- what each line says, each call does
 
 -- what a line of a command says
-line-says : (number : ℕ) (h : Heading) (one : DeviceLine) → line_of number h ≡ Ok one
-    → (sets : List Setting) × (settings (is_some h.word) h.words ≡ Some sets) × ((let l : DeviceLine = record { name = h.name; word = h.word; effect = record { ends = h.ends; stays = h.stays; always = None; sets = sets } } in l) ≡ one)
+pub line-says : (number : ℕ) (h : Heading) (one : DeviceLine) → line_of number h ≡ Ok one
+    → (sets : List Setting) × (settings (is_some h.word) h.words ≡ Some sets) × ((let l : DeviceLine = record { name = h.name; word = h.word; effect = record { ends = h.ends; stays = h.stays; always = None; needs = []; sets = sets } } in l) ≡ one)
 line-says number h one e = by (settings (is_some h.word) h.words) refl (is_built_in h.name) refl e
   where
     by : (o : Option (List Setting)) → settings (is_some h.word) h.words ≡ o → (b : Bool) → is_built_in h.name ≡ b → line_with number h o ≡ Ok one
-        → (sets : List Setting) × (settings (is_some h.word) h.words ≡ Some sets) × ((let l : DeviceLine = record { name = h.name; word = h.word; effect = record { ends = h.ends; stays = h.stays; always = None; sets = sets } } in l) ≡ one)
+        → (sets : List Setting) × (settings (is_some h.word) h.words ≡ Some sets) × ((let l : DeviceLine = record { name = h.name; word = h.word; effect = record { ends = h.ends; stays = h.stays; always = None; needs = []; sets = sets } } in l) ≡ one)
     by None found b is f = absurd (let g = f in cc)
     by (Some sets) found true is f = absurd (let g : line_with number h (Some sets) ≡ Err (BuiltIn number) = rw is refl in let k = sym g ∙ f in cc)
     by (Some sets) found false is f =
-        let made : DeviceLine = record { name = h.name; word = h.word; effect = record { ends = h.ends; stays = h.stays; always = None; sets = sets } } in
+        let made : DeviceLine = record { name = h.name; word = h.word; effect = record { ends = h.ends; stays = h.stays; always = None; needs = []; sets = sets } } in
         let g : line_with number h (Some sets) ≡ Ok made = rw is refl in
         (sets, found, ok-same (sym g ∙ f))
 
-changed-all : {V : Type 0} (P : V → Type 0) (change : Option V → V) (es : List (Text × V)) (key : Text) → AllByRecursion (λ e. P e.1) es → P (change None) → ((v : V) → P v → P (change (Some v)))
+pub changed-all : {V : Type 0} (P : V → Type 0) (change : Option V → V) (es : List (Text × V)) (key : Text) → AllByRecursion (λ e. P e.1) es → P (change None) → ((v : V) → P v → P (change (Some v)))
     → AllByRecursion (λ e. P e.1) (changed_at change es key)
 changed-all P change [] key all new more = (new, tt)
 changed-all P change (e ∷ es) key all new more = by (bytes_eq key e.0) (changed-all P change es key all.1 new more)
@@ -120,7 +120,7 @@ changed-all P change (e ∷ es) key all new more = by (bytes_eq key e.0) (change
     by true rest = (more e.1 all.0, all.1)
     by false rest = (all.0, rest)
 
-found-all : {V : Type 0} (P : V → Type 0) (test : Text → Bool) (es : List (Text × V)) (v : V) → AllByRecursion (λ e. P e.1) es → lookup test es ≡ Some v → P v
+pub found-all : {V : Type 0} (P : V → Type 0) (test : Text → Bool) (es : List (Text × V)) (v : V) → AllByRecursion (λ e. P e.1) es → lookup test es ≡ Some v → P v
 found-all P test [] v all e = absurd (let f = e in cc)
 found-all P test (d ∷ es) v all e = by (test d.0) e (found-all P test es v all.1)
   where
@@ -129,16 +129,16 @@ found-all P test (d ∷ es) v all e = by (test d.0) e (found-all P test es v all
     by false f rest = rest f
 
 module _ (Does : Effect → Type 0) (both : (before more : Effect) → Does before → Does more → Does (joint before more)) where
-  abbrev Each : Effects → Type 0
+  abbrev pub Each : Effects → Type 0
   Each = AllByRecursion (λ d. Does d.1)
 
-  abbrev AllDo : Devices → Type 0
+  abbrev pub AllDo : Devices → Type 0
   AllDo devices = Each devices.commands × (AllByRecursion (λ t. Each t.1) devices.subs × (devices.calls ≡ []))
 
   joined_in-do : (effects : Effects) (name : Text) (more : Effect) → Does more → Each effects → Each (changed_at (joint_behind more) effects name)
   joined_in-do effects name more does all = changed-all Does (joint_behind more) effects name all does (λ before d. both before more d does)
 
-  joined-do : (devices : Devices) (name : Text) (word : Option Text) (more : Effect) → Does more → AllDo devices → AllDo (joined_by devices name word more)
+  pub joined-do : (devices : Devices) (name : Text) (word : Option Text) (more : Effect) → Does more → AllDo devices → AllDo (joined_by devices name word more)
   joined-do devices name None more does all = (joined_in-do devices.commands name more does all.0, all.1)
   joined-do devices name (Some word) more does all =
       (all.0, (changed-all Each (joined_behind word more) devices.subs name all.1.0 (does, tt) (λ effects a. joined_in-do effects word more does a), all.1.1))
@@ -161,7 +161,7 @@ module _ (Does : Effect → Type 0) (both : (before more : Effect) → Does befo
       by None is f = absurd (let g = f in cc)
       by (Some effects) is f = found-all Does (bytes_eq word) effects effect (found-all Each (bytes_eq name) devices.subs effects all.1.0 is) f
 
-  lines-do : (devices : Devices) (name : Text) (words : List Text) (effect : Effect) → AllDo devices → line_effect devices name words ≡ Some effect → Does effect
+  pub lines-do : (devices : Devices) (name : Text) (words : List Text) (effect : Effect) → AllDo devices → line_effect devices name words ≡ Some effect → Does effect
   lines-do devices name [] effect all e = named-does devices name effect all e
   lines-do devices name (word ∷ words) effect all e = by (effect_at devices name (Some word)) refl e
     where
@@ -286,7 +286,7 @@ known-unused text devices e none = list-keeps Known NoneKnown command (λ unlike
     command devices number h one is without all = same_known devices one.name one.word one.effect ∙ all
 
 abbrev TakesOutcomes : Effect → Type 0
-TakesOutcomes effect = effect.always ≡ None
+TakesOutcomes effect = (effect.always ≡ None) × (effect.needs ≡ [])
 
 both-take : (before more : Effect) → TakesOutcomes before → TakesOutcomes more → TakesOutcomes (joint before more)
 both-take before more a b = a
@@ -299,7 +299,7 @@ calls-unused text devices e none =
     command : (devices : Devices) (number : ℕ) (h : Heading) (one : DeviceLine) → line_of number h ≡ Ok one → uses h Calls ≡ false → AllDo TakesOutcomes both-take devices → AllDo TakesOutcomes both-take (joined devices one)
     command devices number h one is without all =
         let says = line-says number h one is in
-        joined-do TakesOutcomes both-take devices one.name one.word one.effect (sym (λ i. (says.2 i).effect.always)) all
+        joined-do TakesOutcomes both-take devices one.name one.word one.effect (sym (λ i. (says.2 i).effect.always), sym (λ i. (says.2 i).effect.needs)) all
 
 pub unused_kinds_say_nothing : UnusedKindsSayNothing
 unused_kinds_say_nothing Final text devices e none = end-unused Final (λ h. refl) text devices e none

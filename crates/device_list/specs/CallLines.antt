@@ -1,10 +1,12 @@
 -- The lines of a device list that are about the calls which fit a pattern. Ours.
-use Rattle.std.specs.Prelude.{ℕ, ◌+◌, ◌-◌, ◌==◌, nat_eq, nat_le, ◌&&◌, not, Bool, true, false, List, [], ◌∷◌, ◌++◌, length, take, drop, Option, Some, None, is_some, option_map, Result, Ok, Err, codes, slice_get, if◌then◌else◌}
+use Rattle.std.specs.Prelude.{ℕ, ◌+◌, ◌-◌, ◌==◌, nat_eq, nat_le, ◌&&◌, ◌||◌, not, Bool, true, false, List, [], ◌∷◌, ◌++◌, length, take, drop, Option, Some, None, is_some, option_map, Result, Ok, Err, codes, slice_get, if◌then◌else◌}
 use Rattle.std.specs.Str.{bytes_eq}
 use Rattle.std.specs.List.{list_any, starts_with}
 use Rattle.text.specs.Words.{is_equals}
 use Rattle.text.specs.Lines.{Text}
 use Rattle.builtins.specs.Builtins.{is_built_in}
+use Rattle.device_list.specs.declared.clauses.Awaited.{Awaited}
+use Rattle.device_list.specs.declared.clauses.Awaited.TheVariants.{Clause, Status, Name, FirstWord}
 use Rattle.device_list.specs.Settings.{Setting, Effect, call_setting}
 use Rattle.device_list.specs.Finishes.{finish_named}
 use Rattle.device_list.specs.declared.finish.BoardEnd.{BoardEnd}
@@ -75,15 +77,19 @@ abbrev pub pattern_of : (words : List Text) → Option Pattern
 pattern_of words =
     option_map (λ fixed. record { words = fixed; more = ends_in_rest words }) (pattern_words (fixed_words words))
 
+abbrev pub is_colon : (word : Text) → Bool
+is_colon word = bytes_eq word (codes ":")
+
 -- ---- the clauses of a line
 
--- the clauses so far, and whether the last one was `always`, which a `0` or a `1` follows
+-- the clauses so far, and what the next word may be: a clause; the `0` or the `1` behind `always`; the name behind `needs`;
+-- or the word behind that name, if it is no clause
 pub record Clauses : Type 0 where
   pub effect : Effect
-  pub waits : Bool
+  pub awaited : Awaited
 
 abbrev pub no_clause : Clauses
-no_clause = record { effect = record { ends = None; stays = false; always = None; sets = [] }; waits = false }
+no_clause = record { effect = record { ends = None; stays = false; always = None; needs = []; sets = [] }; awaited = Clause }
 
 -- the answer of a status
 abbrev pub answer_of : (word : Text) → Option Bool
@@ -93,7 +99,7 @@ answer_of word =
 abbrev pub with_always : Clauses → Option Bool → Option Clauses
 with_always clauses None = None
 with_always clauses (Some success) =
-    Some (record { effect = record clauses.effect { always = Some success }; waits = false })
+    Some (record { effect = record clauses.effect { always = Some success }; awaited = Clause })
 
 abbrev pub with_setting : Clauses → Option Setting → Option Clauses
 with_setting clauses None = None
@@ -111,18 +117,62 @@ with_finish clauses None word = with_setting clauses (call_setting word)
 with_finish clauses (Some finish) word =
     once (is_some clauses.effect.ends) (record clauses { effect = record clauses.effect { ends = Some finish } })
 
--- the clauses after one more word
-abbrev pub with_clause : Clauses → (word : Text) → Option Clauses
-with_clause clauses word =
-    if clauses.waits then with_always clauses (answer_of word)
-    else (if bytes_eq word (codes "steady")
+-- the clauses after a word that begins one
+abbrev pub with_new : Clauses → (word : Text) → Option Clauses
+with_new clauses word =
+    if bytes_eq word (codes "steady")
     then once clauses.effect.stays (record clauses { effect = record clauses.effect { stays = true } })
-    else (if bytes_eq word (codes "always")
-    then once (is_some clauses.effect.always) (record clauses { waits = true })
+    else (if bytes_eq word (codes "always") then once (is_some clauses.effect.always) (record clauses { awaited = Status })
+    else (if bytes_eq word (codes "needs")
+    then once (not (length clauses.effect.needs == 0)) (record clauses { awaited = Name })
     else with_finish clauses (finish_named word) word))
 
+-- the words of clauses; `normal` is kept for one
+abbrev pub is_clause_word : (word : Text) → Bool
+is_clause_word word = is_some (finish_named word)
+    || (list_any (bytes_eq word) (codes "steady" ∷ codes "always" ∷ codes "needs" ∷ codes "normal" ∷ []))
+
+abbrev pub has_special : (word : Text) → Bool
+has_special word = list_any is_star word || (list_any is_quote word || list_any is_equals word)
+
+-- whether a word may stand behind `needs`: it is no clause and no `:`, and has no star and no quote
+abbrev pub is_plain : (word : Text) → Bool
+is_plain word = not (is_clause_word word) && (not (is_colon word) && not (has_special word))
+
+-- one more word of the call that is needed
+abbrev pub with_needed : Clauses → (word : Text) → Awaited → Clauses
+with_needed clauses word awaited =
+    record { effect = record clauses.effect { needs = clauses.effect.needs ++ word ∷ [] }; awaited = awaited }
+
+-- the name of a built-in command is none of a call that can be needed
+abbrev pub with_name : Clauses → (word : Text) → Option Clauses
+with_name clauses word =
+    if is_plain word && not (is_built_in word) then Some (with_needed clauses word FirstWord) else None
+
+abbrev pub with_first_word : Clauses → (word : Text) → Option Clauses
+with_first_word clauses word =
+    if is_plain word then Some (with_needed clauses word Clause)
+    else with_new (record clauses { awaited = Clause }) word
+
+-- the clauses after one more word
+abbrev pub taken : Awaited → Clauses → (word : Text) → Option Clauses
+taken Clause clauses word = with_new clauses word
+taken Status clauses word = with_always clauses (answer_of word)
+taken Name clauses word = with_name clauses word
+taken FirstWord clauses word = with_first_word clauses word
+
+abbrev pub with_clause : Clauses → (word : Text) → Option Clauses
+with_clause clauses word = taken clauses.awaited clauses word
+
+-- `always` and `needs` are not the last word
+abbrev pub may_end : Awaited → Bool
+may_end Clause = true
+may_end Status = false
+may_end Name = false
+may_end FirstWord = true
+
 abbrev pub clauses_of : Clauses → List Text → Option Clauses
-clauses_of clauses [] = if clauses.waits then None else Some clauses
+clauses_of clauses [] = if may_end clauses.awaited then Some clauses else None
 clauses_of clauses (word ∷ words) =
     elim (with_clause clauses word) [ None ↦ None | Some next ↦ clauses_of next words ]
 
@@ -156,9 +206,6 @@ abbrev pub call_between : ℕ → (pattern clauses : List Text) → Result Call 
 call_between number [] clauses = Err (BadLine number)
 call_between number (name ∷ pattern) clauses =
     if has_quote (name ∷ pattern) then Err (BadLine number) else call_with number name (pattern_of pattern) (clauses_of no_clause clauses)
-
-abbrev pub is_colon : (word : Text) → Bool
-is_colon word = bytes_eq word (codes ":")
 
 -- how many words come before the first `:`
 abbrev pub colon_place : (words : List Text) → ℕ

@@ -1,10 +1,11 @@
 -- The commands of the maps, seen as the list of definitions.
-use Rattle.std.specs.Prelude.{◌≡◌, Bool, true, false, List, Some, None, map}
+use Rattle.std.specs.Prelude.{◌≡◌, Bool, true, false, List, Option, Some, None, map}
 use Rattle.std.specs.Borrow.{Bor}
 use Rattle.std.specs.Prelude.{Vec}
 use Rattle.std.specs.declared.alloc.Global.{Global}
 use Rattle.indexmap.specs.IndexMap.{IndexMap}
 use Rattle.text.specs.Lines.{Text}
+use Rattle.commands.specs.TextsShown.{texts}
 use Rattle.device_list.specs.DeviceList.{Effect, Effects}
 use Rattle.device_list.specs.CallLines as calls
 use Rattle.device_list.specs.DevicesShown.{Bytes, setting_shown, settings_shown, pattern_shown}
@@ -15,13 +16,13 @@ use Rattle.device_list.specs.declared.call_line.CallLine.{CallLine}
 use Rattle.device_list.specs.declared.call_line.Call.{Call}
 
 abbrev pub listed_shown : Listed → Effect
-listed_shown l = record { ends = l.ends; stays = l.stays; always = l.always; sets = settings_shown l.sets }
+listed_shown l = record { ends = l.ends; stays = l.stays; always = l.always; needs = texts l.needs.items; sets = settings_shown l.sets }
 
 abbrev pub found_shown : Bor Listed → Effect
 found_shown l = listed_shown l.now
 
 abbrev pub lent_effect : LentEffect → Effect
-lent_effect e = record { ends = e.ends; stays = e.stays; always = e.always; sets = map setting_shown e.sets.now }
+lent_effect e = record { ends = e.ends; stays = e.stays; always = e.always; needs = texts e.needs.now; sets = map setting_shown e.sets.now }
 
 abbrev pub commands_shown : List (Bytes × Listed) → Effects
 commands_shown = map (λ c. (c.0.items, listed_shown c.1))
@@ -32,18 +33,21 @@ table_shown table = commands_shown table.entries
 abbrev pub subs_shown : {S : Type 0} → List (Bytes × IndexMap Bytes Listed S) → List (Text × Effects)
 subs_shown = map (λ c. (c.0.items, table_shown c.1))
 
+abbrev pub calls_needed : List (Vec Bytes Global) → List (List Text)
+calls_needed = map (λ n. texts n.items)
+
 -- ---- lines of calls
 
 abbrev pub clauses_shown : Clauses → calls.Clauses
 clauses_shown c = record {
-  effect = record { ends = c.ends; stays = c.stays; always = c.always; sets = settings_shown c.sets };
-  waits = c.waits;
+  effect = record { ends = c.ends; stays = c.stays; always = c.always; needs = texts c.needs.items; sets = settings_shown c.sets };
+  awaited = c.awaited;
 }
 
--- one more word is a clause, or is none
-abbrev pub TakesClause : calls.Clauses → (word : Text) → calls.Clauses → (taken : Bool) → Type 0
-TakesClause old word new true = calls.with_clause old word ≡ Some new
-TakesClause old word new false = calls.with_clause old word ≡ None
+-- one more word is a clause, or a part of one, or it is none
+abbrev pub IsTaken : (after : Option calls.Clauses) → calls.Clauses → (taken : Bool) → Type 0
+IsTaken after new true = after ≡ Some new
+IsTaken after new false = after ≡ None
 
 abbrev pub line_shown : CallLine → calls.Pattern × Effect
 line_shown l = (pattern_shown l.pattern, listed_shown l.listed)

@@ -41,6 +41,7 @@ whole_effect (one ∷ more) = Some (record {
   ends = first_of (map (λ l. l.effect.ends) (one ∷ more));
   stays = list_any (λ l. l.effect.stays) (one ∷ more);
   always = one.effect.always;
+  needs = one.effect.needs;
   sets = flat_map (λ l. l.effect.sets) (one ∷ more);
 })
 
@@ -53,7 +54,7 @@ LinesAreJoined = (text : Text) (devices : Devices) → listed text ≡ Ok device
 
 -- a command that only succeeds or fails
 abbrev pub quiet : Effect
-quiet = record { ends = None; stays = false; always = None; sets = [] }
+quiet = record { ends = None; stays = false; always = None; needs = []; sets = [] }
 
 abbrev pub is_name_alone : Text → Bool
 is_name_alone line = nat_le (length (device_words line)) 1

@@ -178,7 +178,8 @@ SaysNothing Steady devices = EachCall (λ effect. effect.stays ≡ false) device
 SaysNothing Sub devices = devices.subs ≡ []
 SaysNothing Settings devices = EachCall (λ effect. effect.sets ≡ []) devices
 SaysNothing Known devices = devices.known ≡ []
-SaysNothing Calls devices = EachCall (λ effect. effect.always ≡ None) devices × (devices.calls ≡ [])
+SaysNothing Calls devices =
+    EachCall (λ effect. (effect.always ≡ None) × (effect.needs ≡ [])) devices × (devices.calls ≡ [])
 
 -- a `call` line may say something of each kind
 abbrev pub may_say : List Kind → Kind → Bool

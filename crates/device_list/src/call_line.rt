@@ -43,7 +43,7 @@ pub(crate) fn first_fitting<'a>(lines: &'a [CallLine], words: &[Vec<u8>]) -> Opt
 }
 
 /// Whether a word holds `*`.
-fn has_star(word: &[u8]) -> bool
+pub(crate) fn has_star(word: &[u8]) -> bool
     ensures { result ≡ list_any is_star word.now }
 {
     word.iter().any(|byte| *byte == b'*')
@@ -62,7 +62,7 @@ fn has_quote(words: &[&[u8]]) -> bool
 }
 
 /// Whether a word is `:`.
-fn is_colon(word: &[u8]) -> bool
+pub(crate) fn is_colon(word: &[u8]) -> bool
     ensures { result ≡ is_colon word.now }
 {
     word == b":".as_slice()

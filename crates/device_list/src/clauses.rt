@@ -1,12 +1,29 @@
 //! The clauses of a list's lines of calls.
-ghost use Rattle.std.specs.Prelude.{◌≡◌, not, true, map, option_map, IfOk};
-ghost use Rattle.device_list.specs.CallLines.{answer_of, clauses_of, effect_said, no_clause};
-ghost use Rattle.device_list.specs.CommandsShown.{clauses_shown, listed_shown, TakesClause};
+ghost use Rattle.std.specs.Prelude.{◌≡◌, not, true, map, option_map, IfOk, OnOk};
+ghost use Rattle.device_list.specs.CallLines.{answer_of, clauses_of, effect_said, is_clause_word, is_plain, has_special, may_end, no_clause, with_clause, with_first_word, with_name, with_needed, with_new};
+ghost use Rattle.device_list.specs.CommandsShown.{clauses_shown, listed_shown, IsTaken};
 
+use crate::call_line::{has_star, is_colon};
+use crate::device_line::has_equals;
 use crate::finish::{BoardEnd, finish_named};
 use crate::listed::Listed;
+use crate::quotes::has_quote;
 use crate::setting::{Setting, call_setting};
+use builtins::is_built_in;
 use std::alloc::{AllocError, Global};
+
+/// What the next word may be.
+#[derive(Clone, Copy)]
+pub(crate) enum Awaited {
+    /// A clause.
+    Clause,
+    /// The `0` or the `1` behind `always`.
+    Status,
+    /// The name behind `needs`.
+    Name,
+    /// The word behind that name, if it is no clause.
+    FirstWord,
+}
 
 /// The clauses so far.
 #[derive(Drop)]
@@ -14,9 +31,44 @@ pub(crate) struct Clauses {
     ends: Option<BoardEnd>,
     stays: bool,
     always: Option<bool>,
+    needs: Vec<Vec<u8>>,
     sets: Vec<Setting>,
-    /// Whether the last one was `always`, which a `0` or a `1` follows.
-    waits: bool,
+    awaited: Awaited,
+}
+
+/// Whether no further word has to follow.
+fn may_end(awaited: Awaited) -> bool
+    ensures { result ≡ may_end awaited }
+{
+    match awaited {
+        Awaited::Clause | Awaited::FirstWord => true,
+        Awaited::Status | Awaited::Name => false,
+    }
+}
+
+/// Whether a word is one of clauses.
+fn is_clause_word(word: &[u8]) -> bool
+    ensures { result ≡ is_clause_word word.now }
+{
+    finish_named(word).is_some()
+        || word == b"steady".as_slice()
+        || word == b"always".as_slice()
+        || word == b"needs".as_slice()
+        || word == b"normal".as_slice()
+}
+
+/// Whether a word has a byte that no word behind `needs` has.
+fn has_special(word: &[u8]) -> bool
+    ensures { result ≡ has_special word.now }
+{
+    has_star(word) || has_quote(word) || has_equals(word)
+}
+
+/// Whether a word may stand behind `needs`.
+fn is_plain(word: &[u8]) -> bool
+    ensures { result ≡ is_plain word.now }
+{
+    !is_clause_word(word) && !is_colon(word) && !has_special(word)
 }
 
 /// The answer that a status means: whether the call succeeds.
@@ -50,26 +102,76 @@ impl Clauses {
             ends: None,
             stays: false,
             always: None,
+            needs: Vec::new(alloc),
             sets: Vec::new(alloc),
-            waits: false,
+            awaited: Awaited::Clause,
         }
     }
 
     /// Takes one more word. Returns whether it is a clause, or a part of one.
     fn add(&mut self, alloc: Global, word: &[u8]) -> Result<bool, AllocError>
-        ensures { IfOk result (TakesClause (clauses_shown self.old) word.now (clauses_shown self.new)) }
+        ensures { IfOk result (IsTaken (with_clause (clauses_shown self.old) word.now) (clauses_shown self.new)) }
     {
-        if self.waits {
-            self.waits = false;
-            self.always = answer_of(word);
-            return Ok(self.always.is_some());
+        match self.awaited {
+            Awaited::Clause => self.add_new(alloc, word),
+            Awaited::Status => {
+                self.awaited = Awaited::Clause;
+                self.always = answer_of(word);
+                Ok(self.always.is_some())
+            }
+            Awaited::Name => self.add_name(alloc, word),
+            Awaited::FirstWord => self.add_first_word(alloc, word),
         }
+    }
+
+    /// Takes one more word of the call that is needed.
+    fn add_needed(&mut self, alloc: Global, word: &[u8], awaited: Awaited) -> Result<(), AllocError>
+        ensures { OnOk result (clauses_shown self.new
+            ≡ with_needed (clauses_shown self.old) word.now awaited) }
+    {
+        let word = Vec::from_slice(alloc, word)?;
+        self.needs.push(word)?;
+        self.awaited = awaited;
+        Ok(())
+    }
+
+    /// Takes the name behind `needs`, if it is one that may stand there.
+    fn add_name(&mut self, alloc: Global, word: &[u8]) -> Result<bool, AllocError>
+        ensures { IfOk result (IsTaken (with_name (clauses_shown self.old) word.now) (clauses_shown self.new)) }
+    {
+        if !is_plain(word) || is_built_in(word) {
+            return Ok(false);
+        }
+        self.add_needed(alloc, word, Awaited::FirstWord)?;
+        Ok(true)
+    }
+
+    /// Takes the word behind that name, or else a word that begins a clause.
+    fn add_first_word(&mut self, alloc: Global, word: &[u8]) -> Result<bool, AllocError>
+        ensures { IfOk result (IsTaken (with_first_word (clauses_shown self.old) word.now) (clauses_shown self.new)) }
+    {
+        if is_plain(word) {
+            self.add_needed(alloc, word, Awaited::Clause)?;
+            return Ok(true);
+        }
+        self.awaited = Awaited::Clause;
+        self.add_new(alloc, word)
+    }
+
+    /// Takes a word that begins a clause. Returns whether it does.
+    fn add_new(&mut self, alloc: Global, word: &[u8]) -> Result<bool, AllocError>
+        ensures { IfOk result (IsTaken (with_new (clauses_shown self.old) word.now) (clauses_shown self.new)) }
+    {
         if word == b"steady".as_slice() {
             return Ok(set_once(&mut self.stays));
         }
         if word == b"always".as_slice() {
-            self.waits = true;
+            self.awaited = Awaited::Status;
             return Ok(self.always.is_none());
+        }
+        if word == b"needs".as_slice() {
+            self.awaited = Awaited::Name;
+            return Ok(self.needs.is_empty());
         }
         if let Some(finish) = finish_named(word) {
             let first = self.ends.is_none();
@@ -91,6 +193,7 @@ impl Clauses {
             ends: self.ends,
             stays: self.stays && self.always.is_none(),
             always: self.always,
+            needs: self.needs,
             sets: self.sets,
         }
     }
@@ -107,7 +210,7 @@ pub(crate) fn listed_of(alloc: Global, words: &[&[u8]]) -> Result<Option<Listed>
             return Ok(None);
         }
     }
-    if clauses.waits {
+    if !may_end(clauses.awaited) {
         return Ok(None);
     }
     Ok(Some(clauses.listed()))

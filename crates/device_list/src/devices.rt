@@ -4,10 +4,11 @@ ghost use Rattle.std.specs.List.{list_any};
 ghost use Rattle.std.specs.Str.{bytes_eq};
 ghost use Rattle.device_list.specs.DeviceList.{effect_of, computed_by, is_listed, all_steady};
 ghost use Rattle.device_list.specs.DeviceListAnswers.{IsListed};
-ghost use Rattle.device_list.specs.CommandsShown.{lent_effect};
+ghost use Rattle.device_list.specs.CommandsShown.{lent_effect, calls_needed};
 ghost use Rattle.commands.specs.ComputedShown.{call_shown};
 ghost use Rattle.device_list.specs.DeviceList as spec;
 ghost use Rattle.device_list.specs.NamedPlaces.{ArePlaced, IsPlaced};
+ghost use Rattle.device_list.specs.NeededCalls.{KeepsNeeds};
 ghost use Rattle.commands.specs.TextsShown.{texts};
 
 use crate::device_tables::{DeviceTables, Places};
@@ -31,12 +32,13 @@ pub struct Devices {
 impl Model for Devices {
     ghost use Rattle.device_list.specs.DeviceList as spec;
     ghost use Rattle.device_list.specs.NamedPlaces.{ArePlaced};
+    ghost use Rattle.device_list.specs.NeededCalls.{KeepsNeeds};
 
     ghost Value = { spec.Devices };
 
     ghost view = { λ d. spec.steady_if d.all_steady d.tables };
 
-    ghost invariant = { λ d. ArePlaced d.tables d.names.entries };
+    ghost invariant = { λ d. ArePlaced d.tables d.names.entries × KeepsNeeds d.tables };
 }
 
 /// Where the tables have the name at a place, if it is this name.
@@ -61,7 +63,9 @@ impl Devices {
     /// be; NAME is `env`, `itest` or `setexpr`. `call PATTERN : CLAUSES` is about the calls of a command that
     /// fit a pattern: its name, and then the words of the call, of which `*` is any one, one that ends with
     /// `*` each that starts so, and a last `**` any number. Clauses are `final`, `steady`, `always 0` and
-    /// `always 1` (the only status of the call, which then takes no outcome), and settings, in any order;
+    /// `always 1` (the only status of the call, which then takes no outcome), `needs NAME` and
+    /// `needs NAME WORD` (the call fails without an outcome, unless a call of NAME, whose first word is
+    /// WORD, succeeded before in the run), and settings, in any order;
     /// there, `VAR=@N` and `VAR=@last` have a word of the call as the value, and a value may have parts in
     /// single quotes, with blanks in them. `absent NAME` is `call NAME ** : always 1`. Spaces, tabs and
     /// carriage returns round a line are dropped; spaces and tabs separate its words. Lines without a word, and lines that begin with `#`, are
@@ -75,7 +79,7 @@ impl Devices {
     /// first faulty line is refused: `BadLine` where it holds NUL, or a further word has no `=`, an
     /// empty variable, one that begins with `-`, or in a `sub` line one that begins with `@` and is no
     /// word of the call; in a line of calls, where a clause is none or is there twice, a quote is not closed or
-    /// stands in no value, the name is missing or holds `*`, or `**` is not last; else `BuiltIn` where its name is that of
+    /// stands in no value, the name is missing or holds `*`, `needs` has no name behind it, or `**` is not last; else `BuiltIn` where its name is that of
     /// a built-in command.
     pub fn parse(alloc: Global, text: &[u8]) -> Result<Self, DevicesError>
         ensures { IsListed text.now result }
@@ -144,6 +148,14 @@ impl Devices {
         ensures { call_shown result ≡ computed_by self.now name.now (texts words.now) }
     {
         self.tables.computed(name, words)
+    }
+
+    /// How the calls begin that other calls of the list need, each once: the words, the name first.
+    pub fn needed(&self) -> &[Vec<Vec<u8>>]
+        ensures needed { calls_needed result.now ≡ (self.now).needed }
+        ensures kept { KeepsNeeds self.now }
+    {
+        self.tables.needed()
     }
 
     /// Whether the answers of `test -e` stay.

@@ -12,6 +12,9 @@ pub struct Effect<'a> {
     pub stays: bool,
     /// The only answer that it has, if it has one: whether it succeeds.
     pub always: Option<bool>,
+    /// How the words of a call begin, its name first, that has to succeed before: none, if it needs no
+    /// call.
+    pub needs: &'a [Vec<u8>],
     /// What it sets in the environment, in order.
     pub sets: &'a [Setting],
 }
@@ -22,6 +25,7 @@ pub(crate) struct Listed {
     pub(crate) ends: Option<BoardEnd>,
     pub(crate) stays: bool,
     pub(crate) always: Option<bool>,
+    pub(crate) needs: Vec<Vec<u8>>,
     pub(crate) sets: Vec<Setting>,
 }
 
@@ -37,6 +41,7 @@ impl Listed {
             ends: self.ends,
             stays: self.stays,
             always: self.always,
+            needs: &self.needs,
             sets: &self.sets,
         }
     }

@@ -69,13 +69,14 @@ in_joined = refl
 -- ---- a device list: a line of a name, a `sub` line, a computed command
 
 abbrev quiet : Effect
-quiet = record { ends = None; stays = false; always = None; sets = [] }
+quiet = record { ends = None; stays = false; always = None; needs = []; sets = [] }
 
 abbrev list : Devices
 list = record {
   commands = (codes "load", quiet) ∷ [];
   subs = (codes "mmc", (codes "dev", quiet) ∷ []) ∷ [];
   calls = [];
+  needed = [];
   known = codes "itest" ∷ [];
   test_stays = false;
 }

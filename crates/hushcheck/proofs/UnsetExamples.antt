@@ -59,13 +59,14 @@ held_command = refl
 -- ---- a device list: a variable, the second word of a call, and its last one
 
 abbrev effect : List Setting → Effect
-effect sets = record { ends = None; stays = false; always = None; sets = sets }
+effect sets = record { ends = None; stays = false; always = None; needs = []; sets = sets }
 
 abbrev list : Devices
 list = record {
   commands = (codes "load", effect ((Variable (codes "filesize"), Literal (codes "1")) ∷ [])) ∷ [];
   subs = (codes "part", (codes "uuid", effect ((WordAt 1, Literal (codes "1")) ∷ (LastWord, Literal (codes "1")) ∷ [])) ∷ []) ∷ [];
   calls = [];
+  needed = [];
   known = [];
   test_stays = false;
 }
