@@ -3,3 +3,4 @@ pub mod TableLemmas
 pub mod PresentLemmas
 pub mod KeptScripts
 pub mod StateLemmas
+pub mod LogLemmas

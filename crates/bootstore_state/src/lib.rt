@@ -10,7 +10,7 @@ mod store;
 mod table;
 
 pub use frame::{At, Frame, FrameKind};
-pub use log::LogEntry;
+pub use log::{LogEntry, has_succeeded};
 pub use present::{Present, Scope};
 pub use scripts::{Scripts, TextFound, read_script};
 pub use store::{Store, StoreError};

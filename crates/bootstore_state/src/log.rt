@@ -1,5 +1,8 @@
 //! The log of device commands.
-ghost use Rattle.std.specs.Prelude.{◌≡◌, IfOk};
+ghost use Rattle.std.specs.Prelude.{◌≡◌, ◌&&◌, IfOk, length, take};
+ghost use Rattle.std.specs.List.{list_any};
+ghost use Rattle.rehearse_terms.specs.State.{same_words};
+ghost use Rattle.text.specs.TextsShown.{bytes_of_words};
 
 use std::alloc::AllocError;
 use std::marker::Model;
@@ -31,8 +34,39 @@ impl Model for LogEntry {
     } };
 }
 
+/// Whether the first words are these.
+fn begins(words: &[Vec<u8>], start: &[Vec<u8>]) -> bool
+    ensures { result ≡ same_words (bytes_of_words start.now)
+        (take (length (bytes_of_words start.now)) (bytes_of_words words.now)) }
+{
+    let count = start.len().min(words.len());
+    start == &words[..count]
+}
+
+/// Whether a command of a log has succeeded whose words, its name first, begin so. Looks at each entry
+/// until it is found.
+pub fn has_succeeded(log: &[LogEntry], start: &[Vec<u8>]) -> bool
+    ensures { result ≡ list_any (λ e. e.success
+        && same_words (bytes_of_words start.now) (take (length (bytes_of_words start.now)) e.words)) log.now }
+{
+    for entry in log {
+        if entry.has_begun(start) {
+            return true;
+        }
+    }
+    false
+}
+
 impl LogEntry {
     ghost use Rattle.std.specs.Prelude.{not, ◌&&◌};
+
+    /// Whether it has succeeded, and its words begin so.
+    fn has_begun(&self, start: &[Vec<u8>]) -> bool
+        ensures { result ≡ (self.now.success
+            && same_words (bytes_of_words start.now) (take (length (bytes_of_words start.now)) self.now.words)) }
+    {
+        self.success && begins(&self.words, start)
+    }
 
     /// Whether it has an answer that stays, and was not told it again.
     pub fn has_answer(&self) -> bool
