@@ -12,6 +12,7 @@ use Rattle.device_list.specs.Called.{Called, BuiltIn, Device, NoCommand, called_
 use Rattle.commands.specs.BuiltInCommands.{ChangesVariables, WritesText, RunsTexts, Tests, Exits}
 use Rattle.rehearse_rules.specs.ByShell.{unread, leaves_in, status_of_exit, asks_in, truth_in, fields_in, turns_in, skips_rest, status_of_loop, follows, assigned_in, reads_again}
 use Rattle.rehearse_rules.specs.Execution.{Limits, Answer, Normal, Exit, Ended, Dry, Ending, CutDevices, CutSteps, Size, go_on, set_status, status_when, goes, holds, begin, take_outcome, with_outcome, outcome_when, told, told_again, tell_or_take, device, Request, logged, set_environment, finish, text_end, run_text, run_all, command, simple, sized, assign, turns, begin_turn, for_each, exec_script, exec_list, exec_joined, exec_command, exec_arms, exec, Unsupported, assign_local, request_of, test_request, started_text}
+use Rattle.rehearse_rules.specs.Needs.{effect_now}
 use Rattle.rehearse_rules.specs.Runs.{Task, run_on, state_of, steps}
 use Rattle.hushlang_old.proofs.TreeByShellLemmas.{trees_in_are_proper}
 use Rattle.rehearse_terms.specs.declared.shell.Shell.{Shell}
@@ -132,7 +133,7 @@ module _ (limits : Limits) where
     command-ends again (BuiltIn Tests) name ws t h r = Ends-if (asks_in limits.shell ws) (device limits (test_request limits name ws) t) (Normal (set_status (status_when (truth_in limits.shell ws)) t)) (λ e. device-ends t (test_request limits name ws) h) (λ e. h)
     command-ends again (BuiltIn (WritesText written)) name ws t h r = h
     command-ends again (BuiltIn Exits) name ws t h r = leave-ends (leaves_in limits.shell again ws) (status_of_exit limits.shell ws) t h
-    command-ends again (Device effect) name ws t h r = device-ends t (request_of name ws effect) h
+    command-ends again (Device effect) name ws t h r = device-ends t (request_of name ws (effect_now t.log effect)) h
     command-ends again NoCommand name ws t h r = (h, tt)
 
     simple-ends : (again : Bool) (fs : List Text) (t : State) → IsWithin t → limits.step_bound < n + t.steps → Ends (simple limits again script fs t)

@@ -3,15 +3,16 @@ use Rattle.std.proofs.Common.{◌≡◌, ℕ, zero, suc, Bool, true, false, List
 use Rattle.hushlang.specs.Tree as tree
 use Rattle.hushlang.specs.Tree.{Script, AndOr, Joined, Command, Arms}
 use Rattle.hushlang.specs.Expansion.{size, most_bytes}
-use Rattle.builtins.specs.Builtins.{Builtin, builtin_of}
+use Rattle.builtins.specs.Builtins.{Builtin, SetEnv, Run, Test, Echo, True, False, Leave, builtin_of}
 use Rattle.commands.specs.Computed.{Computed}
 use Rattle.device_list.specs.Called.{Called, BuiltIn, Device, NoCommand, called_by}
 use Rattle.commands.specs.BuiltInCommands.{ChangesVariables, WritesText, RunsTexts, Tests, Exits, carried, deed_of}
 use Rattle.device_list.specs.DeviceList.{Effect, computed_by, effect_of}
 use Rattle.rehearse_rules.proofs.TakenOutcomes.{skipped}
 use Rattle.rehearse_terms.specs.declared.shell.Shell.{Shell}
-use Rattle.rehearse_rules.specs.ByShell.{unread, reads_again, leaves_in, status_of_exit, asks_in, truth_in, fields_in, turns_in, skips_rest, status_of_loop, follows, assigned_in}
+use Rattle.rehearse_rules.specs.ByShell.{unread, reads_again, leaves_in, status_of_exit, asks_in, question_in, truth_in, fields_in, turns_in, skips_rest, status_of_loop, follows, assigned_in}
 use Rattle.rehearse_rules.specs.Execution.{Limits, Answer, Normal, Exit, Ended, Dry, CutSteps, Size, Request, go_on, set_status, status_when, goes, holds, begin, device, test_effect, text_end, run_text, run_all, command, simple, sized, assign, turns, begin_turn, for_each, exec_script, exec_list, exec_joined, exec_command, exec_arms, exec, Unsupported, assign_local, request_of, test_request, started_text}
+use Rattle.rehearse_rules.specs.Needs.{effect_now}
 use Rattle.rehearse_rules.specs.Runs.{state_of}
 use Rattle.rehearse_terms.specs.State.{Text, get, LoggedCommand, State}
 use Rattle.rehearse_rules.specs.Parameters.{parameters_in}
@@ -51,24 +52,35 @@ module _ (P : List LoggedCommand → Type 0) where
       let value : Text = assigned_in shell (parameters_in s.memory) pair.1 in
       keeps-if (nat_le (length value) most_bytes) (assign shell pairs (assign_local shell pair.0 value s)) (Ended Size s) (keeps-assign shell pairs (assign_local shell pair.0 value s) h) h
 
-  -- `Allowed` is what the device list says of the effects that device commands have
-  module _ (limits : Limits) (Allowed : Effect → Type 0) (test : Allowed (test_effect limits.devices))
-      (calls : (name : Text) (words : List Text) (effect : Effect) → effect_of limits.devices name words ≡ Some effect → Allowed effect)
-      (step : (r : Request) → r.again ≡ false → Allowed r.effect → KeepsLog (device limits r)) where
-    abbrev IsAllowed : Called → Type 0
-    IsAllowed (Device effect) = Allowed effect
-    IsAllowed (BuiltIn deed) = Unit {0}
-    IsAllowed NoCommand = Unit {0}
+  -- `Allowed` is what the device list says of the effects that the calls of device commands have, at a log
+  module _ (limits : Limits) (Allowed : List LoggedCommand → (name : Text) → (words : List Text) → Effect → Type 0)
+      (test : (name : Text) → builtin_of name ≡ Some Test → (log : List LoggedCommand) (words : List Text) → Allowed log name words (test_effect limits.devices))
+      (calls : (name : Text) (words : List Text) (effect : Effect) → effect_of limits.devices name words ≡ Some effect → (log : List LoggedCommand) → Allowed log name words (effect_now log effect))
+      (step : (r : Request) → r.again ≡ false → (s : State) → Allowed s.log r.name r.words r.effect → Holds s → Holds (state_of (device limits r s))) where
+    abbrev IsAllowed : (name : Text) → (words : List Text) → Called → Type 0
+    IsAllowed name words (Device effect) = (log : List LoggedCommand) → Allowed log name words (effect_now log effect)
+    IsAllowed name words (BuiltIn (ChangesVariables change)) = Unit {0}
+    IsAllowed name words (BuiltIn RunsTexts) = Unit {0}
+    IsAllowed name words (BuiltIn Tests) = (log : List LoggedCommand) (question : List Text) → Allowed log name question (test_effect limits.devices)
+    IsAllowed name words (BuiltIn (WritesText written)) = Unit {0}
+    IsAllowed name words (BuiltIn Exits) = Unit {0}
+    IsAllowed name words NoCommand = Unit {0}
 
-    called_allowed : (name : Text) (words : List Text) → IsAllowed (called_by limits.devices name words)
-    called_allowed name words = by (computed_by limits.devices name words) (builtin_of name) (effect_of limits.devices name words) refl
+    called_allowed : (name : Text) (words : List Text) → IsAllowed name words (called_by limits.devices name words)
+    called_allowed name words = by (computed_by limits.devices name words) (builtin_of name) refl (effect_of limits.devices name words) refl
       where
-        by : (o : Option Computed) (b : Option Builtin) (f : Option Effect) → effect_of limits.devices name words ≡ f
-            → IsAllowed (elim o [ Some computed ↦ BuiltIn (ChangesVariables (λ ws. carried computed)) | None ↦ elim b [ Some builtin ↦ BuiltIn (deed_of builtin) | None ↦ elim f [ Some effect ↦ Device effect | None ↦ NoCommand ] ] ])
-        by (Some computed) b f e = tt
-        by None (Some builtin) f e = tt
-        by None None None e = tt
-        by None None (Some effect) e = calls name words effect e
+        by : (o : Option Computed) (b : Option Builtin) → builtin_of name ≡ b → (f : Option Effect) → effect_of limits.devices name words ≡ f
+            → IsAllowed name words (elim o [ Some computed ↦ BuiltIn (ChangesVariables (λ ws. carried computed)) | None ↦ elim b [ Some builtin ↦ BuiltIn (deed_of builtin) | None ↦ elim f [ Some effect ↦ Device effect | None ↦ NoCommand ] ] ])
+        by (Some computed) b named f e = tt
+        by None (Some SetEnv) named f e = tt
+        by None (Some Run) named f e = tt
+        by None (Some Test) named f e = λ log question. test name named log question
+        by None (Some Echo) named f e = tt
+        by None (Some True) named f e = tt
+        by None (Some False) named f e = tt
+        by None (Some Leave) named f e = tt
+        by None None named None e = tt
+        by None None named (Some effect) e = calls name words effect e
 
     keeps-begin : (f : State → Answer) → KeepsLog f → KeepsLog (begin limits f)
     keeps-begin f h s k = keeps-if (nat_lt s.steps limits.step_bound) (f (record s { steps = suc s.steps })) (Ended CutSteps s) (h (record s { steps = suc s.steps }) k) k
@@ -97,16 +109,16 @@ module _ (P : List LoggedCommand → Type 0) where
       keeps-leave (Some n) other s h = h
       keeps-leave None other s h = h
 
-      keeps-command : (again : Bool) (c : Called) (name : Text) (words : List Text) → IsAllowed c → KeepsLog (command limits again script c name words)
+      keeps-command : (again : Bool) (c : Called) (name : Text) (words : List Text) → IsAllowed name words c → KeepsLog (command limits again script c name words)
       keeps-command again (BuiltIn (ChangesVariables change)) name words allowed s h = h
       keeps-command again (BuiltIn RunsTexts) name [] allowed s h = h
       keeps-command again (BuiltIn RunsTexts) name (w ∷ ws) allowed s h = keeps-run (w ∷ ws) s h
       keeps-command again (BuiltIn Tests) name words allowed s h =
           let r : Request = test_request limits name words in
-          keeps-if (asks_in limits.shell words) (device limits r s) (Normal (set_status (status_when (truth_in limits.shell words)) s)) (step r refl test s h) h
+          keeps-if (asks_in limits.shell words) (device limits r s) (Normal (set_status (status_when (truth_in limits.shell words)) s)) (step r refl s (allowed s.log (question_in limits.shell words)) h) h
       keeps-command again (BuiltIn (WritesText written)) name words allowed s h = h
       keeps-command again (BuiltIn Exits) name words allowed s h = keeps-leave (leaves_in limits.shell again words) (status_of_exit limits.shell words) s h
-      keeps-command again (Device effect) name words allowed s h = step (request_of name words effect) refl allowed s h
+      keeps-command again (Device effect) name words allowed s h = step (request_of name words (effect_now s.log effect)) refl s (allowed s.log) h
       keeps-command again NoCommand name words allowed s h = h
 
       keeps-simple : (again : Bool) (fs : List Text) → KeepsLog (simple limits again script fs)

@@ -16,6 +16,8 @@ pub mod GivenRuns
 pub mod FieldLemmas
 pub mod PlainRuns
 pub mod KeptLogs
+pub mod NeedsLemmas
+pub mod MetNeeds
 pub mod AskedLogs
 pub mod StayingAnswers
 mod ToldExamples

@@ -14,6 +14,7 @@ use Rattle.device_list.specs.Called.{Called, BuiltIn, Device, NoCommand, called_
 use Rattle.commands.specs.BuiltInCommands.{ChangesVariables, WritesText, RunsTexts, Tests, Exits, variables_changed, text_written}
 use Rattle.rehearse_rules.specs.ByShell.{unread, leaves_in, status_of_exit, asks_in, truth_in, fields_in, turns_in, skips_rest, status_of_nothing, status_of_no_block, status_of_loop, follows, assigned_in, reads_again}
 use Rattle.rehearse_rules.specs.Execution.{Limits, Answer, Normal, Exit, Ended, Dry, Ending, CutDevices, CutSteps, Unknown, Size, go_on, remember, set_status, status_when, goes, holds, begin, take_outcome, with_outcome, outcome_when, told, told_again, tell_or_take, device, Request, logged, set_environment, finish, text_end, run_text, run_all, command, simple, sized, assign, turns, begin_turn, for_each, exec_script, exec_list, exec_joined, exec_command, exec_arms, exec, succeeds, Unsupported, assign_local, request_of, test_request, started_text}
+use Rattle.rehearse_rules.specs.Needs.{effect_now}
 use Rattle.rehearse_rules.specs.Runs.{state_of}
 
 -- the state with these outcomes after its own
@@ -290,7 +291,7 @@ module _ (limits : Limits) where
     Keeps-command again (BuiltIn Tests) name ws s = Keeps-if limits.device_bound s (asks_in limits.shell ws) (device limits (test_request limits name ws)) (λ t. Normal (set_status (status_when (truth_in limits.shell ws)) t)) (Keeps-device (test_request limits name ws) refl s) (Keeps-normal limits.device_bound s (λ m. record m { status = status_when (truth_in limits.shell ws) }))
     Keeps-command again (BuiltIn (WritesText written)) name ws s = Keeps-normal limits.device_bound s (text_written written ws)
     Keeps-command again (BuiltIn Exits) name ws s = Keeps-leave (leaves_in limits.shell again ws) (status_of_exit limits.shell ws) s
-    Keeps-command again (Device effect) name ws s = Keeps-device (request_of name ws effect) refl s
+    Keeps-command again (Device effect) name ws s = Keeps-device (request_of name ws (effect_now s.log effect)) refl s
     Keeps-command again NoCommand name ws s = Keeps-ended limits.device_bound s (Unknown name)
 
     pub Keeps-simple : (again : Bool) (fs : List Text) → KeepsAll (simple limits again script fs)

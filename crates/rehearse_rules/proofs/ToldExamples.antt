@@ -6,6 +6,7 @@ use Rattle.rehearse_terms.specs.State.{Text, Variables, LoggedCommand, State, st
 use Rattle.device_list.specs.DeviceList.{Variable, Literal, Effect, only}
 use Rattle.device_list.specs.DeviceLaws.{quiet}
 use Rattle.rehearse_terms.specs.declared.shell.Shell.TheVariants.{Profile}
+use Rattle.rehearse_rules.specs.Needs.{is_met, effect_now}
 use Rattle.rehearse_rules.specs.Execution.{Limits, Normal, Ended, Dry, Finished, CutDevices, Request, told, tell_or_take, device, test_effect, request_of}
 
 abbrev steady : Effect
@@ -97,6 +98,43 @@ success_boots = refl
 
 failure_goes_on : tell_or_take (Some false) (request (record steady { ends = Some Boots })) (at [] []) ≡ Normal (then_at (entry false true true ∷ []) [] 1 unchanged)
 failure_goes_on = refl
+
+-- ---- a call that is needed
+
+-- none is needed
+met_by_nothing : is_met [] [] ≡ true
+met_by_nothing = refl
+
+-- a success meets it, also one that was told, and any word may follow
+met : map (λ e. is_met (codes "load" ∷ []) (e ∷ [])) (entry true false false ∷ entry true true true ∷ []) ≡ true ∷ true ∷ []
+met = refl
+
+-- a failure does not, nor does another command
+not_met : map (λ log. is_met (codes "load" ∷ []) log) ([] ∷ (entry false false false ∷ entry false true true ∷ []) ∷ (record (entry true false false) { words = codes "loadb" ∷ codes "load" ∷ [] } ∷ []) ∷ []) ≡ false ∷ false ∷ false ∷ []
+not_met = refl
+
+-- a later success does, after others
+met_later : is_met (codes "load" ∷ []) (entry false false false ∷ record (entry true false false) { words = codes "usb" ∷ [] } ∷ entry true false false ∷ []) ≡ true
+met_later = refl
+
+-- the first word has to be this one, and to be there
+met_by_first_word : map (λ word. is_met (codes "load" ∷ word ∷ []) (entry true false false ∷ [])) (codes "a" ∷ codes "b" ∷ codes "" ∷ []) ≡ true ∷ false ∷ false ∷ []
+met_by_first_word = refl
+
+met_without_a_word : is_met (codes "load" ∷ codes "a" ∷ []) (record (entry true false false) { words = codes "load" ∷ [] } ∷ []) ≡ false
+met_without_a_word = refl
+
+-- as long as it is not met, the command fails whatever else the list says, and this answer does not stay
+abbrev needing : Effect → Effect
+needing effect = record effect { needs = codes "load" ∷ [] }
+
+needed : map (λ effect. effect_now [] (needing effect)) (quiet ∷ steady ∷ record quiet { always = Some true } ∷ [])
+    ≡ (let failing : Effect = record (needing quiet) { always = Some false } in failing ∷ failing ∷ failing ∷ [])
+needed = refl
+
+as_said : map (λ effect. effect_now (entry true false false ∷ []) (needing effect)) (quiet ∷ steady ∷ record quiet { always = Some true } ∷ [])
+    ≡ needing quiet ∷ needing steady ∷ needing (record quiet { always = Some true }) ∷ []
+as_said = refl
 
 -- ---- the bound counts what is told: one more in the log, or none
 

@@ -11,6 +11,7 @@ use Rattle.rehearse_terms.specs.Outcomes.{Outcome, Success, Failure, OutcomeWord
 use Rattle.hushlang_old.specs.TreesByShell.{tree_in, lacks_end_in}
 use Rattle.rehearse_terms.specs.State.{Text, Variables, get, with_value, Memory, LoggedCommand, answer_in, State}
 use Rattle.rehearse_terms.specs.declared.shell.Shell.{Shell}
+use Rattle.rehearse_rules.specs.Needs.{effect_now}
 pub use Rattle.rehearse_rules.specs.Ending.{Ending, End, CutDevices, CutSteps, Unknown, Syntax, Unsupported, Size, Finished}
 use Rattle.rehearse_rules.specs.Parameters.{parameters_in}
 use Rattle.rehearse_rules.specs.ByShell.{unread, reads_again, leaves_in, status_of_exit, asks_in, question_in, truth_in, truth_if, fields_in, turns_in, skips_rest, status_of_nothing, status_of_no_block, status_of_loop, status_in_turn, follows, assigned_in, locals_in}
@@ -104,7 +105,7 @@ status_after Failure request = request.on_failure
 
 -- `test -e` changes nothing; its answers stay if the list says so
 abbrev pub test_effect : Devices → Effect
-test_effect devices = record { ends = None; stays = devices.test_stays; always = None; sets = [] }
+test_effect devices = record { ends = None; stays = devices.test_stays; always = None; needs = []; sets = [] }
 
 -- the question of a `test`: its status says whether the words hold
 abbrev pub test_request : Limits → (name : Text) → (words : List Text) → Request
@@ -269,7 +270,7 @@ module _ (limits : Limits) where
         | None ↦ Normal (set_status (status_of_exit limits.shell words) s)
       ]
   command again script (Device effect) name words s =
-      device (request_of name words effect) s
+      device (request_of name words (effect_now s.log effect)) s
   command again script NoCommand name words s = Ended (Unknown name) s
 
   -- words that expand to no field do nothing

@@ -2,7 +2,10 @@
 use Rattle.std.specs.Prelude.{ℕ, ◌+◌, ◌^◌, true, filter, List, [], ◌∷◌, ◌++◌, length, map, flat_map, take, drop, Option, Some, None, ◌≡◌, ◌≢◌, ◌↔◌, ◌≤◌, ◌<◌, codes}
 use Rattle.rehearse_terms.specs.Outcomes.{OutcomeWord, Outcome, Run, Short, common_prefix, comes_before, has_success, turned, is_within, first_run, first_from}
 use Rattle.rehearse_terms.specs.State.{Text, LoggedCommand, State, asked_of}
+use Rattle.builtins.specs.Builtins.{builtin_of}
+use Rattle.device_list.specs.DeviceList.{Effect, effect_of}
 use Rattle.device_list.specs.Kinds.{Steady, EachCall, SaysNothing}
+use Rattle.rehearse_rules.specs.Needs.{is_met}
 use Rattle.rehearse_rules.specs.Execution.{Ended, Dry, CutSteps, CutDevices, succeeds}
 use Rattle.rehearse_rules.specs.Runs.{Task, run_on, state_of, steps, asked, kind, all_runs, runs, IsListed, rest}
 use Rattle.rehearse_rules.specs.Listing.{listing, line, spelled, record_of, words_listed, closing}
@@ -43,11 +46,11 @@ abbrev pub LogIsWord : Type 0
 LogIsWord = (task : Task) (w : OutcomeWord) → kind task w ≡ Run →
     map (λ e. e.success) (asked_of (state_of (run_on task w)).log) ≡ map succeeds w
 
--- Over a device list that says of no answer that it stays or is always the same, each command takes an outcome, so the
--- outcomes in the whole log are its word.
+-- Over a device list that says of no answer that it stays or is always the same, and of no call that it is needed, each
+-- command takes an outcome, so the outcomes in the whole log are its word.
 abbrev pub WholeLogIsWord : Type 0
 WholeLogIsWord = (task : Task) (w : OutcomeWord) → SaysNothing Steady task.limits.devices →
-    EachCall (λ effect. effect.always ≡ None) task.limits.devices → kind task w ≡ Run →
+    EachCall (λ effect. (effect.always ≡ None) × (effect.needs ≡ [])) task.limits.devices → kind task w ≡ Run →
     map (λ e. e.success) (state_of (run_on task w)).log ≡ map succeeds w
 
 -- Of two commands in the log of a run whose answers stay, with the same words, the later one has the answer of the earlier
@@ -56,6 +59,14 @@ abbrev pub AnswersStay : Type 0
 AnswersStay = (task : Task) (w : OutcomeWord) (front between behind : List LoggedCommand) (one other : LoggedCommand) →
     (state_of (run_on task w)).log ≡ front ++ one ∷ between ++ other ∷ behind → one.stays ≡ true → other.stays ≡ true →
     one.words ≡ other.words → (other.success ≡ one.success) × (other.again ≡ true)
+
+-- A call that succeeds in the log of a run, and of which the list says that it needs another one, has a success of that one
+-- before it in the log.
+abbrev pub NeedsAreMet : Type 0
+NeedsAreMet = (task : Task) (w : OutcomeWord) (front behind : List LoggedCommand) (one : LoggedCommand) (name : Text)
+    (words : List Text) (effect : Effect) → (state_of (run_on task w)).log ≡ front ++ one ∷ behind → one.words ≡ name ∷ words →
+    builtin_of name ≡ None → effect_of task.limits.devices name words ≡ Some effect → one.success ≡ true →
+    is_met effect.needs front ≡ true
 
 -- ---- bounds
 

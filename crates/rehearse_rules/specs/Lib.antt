@@ -3,6 +3,7 @@ pub mod ByShell
 pub mod Execution
 pub mod Runs
 pub mod Listing
+pub mod Needs
 pub mod Resuming
 pub mod Laws
 pub mod GivenExecution

@@ -1,7 +1,7 @@
 //! Laws of rehearsals. A call of one does nothing: its contract is the law.
 
 ghost use Rattle.rehearse_rules.specs.Laws.{NoRunTwice, NoRunBeginsAnother, NoRunIsLonger, RunsAreThere, AnotherFollows};
-ghost use Rattle.rehearse_rules.specs.Laws.{RunsPartWhereAsked, LogIsWord, WholeLogIsWord, AnswersStay};
+ghost use Rattle.rehearse_rules.specs.Laws.{RunsPartWhereAsked, LogIsWord, WholeLogIsWord, AnswersStay, NeedsAreMet};
 ghost use Rattle.rehearse_rules.specs.Laws.{StepsAreBounded, DevicesAreBounded, CutAtStepBound, CutAtDeviceBound, AskedBelowBound};
 ghost use Rattle.rehearse_rules.specs.Laws.{AskedInFront, SharedIsWithin};
 ghost use Rattle.rehearse_rules.specs.Laws.{RunsBegin, RunsFollow, RunsStand, RunsAreRuns, RunsAreOrdered};
@@ -23,12 +23,14 @@ pub fn words_of_runs()
 /// The outcomes in a run's log, without the commands that were told an answer again, are its word; if
 /// the device list says of no answer that it stays, there is no such command. Two runs differ first at
 /// an outcome that a device command asks for. If the answers of two commands of the log stay, and their words are the same, the
-/// later one has the answer of the earlier one, and no outcome of the word.
+/// later one has the answer of the earlier one, and no outcome of the word. A call that succeeds has a success of the call that
+/// it needs before it in the log.
 pub fn outcomes_of_runs()
     ensures logged { LogIsWord }
     ensures whole { WholeLogIsWord }
     ensures parted { RunsPartWhereAsked }
     ensures stays { AnswersStay }
+    ensures needs { NeedsAreMet }
 {}
 
 /// No run goes past a bound, and none is cut before it.
