@@ -14,6 +14,7 @@ use Rattle.rehearse_terms.specs.State.{Text, get, State}
 use Rattle.rehearse_rules.specs.Parameters.{parameters_in}
 use Rattle.device_list.specs.Called.{Called, BuiltIn, NoCommand, Device, called_by, sets_in}
 use Rattle.commands.specs.BuiltInCommands.{ChangesVariables, WritesText, RunsTexts, Tests, Exits}
+use Rattle.rehearse_rules.specs.Needs.{effect_now}
 use Rattle.rehearse_rules.specs.Execution.{Limits, CutDevices, CutSteps, Size, set_status, set_local, status_when, goes, holds, Request, test_effect, told, told_again, logged, set_environment, Unsupported, assign_local, request_of, test_request}
 use Rattle.rehearse_terms.specs.Outcomes.{Success}
 use Rattle.rehearse_machine.specs.Places.{PlaceNext, GoOn, AskOn, StopOn, list_at, joined_at, second, command_in, command_at, drop_arms, block_frame, behind, in_turn, left, to_run, place_exit, place_finish, place_tell_or_ask, place_assign, place_tree, place_text, place_name, run_move, for_turn, for_move, for_begins, place_arms, condition_ends, phase_move, place_fitting, place_ask, place_called, place_fields, place_counted, place_command, place_joined, place_begins, place_turn, place_list, place_by, place_move, place_skipped, moved_to, place}
@@ -86,7 +87,7 @@ module _ (limits : Limits) where
       either_here ps s (asks_in limits.shell ws) (place_ask limits r ps s) (GoOn ps (set_status (status_when (truth_in limits.shell ws)) s)) (ask_here r ps s) tt
   builtin_here again (BuiltIn (WritesText written)) name ws script ps s = tt
   builtin_here again (BuiltIn Exits) name ws script ps s = exit_here ps s (leaves_in limits.shell again ws) (status_of_exit limits.shell ws)
-  builtin_here again (Device effect) name ws script ps s = ask_here (request_of name ws effect) ps s
+  builtin_here again (Device effect) name ws script ps s = ask_here (request_of name ws (effect_now s.log effect)) ps s
   builtin_here again NoCommand name ws script ps s = tt
 
   fields_here : (again : Bool) (fs : List Text) (script : Script) (ps : List RunningFrame) (s : State) → AsksHere ps s (place_fields limits again fs script ps s)

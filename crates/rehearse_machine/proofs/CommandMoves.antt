@@ -20,6 +20,7 @@ use Rattle.rehearse_rules.proofs.GivenRuns.{called_apart}
 use Rattle.device_list.specs.Called.{Called, BuiltIn, Device, NoCommand, listed_by, other_called, called_by}
 use Rattle.commands.specs.BuiltInCommands.{ChangesVariables, WritesText, Tests, carried, deed_of, setenv, variables_changed, text_written, decimal_from}
 use Rattle.commands.specs.VariableNames.{is_bad_name}
+use Rattle.rehearse_rules.specs.Needs.{effect_now}
 use Rattle.rehearse_rules.specs.Execution.{Limits, Request, remember, set_status, status_when, request_of, test_request}
 use Rattle.commands.specs.Computed.{Computed}
 use Rattle.device_list.specs.DeviceList.{Effect, Devices, computed_by, effect_of}
@@ -111,9 +112,10 @@ module _ (limits : Limits) (again : Bool) (old new : Record) (name : Text) (word
   abbrev request : Effect → Request
   request effect = request_of name words effect
 
-  -- what a device command does, the name does
-  pub device_comes : (r : Result Step StoreError) (b : Called) (effect : Effect) → b ≡ Device effect → Comes r old new (place_ask limits (request effect) old.present.frames) → Comes r old new (place_called limits again b name words script old.present.frames)
-  device_comes r b effect e h = subst (λ (x : Called). Comes r old new (place_called limits again x name words script old.present.frames)) (sym e) h
+  -- what a device command does at this log, the name does
+  pub device_comes : (r : Result Step StoreError) (b : Called) (effect : Effect) → b ≡ Device effect → Comes r old new (place_ask limits (request (effect_now old.present.log effect)) old.present.frames) → Comes r old new (place_called limits again b name words script old.present.frames)
+  device_comes (Ok step) b effect e h = subst (λ (x : Called). Does step old new (place_called limits again x name words script old.present.frames)) (sym e) h
+  device_comes (Err x) b effect e h = tt
 
   pub test_comes : (r : Result Step StoreError) (b : Called) → b ≡ BuiltIn Tests → asks_in limits.shell words ≡ true → Comes r old new (place_ask limits (test_request limits name words) old.present.frames) → Comes r old new (place_called limits again b name words script old.present.frames)
   test_comes (Ok step) b e d h = (

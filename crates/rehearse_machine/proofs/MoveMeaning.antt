@@ -10,6 +10,7 @@ use Rattle.rehearse_terms.specs.State.{Text, get, State}
 use Rattle.rehearse_rules.specs.Parameters.{parameters_in}
 use Rattle.device_list.specs.Called.{Called, BuiltIn, NoCommand, Device, called_by, sets_in}
 use Rattle.commands.specs.BuiltInCommands.{ChangesVariables, WritesText, RunsTexts, Tests, Exits}
+use Rattle.rehearse_rules.specs.Needs.{effect_now}
 use Rattle.rehearse_rules.specs.Execution.{Limits, Answer, Normal, Exit, Ended, Dry, Ending, CutDevices, CutSteps, Unknown, Size, go_on, set_status, set_local, status_when, goes, holds, begin, tell_or_take, told, told_again, logged, finish, set_environment, Finished, device, Request, test_effect, text_end, run_text, run_all, command, simple, sized, assign, turns, for_each, Unsupported, assign_local, request_of, test_request, started_text}
 use Rattle.rehearse_machine.specs.Frames.{Frame, Lists, Linked, IfCondition, LoopCondition, LoopBody, ForBody, RunNames, RunText, Next, Go, Stop, tell_or_ask, finish_next, leave, begin_assign, begin_for, begin_arms, begin_tree, begin_text, begin_names, begin_exit, fitting, ask, begin_called, begin_fields, counted, begin_command, move}
 use Rattle.rehearse_machine.specs.Came.{Over, Wants}
@@ -115,7 +116,7 @@ module _ (limits : Limits) where
     builtin-is again (BuiltIn Tests) name ws fs s = if-is (asks_in limits.shell ws) (ask limits (test_request limits name ws) fs s) (Go fs (set_status (status_when (truth_in limits.shell ws)) s)) fs (device limits (test_request limits name ws) (with w s)) (Normal (set_status (status_when (truth_in limits.shell ws)) (with w s))) (ask-is (test_request limits name ws) fs s) refl
     builtin-is again (BuiltIn (WritesText written)) name ws fs s = refl
     builtin-is again (BuiltIn Exits) name ws fs s = exit-is (leaves_in limits.shell again ws) (status_of_exit limits.shell ws) fs s
-    builtin-is again (Device effect) name ws fs s = ask-is (request_of name ws effect) fs s
+    builtin-is again (Device effect) name ws fs s = ask-is (request_of name ws (effect_now s.log effect)) fs s
     builtin-is again NoCommand name ws fs s = sym (continue-ended fs (Unknown name) (with w s))
 
     fields-is : (again : Bool) (ws : List Text) (fs : List Frame) (s : State) → comes_to limits w (begin_fields limits again ws fs s) ≡ continue limits fs (simple limits again (full limits) ws (with w s))

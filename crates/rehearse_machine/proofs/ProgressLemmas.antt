@@ -9,6 +9,7 @@ use Rattle.rehearse_terms.specs.State.{Text, get, State}
 use Rattle.rehearse_rules.specs.Parameters.{parameters_in}
 use Rattle.device_list.specs.Called.{Called, BuiltIn, NoCommand, Device, called_by, sets_in}
 use Rattle.commands.specs.BuiltInCommands.{ChangesVariables, WritesText, RunsTexts, Tests, Exits}
+use Rattle.rehearse_rules.specs.Needs.{effect_now}
 use Rattle.rehearse_rules.specs.Execution.{Limits, CutDevices, CutSteps, Size, set_status, set_local, status_when, goes, holds, Request, test_effect, told, told_again, logged, set_environment, Unsupported, assign_local, request_of, test_request}
 use Rattle.rehearse_terms.specs.Outcomes.{Success}
 use Rattle.rehearse_machine.specs.Frames.{Frame, Lists, Linked, IfCondition, LoopCondition, LoopBody, ForBody, RunNames, RunText, Next, Go, Ask, Stop, tell_or_ask, finish_next, leave, begin_assign, begin_for, begin_arms, begin_tree, begin_text, begin_names, begin_exit, fitting, ask, begin_called, begin_fields, begin_command, move}
@@ -92,7 +93,7 @@ module _ (limits : Limits) where
   builtin-quiet again (BuiltIn Tests) name ws fs s = either-quiet s (asks_in limits.shell ws) (ask limits (test_request limits name ws) fs s) (Go fs (set_status (status_when (truth_in limits.shell ws)) s)) (ask-quiet (test_request limits name ws) fs s) refl
   builtin-quiet again (BuiltIn (WritesText written)) name ws fs s = refl
   builtin-quiet again (BuiltIn Exits) name ws fs s = exit-quiet (leaves_in limits.shell again ws) (status_of_exit limits.shell ws) fs s
-  builtin-quiet again (Device effect) name ws fs s = ask-quiet (request_of name ws effect) fs s
+  builtin-quiet again (Device effect) name ws fs s = ask-quiet (request_of name ws (effect_now s.log effect)) fs s
   builtin-quiet again NoCommand name ws fs s = refl
 
   fields-quiet : (again : Bool) (ws : List Text) (fs : List Frame) (s : State) → IsQuiet s (begin_fields limits again ws fs s)

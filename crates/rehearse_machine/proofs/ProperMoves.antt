@@ -9,6 +9,7 @@ use Rattle.rehearse_terms.specs.State.{Text, get, State}
 use Rattle.rehearse_rules.specs.Parameters.{parameters_in}
 use Rattle.device_list.specs.Called.{Called, BuiltIn, NoCommand, Device, called_by, sets_in}
 use Rattle.commands.specs.BuiltInCommands.{ChangesVariables, WritesText, RunsTexts, Tests, Exits}
+use Rattle.rehearse_rules.specs.Needs.{effect_now}
 use Rattle.rehearse_rules.specs.Execution.{Limits, CutDevices, CutSteps, Size, set_status, set_local, status_when, goes, holds, Request, test_effect, told, told_again, logged, set_environment, Unsupported, assign_local, request_of, test_request}
 use Rattle.rehearse_terms.specs.Outcomes.{Success}
 use Rattle.rehearse_machine.specs.Frames.{Frame, Lists, Linked, IfCondition, LoopCondition, LoopBody, ForBody, RunNames, RunText, Next, Go, Stop, tell_or_ask, finish_next, leave, begin_assign, begin_for, begin_arms, begin_tree, begin_text, begin_names, begin_exit, fitting, ask, begin_called, begin_fields, begin_command, move}
@@ -70,7 +71,7 @@ module _ (limits : Limits) where
   builtin-proper again (BuiltIn Tests) name ws fs s p = either (asks_in limits.shell ws) (ask limits (test_request limits name ws) fs s) (Go fs (set_status (status_when (truth_in limits.shell ws)) s)) (ask-proper (test_request limits name ws) fs s p) p
   builtin-proper again (BuiltIn (WritesText written)) name ws fs s p = p
   builtin-proper again (BuiltIn Exits) name ws fs s p = exit-proper (leaves_in limits.shell again ws) (status_of_exit limits.shell ws) fs s p
-  builtin-proper again (Device effect) name ws fs s p = ask-proper (request_of name ws effect) fs s p
+  builtin-proper again (Device effect) name ws fs s p = ask-proper (request_of name ws (effect_now s.log effect)) fs s p
   builtin-proper again NoCommand name ws fs s p = tt
 
   fields-proper : (again : Bool) (ws : List Text) (fs : List Frame) (s : State) → AreProperFrames fs → IsProperNext (begin_fields limits again ws fs s)

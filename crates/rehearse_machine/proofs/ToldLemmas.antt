@@ -10,6 +10,8 @@ use Rattle.bootstore_state.specs.declared.store.StoreError.{StoreError}
 use Rattle.bootstore_state.specs.Record.{Record}
 use Rattle.bootstore_state.specs.StoredState.{state_at}
 use Rattle.rehearse_terms.specs.State.{Text, LoggedCommand, same_words, answer_in}
+use Rattle.text.specs.TextsShown.{bytes_of_words}
+use Rattle.rehearse_rules.specs.Needs.{has_succeeded, is_met}
 use Rattle.rehearse_rules.specs.Execution.{Limits, Request, CutDevices, succeeds, outcome_when, told}
 use Rattle.rehearse_machine.specs.declared.ask.Step.{Step}
 use Rattle.rehearse_machine.specs.Places.{StopOn, place_answered, place_ask, place_tell_or_ask}
@@ -57,6 +59,12 @@ ask_comes limits request (Ok step) old new answer room is h = (
   h.1,
 )
 ask_comes limits request (Err e) old new answer room is h = tt
+
+-- ---- a call that is needed
+
+pub met_some : (needs : List (Vec ℕ Global)) (log : List LoggedCommand) (b : Bool) → 1 ≤ length needs → b ≡ has_succeeded log (bytes_of_words needs) → b ≡ is_met (bytes_of_words needs) log
+met_some [] log b some e = absurd (omega arith)
+met_some (n ∷ ns) log b some e = e
 
 -- ---- a request
 

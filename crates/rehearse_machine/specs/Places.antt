@@ -17,6 +17,7 @@ use Rattle.rehearse_rules.specs.ByShell.{unread, reads_again, leaves_in, status_
 use Rattle.rehearse_rules.specs.Parameters.{parameters_in}
 use Rattle.device_list.specs.Called.{Called, BuiltIn, NoCommand, Device, called_by, sets_in}
 use Rattle.commands.specs.BuiltInCommands.{ChangesVariables, WritesText, RunsTexts, Tests, Exits, variables_changed, text_written}
+use Rattle.rehearse_rules.specs.Needs.{effect_now}
 use Rattle.rehearse_rules.specs.Execution.{Limits, Ending, End, CutDevices, CutSteps, Unknown, Size, Finished, remember, set_status, set_local, begin_turn, status_when, goes, holds, Request, test_effect, outcome_when, told, told_again, logged, set_environment, Unsupported, assign_local, request_of, test_request}
 use Rattle.rehearse_machine.specs.Frames.{Frame, Lists, Linked, IfCondition, LoopCondition, LoopBody, ForBody, RunNames, RunText, Next, Go, Ask, Stop, begun_text}
 
@@ -291,7 +292,7 @@ module _ (limits : Limits) where
   place_called again (BuiltIn (WritesText written)) name words script ps s = GoOn ps (remember (text_written written words) s)
   place_called again (BuiltIn Exits) name words script ps s = place_exit (leaves_in limits.shell again words) (status_of_exit limits.shell words) ps s
   place_called again (Device effect) name words script ps s =
-      place_ask (request_of name words effect) ps s
+      place_ask (request_of name words (effect_now s.log effect)) ps s
   place_called again NoCommand name words script ps s = StopOn (Unknown name) s
 
   abbrev pub place_fields : (again : Bool) → List Text → Script → List RunningFrame → State → PlaceNext

@@ -31,6 +31,7 @@ use crate::named::Named;
 use crate::outcomes::ask;
 use crate::run_and_exit::{begin_run, leave_text};
 use crate::steps::{count, turned};
+use crate::told::effect_now;
 use bootstore_state::{At, Frame, FrameKind, Store, StoreError};
 use builtins::Builtin;
 use device_list::{Devices, Effect};
@@ -89,6 +90,7 @@ fn ask_file<'d, S: Store>(
         ends: None,
         stays: devices.test_stays(),
         always: None,
+        needs: &[],
         sets: &[],
     };
     ask(alloc, store, bounds, name, &question, effect, statuses)
@@ -202,7 +204,10 @@ fn run_other<'d, S: Store>(
         return Ok(Step::Going);
     }
     match devices.effect_near(name, words, place) {
-        Some(effect) => ask(alloc, store, bounds, name, words, effect, BY_OUTCOME),
+        Some(listed) => {
+            let effect = effect_now(store.log(), listed);
+            ask(alloc, store, bounds, name, words, effect, BY_OUTCOME)
+        }
         None => Ok(Step::Ends(Halt::Unknown(Vec::from_slice(alloc, name)?))),
     }
 }

@@ -1,11 +1,12 @@
-//! The answers of steady commands that were asked before.
+//! What a log says of a device command: the answer that it has, and whether the call that it needs has succeeded.
 ghost use Rattle.std.specs.Prelude.{◌≡◌, ◌∷◌, ◌&&◌, not, false};
 ghost use Rattle.text.specs.TextsShown.{bytes_of_words};
 ghost use Rattle.device_list.specs.CommandsShown.{lent_effect};
 ghost use Rattle.rehearse_rules.specs.Execution.{request_of, told};
+ghost use Rattle.rehearse_rules.specs.Needs.{is_met, effect_now};
 ghost use Rattle.rehearse_terms.specs.State.{same_words, answer_in};
 
-use bootstore_state::{LogEntry, Store};
+use bootstore_state::{LogEntry, Store, has_succeeded};
 use device_list::Effect;
 
 /// Whether the words of a logged command are these, the name first.
@@ -37,6 +38,31 @@ fn answer_in(log: &[LogEntry], name: &[u8], words: &[Vec<u8>]) -> Option<bool>
         }
     }
     None
+}
+
+/// Whether the call that is needed has succeeded, if one is needed.
+fn is_met(needs: &[Vec<u8>], log: &[LogEntry]) -> bool
+    ensures { result ≡ is_met (bytes_of_words needs.now) log.now }
+{
+    match needs {
+        [] => true,
+        [_, ..] => has_succeeded(log, needs),
+    }
+}
+
+/// What a device command does at this log: as long as the call that it needs has not succeeded, it
+/// fails without being asked, and this answer does not stay.
+pub(crate) fn effect_now<'d>(log: &[LogEntry], effect: Effect<'d>) -> Effect<'d>
+    ensures { lent_effect result ≡ effect_now log.now (lent_effect effect.entry) }
+{
+    if is_met(effect.needs, log) {
+        return effect;
+    }
+    Effect {
+        stays: false,
+        always: Some(false),
+        ..effect
+    }
 }
 
 /// The answer that a command has without an outcome: that of before, if its answers stay and it was
