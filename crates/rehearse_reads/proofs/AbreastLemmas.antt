@@ -1,5 +1,5 @@
 -- States that agree go on to agree when both are changed alike.
-use Rattle.std.proofs.Common.{◌≡◌, ◌∙◌, refl, sym, ap, subst, ℕ, suc, Bool, true, false, cond, List, [], ◌∷◌, ◌++◌, map, append_assoc, arith, inl, inr, is_some, Option, if◌then◌else◌}
+use Rattle.std.proofs.Common.{◌≡◌, ◌∙◌, refl, sym, ap, subst, ℕ, suc, Bool, true, false, ◌||◌, cond, List, [], ◌∷◌, ◌++◌, map, append_assoc, arith, inl, inr, is_some, Option, if◌then◌else◌}
 use Rattle.commands.specs.BuiltInCommands.{changed_by, text_written, deletions, setenv, carried}
 use Rattle.commands.specs.Computed.{Computed, Gives, Exists, Sets, Deletes, SetsNumber}
 use Rattle.commands.specs.VariableNames.{is_bad_name}
@@ -9,8 +9,10 @@ use Rattle.rehearse_terms.specs.Outcomes.{OutcomeWord, Outcome}
 use Rattle.rehearse_terms.specs.State.{Text, State, get, with_value, without, LoggedCommand}
 use Rattle.rehearse_terms.specs.declared.shell.Shell.{Shell}
 use Rattle.rehearse_rules.specs.ByShell.{is_refused}
+use Rattle.rehearse_rules.specs.Needs.{has_succeeded}
+use Rattle.rehearse_rules.proofs.NeedsLemmas.{succeeded_on}
 use Rattle.rehearse_rules.specs.Execution.{Limits, Request, remember, set_status, set_local, assign_local, set_environment, logged, succeeds}
-use Rattle.rehearse_reads.specs.Keys.{Key, Environment, Local, AnswerTo, Status, IsAmong, AgreeAt, Writes, ReadsWithin, known_after}
+use Rattle.rehearse_reads.specs.Keys.{Key, Environment, Local, AnswerTo, Succeeded, Status, IsAmong, AgreeAt, Writes, ReadsWithin, known_after}
 use Rattle.rehearse_reads.specs.Accesses.{names_written, setenv_accesses, deletion_accesses, computed_accesses, local_accesses}
 use Rattle.rehearse_reads.specs.Alike.{HaveFurther, AreAbreast}
 use Rattle.rehearse_reads.proofs.LookedUpLemmas.{get_set, get_deleted, get_set_alike, get_deleted_alike, answer_alike}
@@ -28,18 +30,21 @@ pub moved_at : (key : Key) (s t : State) (m n : ℕ) (v w : OutcomeWord) → Agr
 moved_at (Environment name) s t m n v w h = h
 moved_at (Local name) s t m n v w h = h
 moved_at (AnswerTo call) s t m n v w h = h
+moved_at (Succeeded start) s t m n v w h = h
 moved_at Status s t m n v w h = h
 
 status_at : (key : Key) (s t : State) (n : ℕ) → AgreeAt key s t → AgreeAt key (set_status n s) (set_status n t)
 status_at (Environment name) s t n h = h
 status_at (Local name) s t n h = h
 status_at (AnswerTo call) s t n h = h
+status_at (Succeeded start) s t n h = h
 status_at Status s t n h = refl
 
 local_at : (key : Key) (s t : State) (name value : Text) → AgreeAt key s t → AgreeAt key (set_local name value s) (set_local name value t)
 local_at (Environment q) s t name value h = h
 local_at (Local q) s t name value h = get_set_alike s.memory.locals t.memory.locals name value q h
 local_at (AnswerTo call) s t name value h = h
+local_at (Succeeded start) s t name value h = h
 local_at Status s t name value h = h
 
 abbrev pub put : Text → Text → State → State
@@ -52,12 +57,14 @@ put_at : (key : Key) (s t : State) (name value : Text) → AgreeAt key s t → A
 put_at (Environment q) s t name value h = get_set_alike s.memory.environment t.memory.environment name value q h
 put_at (Local q) s t name value h = h
 put_at (AnswerTo call) s t name value h = h
+put_at (Succeeded start) s t name value h = h
 put_at Status s t name value h = h
 
 left_out_at : (key : Key) (s t : State) (name : Text) → AgreeAt key s t → AgreeAt key (left_out name s) (left_out name t)
 left_out_at (Environment q) s t name h = get_deleted_alike s.memory.environment t.memory.environment name q h
 left_out_at (Local q) s t name h = h
 left_out_at (AnswerTo call) s t name h = h
+left_out_at (Succeeded start) s t name h = h
 left_out_at Status s t name h = h
 
 logged_at : (key : Key) (s t : State) (outcome : Outcome) (request : Request) → AgreeAt key s t → AgreeAt key (logged outcome request s) (logged outcome request t)
@@ -65,12 +72,16 @@ logged_at (Environment q) s t outcome request h = h
 logged_at (Local q) s t outcome request h = h
 logged_at (AnswerTo call) s t outcome request h =
     answer_alike s.log t.log (record { success = succeeds outcome; words = request.name ∷ request.words; stays = request.effect.stays; again = request.again } ∷ []) call h
+logged_at (Succeeded start) s t outcome request h =
+    let more : List LoggedCommand = record { success = succeeds outcome; words = request.name ∷ request.words; stays = request.effect.stays; again = request.again } ∷ [] in
+    succeeded_on t.log more start ∙ ap (λ (b : Bool). b || has_succeeded more start) h ∙ sym (succeeded_on s.log more start)
 logged_at Status s t outcome request h = refl
 
 echoed_at : (key : Key) (s t : State) (written : List Text → Text) (words : List Text) → AgreeAt key s t → AgreeAt key (remember (text_written written words) s) (remember (text_written written words) t)
 echoed_at (Environment q) s t written words h = h
 echoed_at (Local q) s t written words h = h
 echoed_at (AnswerTo call) s t written words h = h
+echoed_at (Succeeded start) s t written words h = h
 echoed_at Status s t written words h = refl
 
 -- a key that is written, and the others

@@ -13,15 +13,19 @@ use Rattle.rehearse_terms.specs.State.{Text, Variables, State, LoggedCommand, st
 use Rattle.rehearse_terms.specs.declared.shell.Shell.{Shell}
 use Rattle.rehearse_terms.specs.declared.shell.Shell.TheVariants.{Profile, Old2023, Old2025}
 use Rattle.rehearse_rules.specs.Execution.{Limits}
-use Rattle.rehearse_reads.specs.Keys.{Key, Environment, Local, AnswerTo, Status, Access, Reads, Writes, keys_in_front, keys_read}
+use Rattle.rehearse_reads.specs.Keys.{Key, Environment, Local, AnswerTo, Succeeded, Status, Access, Reads, Writes, keys_in_front, keys_read}
 use Rattle.rehearse_reads.specs.Accesses.{accesses}
 
 -- ---- what they are computed with
 
--- `load` is asked each time, `stay` once, and `set` sets the variable b
+-- `load` is asked each time, `stay` once, `set` sets the variable b, and `boot` needs `load`
 abbrev devices : Devices
 devices = record (only ((codes "load", quiet) ∷ (codes "stay", record quiet { stays = true })
-    ∷ (codes "set", record quiet { sets = (Variable (codes "b"), Literal (codes "1")) ∷ [] }) ∷ [])) { known = codes "env" ∷ [] }
+    ∷ (codes "set", record quiet { sets = (Variable (codes "b"), Literal (codes "1")) ∷ [] }) ∷ [])) {
+      calls = (codes "boot", (record { words = []; more = true }, record quiet { needs = codes "load" ∷ [] }) ∷ []) ∷ [];
+      needed = (codes "load" ∷ []) ∷ [];
+      known = codes "env" ∷ [];
+    }
 
 abbrev limits : Shell → Limits
 limits shell = record { devices = devices; device_bound = 4; step_bound = 20; shell = shell }
@@ -133,6 +137,11 @@ logged = record { success = false; words = codes "stay" ∷ []; stays = true; ag
 told_again : reached_in Profile (record (before []) { log = logged ∷ [] }) (codes "stay") ≡ Reads (AnswerTo (codes "stay" ∷ [])) ∷ Writes Status ∷ []
 unfolding reached_in
 told_again = refl
+
+-- one that needs a call reads whether that one has succeeded, and then it fails or is asked
+needs_a_call : reached (codes "boot; load a; boot") ≡ Reads (Succeeded (codes "load" ∷ [])) ∷ Writes Status ∷ Writes Status ∷ Reads (Succeeded (codes "load" ∷ [])) ∷ Writes Status ∷ []
+unfolding reached_in
+needs_a_call = refl
 
 sets_on_success : reached (codes "set") ≡ Writes Status ∷ Writes b ∷ []
 unfolding reached_in

@@ -4,13 +4,16 @@ use Rattle.device_list.specs.declared.finish.BoardEnd.{BoardEnd}
 use Rattle.device_list.specs.Called.{sets_in}
 use Rattle.rehearse_terms.specs.Outcomes.{OutcomeWord, Outcome, Success, Failure}
 use Rattle.rehearse_terms.specs.State.{Text, State, LoggedCommand, answer_in}
-use Rattle.rehearse_rules.specs.Execution.{Limits, Answer, Ended, CutDevices, CutSteps, Finished, Request, begin, finish, with_outcome, take_outcome, told, told_again, tell_or_take, outcome_when, device, set_environment, logged, succeeds}
+use Rattle.device_list.specs.DeviceList.{Effect}
+use Rattle.rehearse_rules.specs.Needs.{is_met, effect_now}
+use Rattle.rehearse_rules.proofs.NeedsLemmas.{now_same}
+use Rattle.rehearse_rules.specs.Execution.{Limits, Answer, Ended, CutDevices, CutSteps, Finished, Request, request_of, begin, finish, with_outcome, take_outcome, told, told_again, tell_or_take, outcome_when, device, set_environment, logged, succeeds}
 use Rattle.rehearse_rules.specs.Runs.{state_of}
 use Rattle.rehearse_rules.proofs.TakenOutcomes.{Track-of, KeepsAll}
-use Rattle.rehearse_reads.specs.Keys.{Key, Status, AnswerTo, Access, AreAmong, all_read, ReadsWithin, known_after}
-use Rattle.rehearse_reads.specs.Accesses.{begun_accesses, told_reads, outcome_accesses, taken_accesses, answer_accesses, device_accesses, names_written}
+use Rattle.rehearse_reads.specs.Keys.{Key, Status, AnswerTo, Succeeded, Access, AreAmong, all_read, ReadsWithin, known_after}
+use Rattle.rehearse_reads.specs.Accesses.{begun_accesses, needs_reads, listed_accesses, told_reads, outcome_accesses, taken_accesses, answer_accesses, device_accesses, names_written}
 use Rattle.rehearse_reads.specs.Alike.{devices_of, AreAbreast, IsAlike, cut_here, beyond}
-use Rattle.rehearse_reads.proofs.AccessLemmas.{read_first}
+use Rattle.rehearse_reads.proofs.AccessLemmas.{read_first, read_then}
 use Rattle.rehearse_reads.proofs.AbreastLemmas.{near_moved, near_begun, near_logged, near_set}
 use Rattle.rehearse_reads.proofs.AlikeParts.{further_apart, normal_alike, ended_alike, dry_alike, after_keys}
 
@@ -130,3 +133,19 @@ module _ (limits : Limits) (i j : ℕ) (k l : List LoggedCommand) where
       let room : Bool = nat_lt (length s.log) limits.device_bound in
       device_by (told request s.log) (told request t.log) request known s t near room (nat_lt (length t.log) limits.device_bound) refl refl
       (λ e. told_alike known s t request near (asked_within known request s room w e))
+
+  -- ---- a command of the list, whose need is met or not
+
+  met_alike : (known : List Key) (s t : State) (needs : List Text) → Near known s t → AreAmong (needs_reads needs) known → is_met needs t.log ≡ is_met needs s.log
+  met_alike known s t [] near h = refl
+  met_alike known s t (name ∷ words) near h = near.keys (Succeeded (name ∷ words)) h.0
+
+  pub Alike-listed : (name : Text) (words : List Text) (effect : Effect) → AlwaysDoes (λ x. device limits (request_of name words (effect_now x.log effect)) x) (listed_accesses limits name words effect)
+  Alike-listed name words effect known s t near w =
+      let request : Effect → Request = request_of name words in
+      let keys : List Key = needs_reads effect.needs in
+      let rest : List Access = device_accesses limits (request (effect_now s.log effect)) s in
+      let now : effect_now t.log effect ≡ effect_now s.log effect = now_same effect s.log t.log (met_alike known s t effect.needs near (read_first known keys rest w)) in
+      after_keys limits i j k l known keys rest (device limits (request (effect_now s.log effect)) s) (device limits (request (effect_now t.log effect)) t)
+      (subst (λ (x : Effect). Is (known_after known rest) (device limits (request (effect_now s.log effect)) s) (device limits (request x) t)) (sym now)
+      (Alike-device (request (effect_now s.log effect)) known s t near (read_then known keys rest w)))

@@ -11,16 +11,16 @@ use Rattle.device_list.specs.DeviceList.{Effect, effect_of, computed_by}
 use Rattle.rehearse_terms.specs.State.{Text, State, LoggedCommand, get}
 use Rattle.rehearse_rules.specs.Parameters.{parameters_in}
 use Rattle.rehearse_rules.specs.ByShell.{unread, reads_again, leaves_in, status_of_exit, asks_in, truth_in, fields_in, turns_in, skips_rest, follows}
-use Rattle.rehearse_rules.specs.Execution.{Limits, Answer, Normal, Exit, Ended, Ending, CutSteps, Unknown, Unsupported, go_on, set_status, status_when, remember, goes, device, request_of, test_request, text_end, run_text, started_text, run_all, command, simple, sized, assign, for_each, exec_script, exec_list, exec_joined, exec_command, exec_arms, exec}
+use Rattle.rehearse_rules.specs.Execution.{Limits, Answer, Normal, Exit, Ended, Ending, CutSteps, Unknown, Unsupported, go_on, set_status, status_when, remember, goes, device, test_request, text_end, run_text, started_text, run_all, command, simple, sized, assign, for_each, exec_script, exec_list, exec_joined, exec_command, exec_arms, exec}
 use Rattle.rehearse_rules.proofs.TakenOutcomes.{KeepsAll, Keeps-if, Keeps-run, Keeps-simple, Keeps-sized, Keeps-assign, Keeps-for, Keeps-script, Keeps-joined, Keeps-arms, Keeps-exec, Keeps-ended}
 use Rattle.rehearse_reads.specs.Keys.{Key, Environment, Status, Access, Reads, AreAmong, AgreeOn, all_read, ReadsWithin, known_after}
 use Rattle.rehearse_reads.specs.Alike.{AreAbreast, IsAlike}
-use Rattle.rehearse_reads.specs.Accesses.{behind, behind_text, status_written, words_reads, device_accesses, computed_accesses, setenv_accesses, tree_accesses, text_accesses, started_accesses, run_accesses, builtin_accesses, call_accesses, simple_accesses, sized_accesses, assign_accesses, for_accesses, script_accesses, list_accesses, joined_accesses, command_accesses, arms_accesses, accesses}
+use Rattle.rehearse_reads.specs.Accesses.{behind, behind_text, status_written, words_reads, device_accesses, listed_accesses, computed_accesses, setenv_accesses, tree_accesses, text_accesses, started_accesses, run_accesses, builtin_accesses, call_accesses, simple_accesses, sized_accesses, assign_accesses, for_accesses, script_accesses, list_accesses, joined_accesses, command_accesses, arms_accesses, accesses}
 use Rattle.rehearse_reads.proofs.AccessLemmas.{read_first, read_then}
 use Rattle.rehearse_reads.proofs.AbreastLemmas.{near_status, near_computed, near_sets, near_echoed}
 use Rattle.rehearse_reads.proofs.SameWords.{fields_agree, turns_agree}
 use Rattle.rehearse_reads.proofs.AlikeParts.{normal_alike, exit_alike, ended_alike, if_alike, after_keys, Alike-go_on, Alike-text_end, sized_alike}
-use Rattle.rehearse_reads.proofs.AlikeDevices.{Alike-begin, Alike-device}
+use Rattle.rehearse_reads.proofs.AlikeDevices.{Alike-begin, Alike-device, Alike-listed}
 use Rattle.rehearse_reads.proofs.AlikeLoops.{Alike-assign, nothing_alike, no_block_alike, Alike-turns, Alike-for}
 
 module _ (limits : Limits) (i j : ℕ) (k l : List LoggedCommand) where
@@ -99,11 +99,11 @@ module _ (limits : Limits) (i j : ℕ) (k l : List LoggedCommand) where
       where
         by : (o : Option Computed) (b : Option Builtin) (f : Option Effect)
             → AlwaysDoes (command limits again script (elim o [ Some computed ↦ BuiltIn (ChangesVariables (λ ws. carried computed)) | None ↦ elim b [ Some builtin ↦ BuiltIn (deed_of builtin) | None ↦ elim f [ Some effect ↦ Device effect | None ↦ NoCommand ] ] ]) name words)
-            (λ s. elim o [ Some computed ↦ computed_accesses computed | None ↦ elim b [ Some builtin ↦ builtin_accesses limits script of_script builtin name words s | None ↦ elim f [ Some effect ↦ device_accesses limits (request_of name words effect) s | None ↦ [] ] ] ])
+            (λ s. elim o [ Some computed ↦ computed_accesses computed | None ↦ elim b [ Some builtin ↦ builtin_accesses limits script of_script builtin name words s | None ↦ elim f [ Some effect ↦ listed_accesses limits name words effect s | None ↦ [] ] ] ])
         by (Some computed) b f known s t near w =
             normal_alike limits i j k l (known_after known (computed_accesses computed)) (remember (variables_changed (λ ws. carried computed) words) s) (remember (variables_changed (λ ws. carried computed) words) t) (near_computed limits i j k l computed known s t near w)
         by None (Some builtin) f known s t near w = Alike-builtin again builtin name words known s t near w
-        by None None (Some effect) known s t near w = Alike-device limits i j k l (request_of name words effect) known s t near w
+        by None None (Some effect) known s t near w = Alike-listed limits i j k l name words effect known s t near w
         by None None None known s t near w = ended_alike limits i j k l known (Unknown name) s t near
 
     pub Alike-simple : (again : Bool) (fs : List Text) → AlwaysDoes (simple limits again script fs) (simple_accesses limits script of_script fs)

@@ -4,7 +4,7 @@ use Rattle.std.specs.Str.{bytes_eq}
 use Rattle.std.proofs.lemmas.Bool.{and_parts}
 use Rattle.std.proofs.lemmas.Slice.Eq.{bytes_eq-Decides}
 use Rattle.rehearse_terms.specs.State.{Text, same_words}
-use Rattle.rehearse_reads.specs.Keys.{Key, Environment, Local, AnswerTo, Status, Access, Reads, Writes, IsAmong, AreAmong, all_read, ReadsWithin, same_key, keys_in_front, keys_read}
+use Rattle.rehearse_reads.specs.Keys.{Key, Environment, Local, AnswerTo, Succeeded, Status, Access, Reads, Writes, IsAmong, AreAmong, all_read, ReadsWithin, same_key, keys_in_front, keys_read}
 use Rattle.rehearse_reads.specs.Laws.{KeysReadSuffice, StretchesJoin, MoreKeysInFront, CoveringJoins, FurtherReadsCover}
 
 -- words that are found equal are equal
@@ -22,18 +22,27 @@ equal_keys : (a b : Key) → same_key a b ≡ true → a ≡ b
 equal_keys (Environment a) (Environment b) e = ap Environment ((bytes_eq-Decides a b).0 e)
 equal_keys (Environment a) (Local b) e = absurd (cc)
 equal_keys (Environment a) (AnswerTo b) e = absurd (cc)
+equal_keys (Environment a) (Succeeded b) e = absurd (cc)
 equal_keys (Environment a) Status e = absurd (cc)
 equal_keys (Local a) (Environment b) e = absurd (cc)
 equal_keys (Local a) (Local b) e = ap Local ((bytes_eq-Decides a b).0 e)
 equal_keys (Local a) (AnswerTo b) e = absurd (cc)
+equal_keys (Local a) (Succeeded b) e = absurd (cc)
 equal_keys (Local a) Status e = absurd (cc)
 equal_keys (AnswerTo a) (Environment b) e = absurd (cc)
 equal_keys (AnswerTo a) (Local b) e = absurd (cc)
 equal_keys (AnswerTo a) (AnswerTo b) e = ap AnswerTo (equal_words a b e)
+equal_keys (AnswerTo a) (Succeeded b) e = absurd (cc)
 equal_keys (AnswerTo a) Status e = absurd (cc)
+equal_keys (Succeeded a) (Environment b) e = absurd (cc)
+equal_keys (Succeeded a) (Local b) e = absurd (cc)
+equal_keys (Succeeded a) (AnswerTo b) e = absurd (cc)
+equal_keys (Succeeded a) (Succeeded b) e = ap Succeeded (equal_words a b e)
+equal_keys (Succeeded a) Status e = absurd (cc)
 equal_keys Status (Environment b) e = absurd (cc)
 equal_keys Status (Local b) e = absurd (cc)
 equal_keys Status (AnswerTo b) e = absurd (cc)
+equal_keys Status (Succeeded b) e = absurd (cc)
 equal_keys Status Status e = refl
 
 -- keys without one of them
@@ -61,6 +70,7 @@ same_itself : (key : Key) → same_key key key ≡ true
 same_itself (Environment name) = (bytes_eq-Decides name name).1 refl
 same_itself (Local name) = (bytes_eq-Decides name name).1 refl
 same_itself (AnswerTo call) = same_words_itself call
+same_itself (Succeeded start) = same_words_itself start
 same_itself Status = refl
 
 not_other : (k key : Key) → same_key k key ≡ false → k ≡ key → ⊥

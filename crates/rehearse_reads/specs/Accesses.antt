@@ -11,15 +11,16 @@ use Rattle.builtins.specs.Builtins.{Builtin, SetEnv, Run, Test, Echo, True, Fals
 use Rattle.commands.specs.Computed.{Computed, Gives, Exists, Sets, Deletes, SetsNumber}
 use Rattle.commands.specs.VariableNames.{is_bad_name}
 use Rattle.device_list.specs.Called.{sets_in}
-use Rattle.device_list.specs.DeviceList.{effect_of, computed_by}
+use Rattle.device_list.specs.DeviceList.{Effect, effect_of, computed_by}
 use Rattle.rehearse_terms.specs.Outcomes.{Outcome, Success, Failure, OutcomeWord}
 use Rattle.rehearse_terms.specs.State.{Text, get, Memory, State}
 use Rattle.rehearse_terms.specs.declared.shell.Shell.{Shell}
 use Rattle.rehearse_terms.specs.declared.shell.Shell.TheVariants.{Profile, Old2023, Old2025}
 use Rattle.rehearse_rules.specs.Parameters.{parameters_in}
 use Rattle.rehearse_rules.specs.ByShell.{asks_in, fields_in, turns_in, skips_rest, follows, assigned_in, is_refused}
+use Rattle.rehearse_rules.specs.Needs.{effect_now}
 use Rattle.rehearse_rules.specs.Execution.{Limits, Answer, Normal, Exit, Ended, Dry, CutSteps, Request, set_status, goes, holds, outcome_when, told, assign_local, begin_turn, request_of, test_request, started_text, run_text, exec_script, exec_list, exec_command, exec}
-use Rattle.rehearse_reads.specs.Keys.{Key, Environment, Local, AnswerTo, Status, Access, Reads, Writes, all_read}
+use Rattle.rehearse_reads.specs.Keys.{Key, Environment, Local, AnswerTo, Succeeded, Status, Access, Reads, Writes, all_read}
 
 -- what the next part of a script accesses, if this one has ended normally
 abbrev pub behind : Answer → (State → List Access) → List Access
@@ -74,6 +75,11 @@ computed_accesses (Deletes names) = deletion_accesses names
 computed_accesses (SetsNumber name number) = Writes (Environment name) ∷ status_written
 
 -- ---- device commands
+
+-- a command that needs a call reads whether it has succeeded
+abbrev pub needs_reads : (needs : List Text) → List Key
+needs_reads [] = []
+needs_reads (name ∷ words) = Succeeded (name ∷ words) ∷ []
 
 -- a command whose answers stay reads whether it has one
 abbrev pub told_reads : Request → List Key
@@ -172,6 +178,11 @@ module _ (limits : Limits) where
         | false ↦ []
       ]
 
+  -- a command of the list, also one that fails since the call that it needs has not succeeded
+  abbrev pub listed_accesses : (name : Text) → (words : List Text) → Effect → State → List Access
+  listed_accesses name words effect s =
+      all_read (needs_reads effect.needs) ++ device_accesses (request_of name words (effect_now s.log effect)) s
+
   -- `script` is what the tree of a text does, and `of_script` what it accesses
   module _ (script : Script → State → Answer) (of_script : Script → State → List Access) where
     abbrev pub tree_accesses : Script → State → List Access
@@ -217,7 +228,7 @@ module _ (limits : Limits) where
           | None ↦ elim (builtin_of name) [
             | Some builtin ↦ builtin_accesses builtin name words s
             | None ↦ elim (effect_of limits.devices name words) [
-              | Some effect ↦ device_accesses (request_of name words effect) s
+              | Some effect ↦ listed_accesses name words effect s
               | None ↦ []
             ]
           ]

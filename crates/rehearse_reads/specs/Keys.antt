@@ -2,6 +2,7 @@
 use Rattle.std.specs.Prelude.{◌≡◌, Bool, true, false, not, List, [], ◌∷◌, map, filter, ◌⊎◌}
 use Rattle.std.specs.Str.{bytes_eq}
 use Rattle.rehearse_terms.specs.State.{Text, State, get, answer_in, same_words}
+use Rattle.rehearse_rules.specs.Needs.{has_succeeded}
 
 -- one thing that a run can read
 pub data Key : Type 0 where
@@ -11,6 +12,8 @@ pub data Key : Type 0 where
   Local : (name : Text) → Key
   -- the answer that stays for a device command with these words, its name first: the answer, or that there is none
   AnswerTo : (call : List Text) → Key
+  -- whether a device command has succeeded whose words, its name first, begin so
+  Succeeded : (start : List Text) → Key
   -- `$?`
   Status : Key
 
@@ -24,6 +27,7 @@ abbrev pub AgreeAt : Key → State → State → Type 0
 AgreeAt (Environment name) s t = get t.memory.environment name ≡ get s.memory.environment name
 AgreeAt (Local name) s t = get t.memory.locals name ≡ get s.memory.locals name
 AgreeAt (AnswerTo call) s t = answer_in t.log call ≡ answer_in s.log call
+AgreeAt (Succeeded start) s t = has_succeeded t.log start ≡ has_succeeded s.log start
 AgreeAt Status s t = t.memory.status ≡ s.memory.status
 
 abbrev pub IsAmong : Key → List Key → Type 0
@@ -59,6 +63,7 @@ abbrev pub same_key : Key → Key → Bool
 same_key (Environment name) (Environment other) = bytes_eq name other
 same_key (Local name) (Local other) = bytes_eq name other
 same_key (AnswerTo call) (AnswerTo other) = same_words call other
+same_key (Succeeded start) (Succeeded other) = same_words start other
 same_key Status Status = true
 same_key _ _ = false
 
