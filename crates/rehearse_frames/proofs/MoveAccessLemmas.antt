@@ -15,6 +15,7 @@ use Rattle.rehearse_terms.specs.Outcomes.{OutcomeWord, Outcome, Success, Failure
 use Rattle.rehearse_terms.specs.State.{Text, get, State}
 use Rattle.rehearse_rules.specs.Parameters.{parameters_in}
 use Rattle.rehearse_rules.specs.ByShell.{unread, leaves_in, status_of_exit, asks_in, truth_in, fields_in, turns_in, skips_rest, status_of_loop, follows, assigned_in, reads_again}
+use Rattle.rehearse_rules.specs.Needs.{effect_now}
 use Rattle.rehearse_rules.specs.Execution.{Limits, Answer, Normal, Exit, Ended, Ending, CutDevices, CutSteps, Unknown, Size, Finished, Unsupported, Request, go_on, set_status, status_when, goes, holds, begin, finish, tell_or_take, told, told_again, logged, set_environment, device, text_end, run_all, command, simple, sized, assign, assign_local, turns, for_each, begin_turn, run_text, started_text, request_of, test_request}
 use Rattle.rehearse_rules.proofs.GrowingSteps.{Grew, AtLeast-track, Grew-block}
 use Rattle.rehearse_rules.proofs.TakenOutcomes.{KeepsAll, Keeps-script, Keeps-exec}
@@ -24,9 +25,9 @@ use Rattle.rehearse_machine.proofs.MoveMeaning.{turn_more}
 use Rattle.rehearse_machine.proofs.StepBoundLemmas.{closed_exec}
 use Rattle.rehearse_machine.proofs.BoundLemmas.{Cut-block}
 use Rattle.rehearse_reads.specs.Keys.{Access, Reads, Writes, Environment, Status, all_read}
-use Rattle.rehearse_reads.specs.Accesses.{behind, behind_text, status_written, word_reads, words_reads, sized_accesses, local_accesses, assign_accesses, turns_accesses, turn_accesses, each_accesses, for_accesses, begun_accesses, told_reads, answer_accesses, outcome_accesses, device_accesses, computed_accesses, tree_accesses, text_accesses, started_accesses, builtin_accesses, call_accesses, simple_accesses}
+use Rattle.rehearse_reads.specs.Accesses.{needs_reads, listed_accesses, behind, behind_text, status_written, word_reads, words_reads, sized_accesses, local_accesses, assign_accesses, turns_accesses, turn_accesses, each_accesses, for_accesses, begun_accesses, told_reads, answer_accesses, outcome_accesses, device_accesses, computed_accesses, tree_accesses, text_accesses, started_accesses, builtin_accesses, call_accesses, simple_accesses}
 use Rattle.rehearse_frames.specs.ToCome.{names_read, of_full, of_script, of_one, of_joined, of_arms, of_again, of_condition, of_choice, of_names, of_frames, of_next}
-use Rattle.rehearse_frames.specs.MoveAccesses.{of_leaving, of_exit, of_telling, of_beginning_for, of_beginning_arms, of_beginning_tree, of_beginning_text, of_beginning_names, of_asking, of_builtin, of_call, of_fields, of_command, of_move}
+use Rattle.rehearse_frames.specs.MoveAccesses.{of_listed, of_leaving, of_exit, of_telling, of_beginning_for, of_beginning_arms, of_beginning_tree, of_beginning_text, of_beginning_names, of_asking, of_builtin, of_call, of_fields, of_command, of_move}
 use Rattle.rehearse_frames.specs.Laws.{MovesComeFirst, OutcomesComeFirst}
 use Rattle.rehearse_frames.proofs.NoneBegun.{nothing_behind, None-block}
 use Rattle.rehearse_frames.proofs.SameAccesses.{either, same_behind, turns_same, closed_accesses}
@@ -165,13 +166,15 @@ module _ (limits : Limits) (wanted : List Text) (w : OutcomeWord) where
   call_so again name ws fs s = by (computed_by limits.devices name ws) (builtin_of name) (effect_of limits.devices name ws)
     where
       by : (o : Option Computed) (b : Option Builtin) (f : Option Effect)
-          → (elim o [ Some computed ↦ computed_accesses computed | None ↦ elim b [ Some builtin ↦ of_builtin limits again builtin name ws fs s | None ↦ elim f [ Some effect ↦ of_asking limits (request_of name ws effect) s | None ↦ [] ] ] ])
+          → (elim o [ Some computed ↦ computed_accesses computed | None ↦ elim b [ Some builtin ↦ of_builtin limits again builtin name ws fs s | None ↦ elim f [ Some effect ↦ of_listed limits name ws effect s | None ↦ [] ] ] ])
           ++ After (begin_called limits again (elim o [ Some computed ↦ BuiltIn (ChangesVariables (λ vs. carried computed)) | None ↦ elim b [ Some builtin ↦ BuiltIn (deed_of builtin) | None ↦ elim f [ Some effect ↦ Device effect | None ↦ NoCommand ] ] ]) name ws fs s)
-          ≡ (elim o [ Some computed ↦ computed_accesses computed | None ↦ elim b [ Some builtin ↦ builtin_accesses limits (full limits) (of_full limits) builtin name ws (with w s) | None ↦ elim f [ Some effect ↦ device_accesses limits (request_of name ws effect) (with w s) | None ↦ [] ] ] ])
+          ≡ (elim o [ Some computed ↦ computed_accesses computed | None ↦ elim b [ Some builtin ↦ builtin_accesses limits (full limits) (of_full limits) builtin name ws (with w s) | None ↦ elim f [ Some effect ↦ listed_accesses limits name ws effect (with w s) | None ↦ [] ] ] ])
           ++ Rest fs (command limits again (full limits) (elim o [ Some computed ↦ BuiltIn (ChangesVariables (λ vs. carried computed)) | None ↦ elim b [ Some builtin ↦ BuiltIn (deed_of builtin) | None ↦ elim f [ Some effect ↦ Device effect | None ↦ NoCommand ] ] ]) name ws (with w s))
       by (Some computed) b f = refl
       by None (Some builtin) f = builtin_so again builtin name ws fs s
-      by None None (Some effect) = ask_so (request_of name ws effect) fs s
+      by None None (Some effect) =
+          let request : Request = request_of name ws (effect_now s.log effect) in
+          in_front (all_read (needs_reads effect.needs)) (of_asking limits request s) (After (ask limits request fs s)) (device_accesses limits request (with w s)) (Rest fs (device limits request (with w s))) (ask_so request fs s)
       by None None None = stops_so fs (Unknown name) s
 
   fields_so : (again : Bool) (ws : List Text) (fs : List Frame) (s : State) → of_fields limits again fs ws s ++ After (begin_fields limits again ws fs s) ≡ simple_accesses limits (full limits) (of_full limits) ws (with w s) ++ Rest fs (simple limits again (full limits) ws (with w s))

@@ -17,7 +17,7 @@ use Rattle.rehearse_rules.proofs.TakenOutcomes.{KeepsAll, Keeps-script, Keeps-li
 use Rattle.rehearse_machine.proofs.StepBoundLemmas.{same_if, tree_answer, block_proper, same_script, same_exec}
 use Rattle.rehearse_machine.proofs.BoundLemmas.{Cut-block}
 use Rattle.rehearse_reads.specs.Keys.{Access, Reads, Writes, Environment, Status, all_read}
-use Rattle.rehearse_reads.specs.Accesses.{behind, behind_text, status_written, words_reads, sized_accesses, turns_accesses, turn_accesses, each_accesses, for_accesses, begun_accesses, device_accesses, computed_accesses, tree_accesses, text_accesses, started_accesses, run_accesses, builtin_accesses, call_accesses, simple_accesses, script_accesses, list_accesses, joined_accesses, command_accesses, arms_accesses, accesses}
+use Rattle.rehearse_reads.specs.Accesses.{listed_accesses, behind, behind_text, status_written, words_reads, sized_accesses, turns_accesses, turn_accesses, each_accesses, for_accesses, begun_accesses, device_accesses, computed_accesses, tree_accesses, text_accesses, started_accesses, run_accesses, builtin_accesses, call_accesses, simple_accesses, script_accesses, list_accesses, joined_accesses, command_accesses, arms_accesses, accesses}
 use Rattle.rehearse_frames.proofs.NoneBegun.{None-block, None-turns}
 
 pub same_both : (xs ys zs ws : List Access) → xs ≡ ys → zs ≡ ws → xs ++ zs ≡ ys ++ ws
@@ -108,8 +108,8 @@ module _ (limits : Limits) where
     call_same name ws t h = by (computed_by limits.devices name ws) (builtin_of name) (effect_of limits.devices name ws)
       where
         by : (o : Option Computed) (b : Option Builtin) (f : Option Effect)
-            → ◌≡◌ {A = List Access} (elim o [ Some computed ↦ computed_accesses computed | None ↦ elim b [ Some builtin ↦ builtin_accesses limits text u builtin name ws t | None ↦ elim f [ Some effect ↦ device_accesses limits (request_of name ws effect) t | None ↦ [] ] ] ])
-            (elim o [ Some computed ↦ computed_accesses computed | None ↦ elim b [ Some builtin ↦ builtin_accesses limits text' u' builtin name ws t | None ↦ elim f [ Some effect ↦ device_accesses limits (request_of name ws effect) t | None ↦ [] ] ] ])
+            → ◌≡◌ {A = List Access} (elim o [ Some computed ↦ computed_accesses computed | None ↦ elim b [ Some builtin ↦ builtin_accesses limits text u builtin name ws t | None ↦ elim f [ Some effect ↦ listed_accesses limits name ws effect t | None ↦ [] ] ] ])
+            (elim o [ Some computed ↦ computed_accesses computed | None ↦ elim b [ Some builtin ↦ builtin_accesses limits text' u' builtin name ws t | None ↦ elim f [ Some effect ↦ listed_accesses limits name ws effect t | None ↦ [] ] ] ])
         by (Some computed) b f = refl
         by None (Some builtin) f = builtin_same builtin name ws t h
         by None None (Some effect) = refl

@@ -5,15 +5,16 @@ use Rattle.hushlang.specs.Tree as tree
 use Rattle.hushlang.specs.Tree.{Script, Command, Arms}
 use Rattle.hushlang_old.specs.TreesByShell.{tree_in, lacks_end_in}
 use Rattle.builtins.specs.Builtins.{Builtin, SetEnv, Run, Test, Echo, True, False, Leave, builtin_of}
-use Rattle.device_list.specs.DeviceList.{effect_of, computed_by}
+use Rattle.device_list.specs.DeviceList.{Effect, effect_of, computed_by}
 use Rattle.rehearse_terms.specs.State.{Text, get, State}
 use Rattle.rehearse_terms.specs.declared.shell.Shell.{Shell}
 use Rattle.rehearse_rules.specs.Parameters.{parameters_in}
 use Rattle.rehearse_rules.specs.ByShell.{reads_again, leaves_in, asks_in, fields_in, turns_in, follows}
+use Rattle.rehearse_rules.specs.Needs.{effect_now}
 use Rattle.rehearse_rules.specs.Execution.{Limits, goes, holds, outcome_when, Request, told, request_of, test_request}
 use Rattle.rehearse_machine.specs.Frames.{Frame, Lists, Linked, IfCondition, LoopCondition, LoopBody, ForBody, RunNames, RunText}
 use Rattle.rehearse_reads.specs.Keys.{Access, Reads, Writes, Environment, Status, all_read}
-use Rattle.rehearse_reads.specs.Accesses.{status_written, words_reads, setenv_accesses, computed_accesses, told_reads, outcome_accesses, sized_accesses, assign_accesses, turn_accesses, nothing_accesses, begun_accesses}
+use Rattle.rehearse_reads.specs.Accesses.{status_written, words_reads, setenv_accesses, computed_accesses, needs_reads, told_reads, outcome_accesses, sized_accesses, assign_accesses, turn_accesses, nothing_accesses, begun_accesses}
 
 -- `exit` passes the frames up to the `run` of its text. With none it ends the run, whose status is read
 abbrev pub of_leaving : List Frame → List Access
@@ -73,6 +74,11 @@ module _ (limits : Limits) where
         | false ↦ []
       ]
 
+  -- a command of the list, also one that fails since the call that it needs has not succeeded
+  abbrev pub of_listed : (name : Text) → (words : List Text) → Effect → State → List Access
+  of_listed name words effect s =
+      all_read (needs_reads effect.needs) ++ of_asking (request_of name words (effect_now s.log effect)) s
+
   -- `again` says whether the command is read again
   abbrev pub of_builtin : (again : Bool) → Builtin → (name : Text) → (words : List Text) → List Frame → State → List Access
   of_builtin again SetEnv name words fs s = setenv_accesses words
@@ -95,7 +101,7 @@ module _ (limits : Limits) where
         | None ↦ elim (builtin_of name) [
           | Some builtin ↦ of_builtin again builtin name words fs s
           | None ↦ elim (effect_of limits.devices name words) [
-            | Some effect ↦ of_asking (request_of name words effect) s
+            | Some effect ↦ of_listed name words effect s
             | None ↦ []
           ]
         ]
