@@ -15,13 +15,13 @@ use Rattle.rehearse_terms.specs.declared.shell.Shell.{Shell}
 use Rattle.rehearse_terms.specs.declared.shell.Shell.TheVariants.{Profile, Old2023, Old2025}
 use Rattle.rehearse_rules.specs.ByShell.{leaves_in, asks_in, fields_in, turns_in, follows, reads_again}
 use Rattle.rehearse_rules.specs.Parameters.{parameters_in}
-use Rattle.rehearse_rules.specs.Execution.{Limits, goes, holds, request_of, test_request}
+use Rattle.rehearse_rules.specs.Execution.{Limits, goes, holds, test_request}
 use Rattle.rehearse_machine.specs.Frames.{Frame, Lists, Linked, IfCondition, LoopCondition, LoopBody, ForBody, RunNames, RunText}
 use Rattle.rehearse_machine.specs.Places.{drop_joined, joined_at, drop_arms, condition_frame, phase, from_command, for_frame, run_frame}
 use Rattle.rehearse_reads.specs.Keys.{Key, Access, Reads, Writes, Environment, Local, Status, all_read, Covers}
 use Rattle.rehearse_reads.specs.Accesses.{status_written, words_reads, setenv_accesses, computed_accesses, sized_accesses, assign_accesses, turn_accesses, nothing_accesses}
 use Rattle.rehearse_reads.proofs.KeysRead.{covering_joins}
-use Rattle.rehearse_frames.specs.MoveAccesses.{of_leaving, of_exit, of_beginning_for, of_beginning_arms, of_beginning_tree, of_beginning_text, of_beginning_names, of_asking, of_builtin, of_call, of_fields, of_command, of_move}
+use Rattle.rehearse_frames.specs.MoveAccesses.{of_leaving, of_exit, of_beginning_for, of_beginning_arms, of_beginning_tree, of_beginning_text, of_beginning_names, of_builtin, of_listed, of_call, of_fields, of_command, of_move}
 use Rattle.rehearse_reports.proofs.ReportLemmas.{covers_itself, covers_through, covers_less, covers_write, reads_cover, reads_alone}
 use Rattle.rehearse_reports.proofs.CoverLemmas.{covers_status, covers_nothing, covers_arms}
 
@@ -67,14 +67,14 @@ module _ (limits : Limits) (fs : List Frame) where
   call_over again name words s = by (computed_by limits.devices name words) (builtin_of name)
     where
       other : Option Effect → List Access
-      other o = elim o [ Some effect ↦ of_asking limits (request_of name words effect) s | None ↦ [] ]
+      other o = elim o [ Some effect ↦ of_listed limits name words effect s | None ↦ [] ]
 
       by : (o : Option Computed) (b : Option Builtin) → Covers
-          (elim o [ Some computed ↦ computed_accesses computed | None ↦ elim b [ Some builtin ↦ of_builtin limits again builtin name words [] s | None ↦ elim (effect_of limits.devices name words) [ Some effect ↦ of_asking limits (request_of name words effect) s | None ↦ [] ] ] ])
-          (elim o [ Some computed ↦ computed_accesses computed | None ↦ elim b [ Some builtin ↦ of_builtin limits again builtin name words fs s | None ↦ elim (effect_of limits.devices name words) [ Some effect ↦ of_asking limits (request_of name words effect) s | None ↦ [] ] ] ])
+          (elim o [ Some computed ↦ computed_accesses computed | None ↦ elim b [ Some builtin ↦ of_builtin limits again builtin name words [] s | None ↦ elim (effect_of limits.devices name words) [ Some effect ↦ of_listed limits name words effect s | None ↦ [] ] ] ])
+          (elim o [ Some computed ↦ computed_accesses computed | None ↦ elim b [ Some builtin ↦ of_builtin limits again builtin name words fs s | None ↦ elim (effect_of limits.devices name words) [ Some effect ↦ of_listed limits name words effect s | None ↦ [] ] ] ])
       by (Some computed) b = covers_itself (computed_accesses computed)
       by None (Some builtin) = builtin_over again builtin name words s
-      by None None = covers_itself (elim (effect_of limits.devices name words) [ Some effect ↦ of_asking limits (request_of name words effect) s | None ↦ [] ])
+      by None None = covers_itself (elim (effect_of limits.devices name words) [ Some effect ↦ of_listed limits name words effect s | None ↦ [] ])
 
   fields_over : (again : Bool) (fields : List Text) (s : State) → Covers (of_fields limits again [] fields s) (of_fields limits again fs fields s)
   fields_over again [] s = covers_itself (nothing_accesses limits.shell)

@@ -1,5 +1,6 @@
 -- Reports of calls.
-use Rattle.std.proofs.Common.{◌≡◌, ◌∙◌, refl, sym, ap, subst, ℕ, Bool, true, false, List, [], ◌∷◌, ◌++◌, cond, map, length, drop, get_or, Vec, Global, ◌<◌, ◌≤◌, arith}
+use Rattle.std.proofs.Common.{◌≡◌, ◌∙◌, refl, sym, ap, subst, ℕ, Bool, true, false, List, [], ◌∷◌, ◌++◌, cond, map, length, drop, get_or, Vec, Global, Some, ◌<◌, ◌≤◌, arith}
+use Rattle.std.proofs.Math.Dec.{eqb, eqb-suc-zero}
 use Rattle.std.specs.List.{flat_map}
 use Rattle.std.specs.Prelude.{if◌then◌else◌}
 use Rattle.std.proofs.lemmas.List.Concat.{flat_map-cons}
@@ -10,14 +11,16 @@ use Rattle.commands.specs.ComputedShown.{computed_shown}
 use Rattle.commands.specs.declared.computed.Computed.{Computed}
 use Rattle.commands.specs.declared.computed.Computed.TheVariants as names
 use Rattle.commands.specs.VariableNames.{is_bad_name}
-use Rattle.rehearse_terms.specs.State.{Text, State}
+use Rattle.device_list.specs.DeviceList.{Effect}
+use Rattle.rehearse_terms.specs.State.{Text, State, LoggedCommand}
+use Rattle.rehearse_rules.specs.Needs.{is_met, effect_now}
 use Rattle.rehearse_rules.specs.Execution.{Limits, Request}
-use Rattle.rehearse_reads.specs.Keys.{Key, Access, Reads, Writes, Environment, AnswerTo, Status, all_read, Covers}
-use Rattle.rehearse_reads.specs.Accesses.{status_written, setenv_accesses, deletion_accesses, computed_accesses, told_reads}
+use Rattle.rehearse_reads.specs.Keys.{Key, Access, Reads, Writes, Environment, AnswerTo, Succeeded, Status, all_read, Covers}
+use Rattle.rehearse_reads.specs.Accesses.{status_written, setenv_accesses, deletion_accesses, computed_accesses, needs_reads, told_reads}
 use Rattle.rehearse_reads.proofs.KeysRead.{covering_joins}
 use Rattle.rehearse_frames.specs.MoveAccesses.{of_asking}
 use Rattle.rehearse_reports.specs.Reports.{Reports, Adds}
-use Rattle.rehearse_reports.proofs.ReportLemmas.{covers_itself, covers_less, covers_through, reports_nothing, reports_as, reports_then}
+use Rattle.rehearse_reports.proofs.ReportLemmas.{covers_itself, covers_less, covers_through, reads_cover, reports_nothing, reports_as, reports_then}
 use Rattle.rehearse_reports.proofs.CoverLemmas.{covers_status, covers_asking}
 
 -- an access, and then the status is written
@@ -75,18 +78,47 @@ deletes_all old new names h =
 
 -- ---- the answer that stays for a command
 
+not_steady : (b stays : Bool) → (b ≡ true → stays ≡ true) → stays ≡ false → b ≡ false
+not_steady true stays e f = absurd (let g = sym (e refl) ∙ f in cc)
+not_steady false stays e f = refl
+
 abbrev told_if : Request → Bool → List Key
 told_if request stays = if stays then AnswerTo (request.name ∷ request.words) ∷ [] else []
 
-pub asks_unsteady : (old : List Access) (limits : Limits) (request : Request) (s : State) (stays : Bool) → request.effect.stays ≡ stays → stays ≡ false → Reports old old (of_asking limits request s)
+pub asks_unsteady : (old : List Access) (limits : Limits) (request : Request) (s : State) (stays : Bool) → (request.effect.stays ≡ true → stays ≡ true) → stays ≡ false → Reports old old (of_asking limits request s)
 asks_unsteady old limits request s stays e f =
-    let none : told_reads request ≡ [] = ap (told_if request) (e ∙ f) in
+    let none : told_reads request ≡ [] = ap (told_if request) (not_steady request.effect.stays stays e f) in
     reports_as old old [] (of_asking limits request s) (reports_nothing old) (subst (λ (keys : List Key). Covers (all_read keys) (of_asking limits request s)) none (covers_asking limits request s))
 
-pub asks_steady : (old new : List Access) (limits : Limits) (request : Request) (s : State) (stays : Bool) (call : List Text) → request.effect.stays ≡ stays → stays ≡ true → call ≡ request.name ∷ request.words → Reports old new (Reads (AnswerTo call) ∷ []) → Reports old new (of_asking limits request s)
-asks_steady old new limits request s stays call e f is h =
-    let one : told_reads request ≡ AnswerTo call ∷ [] = ap (told_if request) (e ∙ f) ∙ ap (λ (ws : List Text). AnswerTo ws ∷ []) (sym is) in
-    reports_as old new (Reads (AnswerTo call) ∷ []) (of_asking limits request s) h (subst (λ (keys : List Key). Covers (all_read keys) (of_asking limits request s)) one (covers_asking limits request s))
+pub asks_steady : (old new : List Access) (limits : Limits) (request : Request) (s : State) (call : List Text) → call ≡ request.name ∷ request.words → Reports old new (Reads (AnswerTo call) ∷ []) → Reports old new (of_asking limits request s)
+asks_steady old new limits request s call is h = by request.effect.stays refl
+  where
+    by : (stays : Bool) → request.effect.stays ≡ stays → Reports old new (of_asking limits request s)
+    by true e =
+        let one : told_reads request ≡ AnswerTo call ∷ [] = ap (told_if request) e ∙ ap (λ (ws : List Text). AnswerTo ws ∷ []) (sym is) in
+        reports_as old new (Reads (AnswerTo call) ∷ []) (of_asking limits request s) h (subst (λ (keys : List Key). Covers (all_read keys) (of_asking limits request s)) one (covers_asking limits request s))
+    by false e =
+        let none : told_reads request ≡ [] = ap (told_if request) e in
+        let nothing : Covers [] (of_asking limits request s) = subst (λ (keys : List Key). Covers (all_read keys) (of_asking limits request s)) none (covers_asking limits request s) in
+        reports_as old new (Reads (AnswerTo call) ∷ []) (of_asking limits request s) h (reads_cover (AnswerTo call ∷ []) [] (of_asking limits request s) nothing)
+
+-- ---- the call that a command needs
+
+pub needs_none : (old : List Access) (needs : List (Vec ℕ Global)) → true ≡ eqb (length needs) 0 → Reports old old (all_read (needs_reads (bytes_of_words needs)))
+needs_none old [] e = reports_nothing old
+needs_none old (n ∷ ns) e = absurd (let f = e ∙ eqb-suc-zero (length ns) in cc)
+
+pub needs_one : (old new : List Access) (needs : List (Vec ℕ Global)) (call : List Text) → call ≡ bytes_of_words needs → false ≡ eqb (length needs) 0 → Reports old new (Reads (Succeeded call) ∷ []) → Reports old new (all_read (needs_reads (bytes_of_words needs)))
+needs_one old new [] call is some h = absurd (let f = some in cc)
+needs_one old new (n ∷ ns) call is some h = subst (λ (ws : List Text). Reports old new (Reads (Succeeded ws) ∷ [])) is h
+
+-- a command does not stay that the list does not say to stay
+pub now_steady : (log : List LoggedCommand) (effect : Effect) → (effect_now log effect).stays ≡ true → effect.stays ≡ true
+now_steady log effect = by (is_met effect.needs log)
+  where
+    by : (b : Bool) → (let e : Effect = cond b effect (record effect { stays = false; always = Some false }) in e.stays) ≡ true → effect.stays ≡ true
+    by true e = e
+    by false e = absurd (let g = e in cc)
 
 -- ---- computed calls
 

@@ -11,10 +11,10 @@ use Rattle.device_list.specs.DeviceList.{Effect, effect_of, computed_by}
 use Rattle.rehearse_terms.specs.State.{Text, State}
 use Rattle.rehearse_terms.specs.declared.shell.Shell.{Shell}
 use Rattle.rehearse_rules.specs.ByShell.{asks_in, leaves_in, follows, is_refused}
-use Rattle.rehearse_rules.specs.Execution.{Limits, request_of, test_request}
+use Rattle.rehearse_rules.specs.Execution.{Limits, test_request}
 use Rattle.rehearse_reads.specs.Keys.{Access, Reads, Writes, Local, Status, Covers}
 use Rattle.rehearse_reads.specs.Accesses.{status_written, local_accesses, computed_accesses, nothing_accesses}
-use Rattle.rehearse_frames.specs.MoveAccesses.{of_exit, of_asking, of_builtin, of_call, of_fields}
+use Rattle.rehearse_frames.specs.MoveAccesses.{of_exit, of_asking, of_builtin, of_call, of_fields, of_listed}
 use Rattle.rehearse_reports.specs.Reports.{Reports, of_test}
 use Rattle.rehearse_reports.proofs.ReportLemmas.{covers_itself, covers_write, reports_nothing, reports_as}
 use Rattle.rehearse_reports.proofs.CoverLemmas.{covers_status, covers_nothing}
@@ -58,7 +58,7 @@ module _ (limits : Limits) (name : Text) (words : List Text) (s : State) where
 
 module _ (limits : Limits) (again : Bool) (name : Text) (words : List Text) (s : State) where
   abbrev call_if : Option Computed → Option says.Builtin → Option Effect → List Access
-  call_if o b f = elim o [ Some computed ↦ computed_accesses computed | None ↦ elim b [ Some builtin ↦ of_builtin limits again builtin name words [] s | None ↦ elim f [ Some effect ↦ of_asking limits (request_of name words effect) s | None ↦ [] ] ] ]
+  call_if o b f = elim o [ Some computed ↦ computed_accesses computed | None ↦ elim b [ Some builtin ↦ of_builtin limits again builtin name words [] s | None ↦ elim f [ Some effect ↦ of_listed limits name words effect s | None ↦ [] ] ] ]
 
   module _ (uncomputed : computed_by limits.devices name words ≡ None) where
     pub call_builtin : {E : Type 0} (r : Result (Unit {0}) E) (old new : List Access) (b : says.Builtin) → builtin_of name ≡ Some b → OnOk r (Reports old new (of_builtin limits again b name words [] s)) → OnOk r (Reports old new (of_call limits again name words [] s))
@@ -66,7 +66,7 @@ module _ (limits : Limits) (again : Bool) (name : Text) (words : List Text) (s :
         subst (λ (o : Option Computed). OnOk r (Reports old new (call_if o (builtin_of name) (effect_of limits.devices name words)))) (sym uncomputed)
         (subst (λ (o : Option says.Builtin). OnOk r (Reports old new (call_if None o (effect_of limits.devices name words)))) (sym e) h)
 
-    pub call_listed : {E : Type 0} (r : Result (Unit {0}) E) (old new : List Access) (effect : Effect) → builtin_of name ≡ None → effect_of limits.devices name words ≡ Some effect → OnOk r (Reports old new (of_asking limits (request_of name words effect) s)) → OnOk r (Reports old new (of_call limits again name words [] s))
+    pub call_listed : {E : Type 0} (r : Result (Unit {0}) E) (old new : List Access) (effect : Effect) → builtin_of name ≡ None → effect_of limits.devices name words ≡ Some effect → OnOk r (Reports old new (of_listed limits name words effect s)) → OnOk r (Reports old new (of_call limits again name words [] s))
     call_listed r old new effect e f h =
         subst (λ (o : Option Computed). OnOk r (Reports old new (call_if o (builtin_of name) (effect_of limits.devices name words)))) (sym uncomputed)
         (subst (λ (o : Option says.Builtin). OnOk r (Reports old new (call_if None o (effect_of limits.devices name words)))) (sym e)

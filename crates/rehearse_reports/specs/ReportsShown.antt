@@ -4,13 +4,14 @@ use Rattle.text.specs.TextsShown.{bytes_of_words}
 use Rattle.rehearse_reads.specs.Keys as keys
 use Rattle.rehearse_reads.specs.Keys.{Access, Writes, all_read}
 use Rattle.rehearse_reports.specs.declared.key.Key.{Key}
-use Rattle.rehearse_reports.specs.declared.key.Key.TheVariants.{Environment, Local, AnswerTo, Status}
+use Rattle.rehearse_reports.specs.declared.key.Key.TheVariants.{Environment, Local, AnswerTo, Succeeded, Status}
 use Rattle.rehearse_reports.specs.declared.reported.Reported.{Reported}
 
 abbrev pub key_shown : Key → keys.Key
 key_shown (Environment name) = keys.Environment name.items
 key_shown (Local name) = keys.Local name.items
 key_shown (AnswerTo call) = keys.AnswerTo (bytes_of_words call.items)
+key_shown (Succeeded start) = keys.Succeeded (bytes_of_words start.items)
 key_shown Status = keys.Status
 
 abbrev pub keys_shown : List Key → List keys.Key

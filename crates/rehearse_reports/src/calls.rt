@@ -1,5 +1,7 @@
 //! What the calls of commands read and write, by their fields.
-ghost use Rattle.std.specs.Prelude.{◌≡◌, [], OnOk, option_map, Bool};
+ghost use Rattle.std.specs.Prelude.{◌≡◌, [], true, OnOk, option_map, Bool};
+ghost use Rattle.device_list.specs.CommandsShown.{lent_effect};
+ghost use Rattle.rehearse_reads.specs.Keys.{all_read};
 ghost use Rattle.builtins.specs.Builtins.{builtin_of};
 ghost use Rattle.builtins.specs.BuiltinsShown.{builtin_shown};
 ghost use Rattle.commands.specs.ComputedShown.{computed_shown};
@@ -7,8 +9,8 @@ ghost use Rattle.text.specs.TextsShown.{bytes_of_words};
 ghost use Rattle.rehearse_terms.specs.State.{State};
 ghost use Rattle.rehearse_rules.specs.Execution.{Limits, Request};
 ghost use Rattle.rehearse_machine.specs.MovesShown.{limits_of};
-ghost use Rattle.rehearse_reads.specs.Accesses.{computed_accesses, deletion_accesses, setenv_accesses};
-ghost use Rattle.rehearse_frames.specs.MoveAccesses.{of_asking, of_builtin, of_call, of_fields};
+ghost use Rattle.rehearse_reads.specs.Accesses.{computed_accesses, deletion_accesses, needs_reads, setenv_accesses};
+ghost use Rattle.rehearse_frames.specs.MoveAccesses.{of_asking, of_builtin, of_call, of_fields, of_listed};
 ghost use Rattle.rehearse_reports.specs.Reports.{Reports, of_test};
 ghost use Rattle.rehearse_reports.specs.ReportsShown.{accesses_shown};
 
@@ -17,7 +19,7 @@ use crate::reported::Reported;
 use bootstore_state::StoreError;
 use builtins::{Builtin, builtin_of};
 use commands::{Computed, is_bad_name};
-use device_list::Devices;
+use device_list::{Devices, Effect};
 use rehearse_machine::{asks_in, follows, question_in};
 use rehearse_terms::RunBounds;
 use std::alloc::Global;
@@ -83,7 +85,7 @@ fn report_computed(
     }
 }
 
-/// Reports that a device command reads the answer that stays for it, if its answers stay. Errors:
+/// Reports that a device command reads the answer that stays for it, if its answers may stay. Errors:
 /// `Memory`.
 fn report_asking(
     alloc: Global,
@@ -93,7 +95,7 @@ fn report_asking(
     stays: bool,
 ) -> Result<(), StoreError>
     ensures { (limits : Limits) (request : Request) (s : State) → request.name ≡ name.now
-        → request.words ≡ bytes_of_words words.now → request.effect.stays ≡ stays
+        → request.words ≡ bytes_of_words words.now → (request.effect.stays ≡ true → stays ≡ true)
         → OnOk result (Reports (accesses_shown reported.old) (accesses_shown reported.new)
         (of_asking limits request s)) }
 {
@@ -104,6 +106,36 @@ fn report_asking(
     call.insert(0, Vec::from_slice(alloc, name)?)?;
     reported.reads(Key::AnswerTo(call))?;
     Ok(())
+}
+
+/// Reports that a command reads whether the call that it needs has succeeded, if it needs one. Errors:
+/// `Memory`.
+fn report_needs(alloc: Global, reported: &mut Reported, needs: &[Vec<u8>]) -> Result<(), StoreError>
+    ensures { OnOk result (Reports (accesses_shown reported.old) (accesses_shown reported.new)
+        (all_read (needs_reads (bytes_of_words needs.now)))) }
+{
+    if needs.is_empty() {
+        return Ok(());
+    }
+    let call = copied_words(alloc, needs)?;
+    reported.reads(Key::Succeeded(call))?;
+    Ok(())
+}
+
+/// Reports what a command of the device list reads. Errors: `Memory`.
+fn report_listed(
+    alloc: Global,
+    reported: &mut Reported,
+    name: &[u8],
+    words: &[Vec<u8>],
+    effect: Effect<'_>,
+) -> Result<(), StoreError>
+    ensures { (limits : Limits) (s : State) → OnOk result (Reports (accesses_shown reported.old)
+        (accesses_shown reported.new) (of_listed limits name.now (bytes_of_words words.now)
+        (lent_effect effect.entry) s)) }
+{
+    report_needs(alloc, reported, effect.needs)?;
+    report_asking(alloc, reported, name, words, effect.stays)
 }
 
 /// Reports what `test` reads: the answer about the file that it asks for, if the answers stay. Errors:
@@ -175,7 +207,7 @@ fn report_named(
         return report_builtin(alloc, reported, devices, bounds, builtin, name, words);
     }
     match devices.effect(name, words) {
-        Some(effect) => report_asking(alloc, reported, name, words, effect.stays),
+        Some(effect) => report_listed(alloc, reported, name, words, effect),
         None => Ok(()),
     }
 }

@@ -13,6 +13,8 @@ pub enum Key {
     /// The answer that stays for a device command with these words, its name first: the answer, or
     /// that there is none.
     AnswerTo(Vec<Vec<u8>>),
+    /// Whether a device command has succeeded whose words, its name first, begin so.
+    Succeeded(Vec<Vec<u8>>),
     /// `$?`
     Status,
 }
@@ -28,6 +30,7 @@ impl Key {
             }
             (Key::Local(name), Key::Local(other)) => name.as_slice() == other.as_slice(),
             (Key::AnswerTo(call), Key::AnswerTo(other)) => call.as_slice() == other.as_slice(),
+            (Key::Succeeded(start), Key::Succeeded(other)) => start.as_slice() == other.as_slice(),
             (Key::Status, Key::Status) => true,
             _ => false,
         }

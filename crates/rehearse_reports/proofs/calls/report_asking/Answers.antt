@@ -10,7 +10,7 @@ returns-then-not-stays c limits request s named spoken steady = asks_unsteady (a
 
 pub returns : goal.returns
 returns c limits request s named spoken steady =
-    asks_steady (accesses_shown c.args.reported.now) (accesses_shown c.reads.new.self) limits request s c.args.stays (bytes_of_words c.insert.new.self.items) steady c.if-not-stays.false
+    asks_steady (accesses_shown c.args.reported.now) (accesses_shown c.reads.new.self) limits request s (bytes_of_words c.insert.new.self.items)
     (ap bytes_of_words c.in_ok-insert.ensures.items
     ∙ ap (λ (x : Text). x ∷ bytes_of_words c.in_ok-call.call.items) c.in_ok-from_slice.ensures.items
     ∙ ap (λ (x : List Text). c.args.name.now ∷ x) c.in_ok-call.ensures

@@ -1,10 +1,9 @@
-use Rattle.std.proofs.Common.{ap, sym, refl, ◌∙◌}
+use Rattle.std.proofs.Common.{ap, sym, ◌∙◌}
 use Rattle.std.specs.Prelude.{option_map}
 use Rattle.text.specs.TextsShown.{bytes_of_words}
 use Rattle.builtins.specs.BuiltinsShown.{builtin_shown}
 use Rattle.commands.specs.ComputedShown.{call_shown}
 use Rattle.device_list.specs.CommandsShown.{lent_effect}
-use Rattle.rehearse_rules.specs.Execution.{request_of}
 use Rattle.rehearse_machine.specs.MovesShown.{limits_of}
 use Rattle.rehearse_reports.specs.ReportsShown.{accesses_shown}
 use Rattle.rehearse_reports.proofs.NamedLemmas.{call_builtin, call_listed, call_unknown}
@@ -20,8 +19,8 @@ returns-in-Some-effect c again s =
     let limits = limits_of c.args.devices.now c.args.bounds in
     let words = bytes_of_words c.args.words.now in
     let effect = lent_effect c.in-Some-effect.effect in
-    call_listed limits again c.args.name.now words s (sym c.computed.ensures ∙ ap call_shown c.in_default.is) c.report_asking.result (accesses_shown c.args.reported.now) (accesses_shown c.report_asking.new.reported) effect
-    (sym c.requires ∙ ap (option_map builtin_shown) c.in_default-builtin.is) (sym c.effect.ensures ∙ ap (option_map lent_effect) c.in-Some-effect.is) (c.report_asking.ensures limits (request_of c.args.name.now words effect) s refl refl refl)
+    call_listed limits again c.args.name.now words s (sym c.computed.ensures ∙ ap call_shown c.in_default.is) c.report_listed.result (accesses_shown c.args.reported.now) (accesses_shown c.report_listed.new.reported) effect
+    (sym c.requires ∙ ap (option_map builtin_shown) c.in_default-builtin.is) (sym c.effect.ensures ∙ ap (option_map lent_effect) c.in-Some-effect.is) (c.report_listed.ensures limits s)
 
 pub returns-in-None : goal.returns-in-None
 returns-in-None c again s =

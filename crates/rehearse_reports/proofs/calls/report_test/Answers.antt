@@ -19,4 +19,4 @@ returns c s =
     test_asks limits c.args.name.now words s c.report_asking.result (accesses_shown c.args.reported.now) (accesses_shown c.report_asking.new.reported) c.shell.result c.shell.ensures c.if-not-asks_in.ensures
     (c.report_asking.ensures limits (test_request limits c.args.name.now words) s refl
     (sym (ap bytes_of_words c.deref.ensures.value ∙ c.in_ok-question.ensures ∙ ap (λ (x : Shell). question_in x words) c.shell-2.ensures))
-    (sym c.test_stays.ensures))
+    (λ e. c.test_stays.ensures ∙ e))

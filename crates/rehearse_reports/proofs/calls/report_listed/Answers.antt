@@ -1,0 +1,23 @@
+use Rattle.std.proofs.Common.{refl}
+use Rattle.text.specs.TextsShown.{bytes_of_words}
+use Rattle.device_list.specs.CommandsShown.{lent_effect}
+use Rattle.rehearse_rules.specs.Execution.{request_of}
+use Rattle.rehearse_rules.specs.Needs.{effect_now}
+use Rattle.rehearse_reads.specs.Keys.{all_read}
+use Rattle.rehearse_reads.specs.Accesses.{needs_reads}
+use Rattle.rehearse_frames.specs.MoveAccesses.{of_asking}
+use Rattle.rehearse_reports.specs.Reports.{Reports}
+use Rattle.rehearse_reports.specs.ReportsShown.{accesses_shown}
+use Rattle.rehearse_reports.proofs.CallLemmas.{now_steady}
+use Rattle.rehearse_reports.proofs.NamedLemmas.{ok_as}
+use Rattle.rehearse_reports.proofs.ReportLemmas.{reports_then}
+use Rattle.rehearse_reports.proofs.calls.report_listed.Goals as goal
+
+pub returns : goal.returns
+returns c limits s =
+    let effect = lent_effect c.args.effect in
+    let words = bytes_of_words c.args.words.now in
+    let request = request_of c.args.name.now words (effect_now s.log effect) in
+    ok_as c.report_asking.result
+    (reports_then (accesses_shown c.args.reported.now) (accesses_shown c.report_needs.new.reported) (accesses_shown c.report_asking.new.reported) (all_read (needs_reads effect.needs)) (of_asking limits request s) c.in_ok-report_needs.ensures)
+    (c.report_asking.ensures limits request s refl refl (now_steady s.log effect))
