@@ -4,7 +4,7 @@ use Rattle.bootstore_state.specs.Moment.{Moment}
 use Rattle.bootstore_state.specs.StoredState.{state_at}
 use Rattle.rehearse_terms.specs.Outcomes.{Outcome, Success, Failure, OutcomeWord}
 use Rattle.rehearse_terms.specs.State.{Text, State}
-use Rattle.rehearse_rules.specs.Execution.{Limits}
+use Rattle.rehearse_rules.specs.Execution.{Limits, Request}
 use Rattle.rehearse_machine.specs.Frames.{Frame, Next, Go, answered, move}
 use Rattle.rehearse_machine.specs.Machine.{Asking}
 use Rattle.rehearse_machine.specs.MovesShown.{next_shown}
@@ -12,10 +12,11 @@ use Rattle.rehearse_machine.specs.Places.{next_of, frames_of, place_answered}
 use Rattle.rehearse_machine.specs.declared.ask.Step.{Step}
 use Rattle.rehearse_machine.proofs.PlaceMoves.{place_move-is, place_answered-is}
 use Rattle.rehearse_reads.specs.Keys.{Key, keys_in_front}
+use Rattle.rehearse_reads.specs.Accesses.{outcome_accesses}
 use Rattle.rehearse_frames.specs.MoveAccesses.{of_move}
 use Rattle.rehearse_frames.specs.KeysToCome.{AreEnough, AreEnoughAfter}
 use Rattle.rehearse_frames.specs.Laws.{KeysOfSteps, KeysOfOutcomes}
-use Rattle.rehearse_frames.proofs.EnoughKeys.{keys_of_moves, keys_of_asking, keys_of_moments, more_keys_are_enough}
+use Rattle.rehearse_frames.proofs.EnoughKeys.{keys_of_moves, keys_of_answers, keys_of_asking, keys_of_moments, more_keys_are_enough}
 
 pub keys_of_steps : KeysOfSteps
 keys_of_steps limits wanted step old new reported later sound shown covers enough =
@@ -35,7 +36,10 @@ after_outcome limits wanted m new asking outcome step later shown enough =
 
 pub keys_of_outcomes : KeysOfOutcomes
 keys_of_outcomes limits wanted m asking won_step lost_step won lost after_won after_lost shown_won shown_lost enough_won enough_lost =
+    let request : Request = asking.request in
+    let fs : List Frame = frames_of m.frames in
+    let s : State = state_at m [] in
     keys_of_moments limits wanted m _ asking
-    (keys_of_asking limits wanted asking.request (frames_of m.frames) (state_at m []) after_won after_lost
-    (after_outcome limits wanted m won asking Success won_step after_won shown_won enough_won)
-    (after_outcome limits wanted m lost asking Failure lost_step after_lost shown_lost enough_lost))
+    (keys_of_asking limits wanted request fs s (keys_in_front (outcome_accesses Success request) after_won) (keys_in_front (outcome_accesses Failure request) after_lost)
+    (keys_of_answers limits wanted Success request fs s after_won (after_outcome limits wanted m won asking Success won_step after_won shown_won enough_won))
+    (keys_of_answers limits wanted Failure request fs s after_lost (after_outcome limits wanted m lost asking Failure lost_step after_lost shown_lost enough_lost)))

@@ -117,7 +117,7 @@ module _ (limits : Limits) (i j : ℕ) (k l : List LoggedCommand) where
         ap (λ (o : Option Text). o ∷ map (get t.memory.environment) names) (agree (Environment name) w.0)
         ∙ ap (λ (os : List (Option Text)). get s.memory.environment name ∷ os) (same_values names known s t agree w.1)
 
-    over_alike : (known : List Key) (one other : Ending) (s t : State) → other ≡ one → Near known s t → ReadsWithin known (names_read wanted) → CameAlike limits i j k l wanted (Over one s) (Over other t)
+    pub over_alike : (known : List Key) (one other : Ending) (s t : State) → other ≡ one → Near known s t → ReadsWithin known (names_read wanted) → CameAlike limits i j k l wanted (Over one s) (Over other t)
     over_alike known one other s t e near w =
         let apart = further_apart k l s.log t.log near.logs in
         same (record {
@@ -162,7 +162,7 @@ module _ (limits : Limits) (i j : ℕ) (k l : List LoggedCommand) where
 abbrev Abreast : Limits → List Key → State → State → State → State → Type 0
 Abreast limits keys s t x y = AreAbreast limits s.steps t.steps s.log t.log keys x y
 
-beside : (limits : Limits) (keys : List Key) (s t : State) (w : OutcomeWord) → AgreeOn keys s t → Abreast limits keys s t (with w s) (with w t)
+pub beside : (limits : Limits) (keys : List Key) (s t : State) (w : OutcomeWord) → AgreeOn keys s t → Abreast limits keys s t (with w s) (with w t)
 beside limits keys s t w agree =
     let u : State = with s.word t in
     near_moved limits s.steps t.steps s.log t.log keys s u w (from_the_start limits keys s u (λ key h. moved_at key s t s.steps t.steps s.word s.word (agree key h)) refl)

@@ -2,6 +2,7 @@ pub mod NoneBegun
 pub mod SameAccesses
 pub mod MoveAccessLemmas
 pub mod FramesAlike
+pub mod MovesAlike
 pub mod EnoughKeys
 pub mod EnoughSteps
 mod MoveExamples

@@ -15,7 +15,7 @@ use Rattle.rehearse_machine.specs.Meaning.{with, continue, comes_to, AreProperFr
 use Rattle.rehearse_reads.specs.Keys.{Key, Access, AreAmong, AgreeOn, keys_in_front, keys_read, Covers}
 use Rattle.rehearse_reads.specs.Accesses.{outcome_accesses}
 use Rattle.rehearse_frames.specs.ToCome.{names_read, of_frames, of_next}
-use Rattle.rehearse_frames.specs.KeysToCome.{AreEnough, AreEnoughFrom, AreEnoughAfter, AreEnoughAt, AreAtOnePlace}
+use Rattle.rehearse_frames.specs.KeysToCome.{AreEnough, AreEnoughIf, AreEnoughFrom, AreEnoughAfter, AreEnoughAt, AreAtOnePlace}
 use Rattle.rehearse_frames.specs.MoveAccesses.{of_move}
 use Rattle.rehearse_frames.specs.AlikeFutures.{CameAlike}
 
@@ -56,13 +56,18 @@ KeysOfMoves = (limits : Limits) (wanted : List Text) (fs : List Frame) (s : Stat
     AreEnough limits wanted (move limits fs s) later →
     AreEnough limits wanted (Go fs s) (keys_in_front (of_move limits fs s) later)
 
--- where a device command asks, the same of both outcomes
+-- where a device command asks and has this outcome, the same with what the outcome writes
+abbrev pub KeysOfAnswers : Type 0
+KeysOfAnswers = (limits : Limits) (wanted : List Text) (outcome : Outcome) (request : Request) (fs : List Frame) (s : State) (later : List Key) →
+    AreEnough limits wanted (answered outcome request fs s) later →
+    AreEnoughIf limits wanted outcome (Ask request fs s) (keys_in_front (outcome_accesses outcome request) later)
+
+-- and the keys of both outcomes together are enough there
 abbrev pub KeysOfAsking : Type 0
 KeysOfAsking = (limits : Limits) (wanted : List Text) (request : Request) (fs : List Frame) (s : State) (won lost : List Key) →
-    AreEnough limits wanted (answered Success request fs s) won →
-    AreEnough limits wanted (answered Failure request fs s) lost →
-    AreEnough limits wanted (Ask request fs s)
-    (keys_in_front (outcome_accesses Success request) won ++ keys_in_front (outcome_accesses Failure request) lost)
+    AreEnoughIf limits wanted Success (Ask request fs s) won →
+    AreEnoughIf limits wanted Failure (Ask request fs s) lost →
+    AreEnough limits wanted (Ask request fs s) (won ++ lost)
 
 -- further keys do no harm
 abbrev pub MoreKeysAreEnough : Type 0

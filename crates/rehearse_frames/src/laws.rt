@@ -1,7 +1,7 @@
 //! Laws of what frames still read. A call of one does nothing: its contract is the law.
 
 ghost use Rattle.rehearse_frames.specs.Laws.{AskedAlike, FramesGoAlike, MovesComeFirst, OutcomesComeFirst};
-ghost use Rattle.rehearse_frames.specs.Laws.{KeysOfAsking, KeysOfEnds, KeysOfMoments, KeysOfMoves, KeysOfOutcomes, KeysOfSteps, MomentsGoAlike, MoreKeysAreEnough};
+ghost use Rattle.rehearse_frames.specs.Laws.{KeysOfAnswers, KeysOfAsking, KeysOfEnds, KeysOfMoments, KeysOfMoves, KeysOfOutcomes, KeysOfSteps, MomentsGoAlike, MoreKeysAreEnough};
 
 /// What frames still read and write is what their next move reads and writes, and then what is to come
 /// after it, whatever outcomes are left. If a device command asks, it is what its outcome writes, and then
@@ -27,6 +27,7 @@ pub fn frames_go_alike()
 pub fn keys_to_come()
     ensures ends { KeysOfEnds }
     ensures moves { KeysOfMoves }
+    ensures answers { KeysOfAnswers }
     ensures asking { KeysOfAsking }
     ensures moments { KeysOfMoments }
     ensures more { MoreKeysAreEnough }

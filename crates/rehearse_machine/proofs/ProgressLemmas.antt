@@ -36,7 +36,7 @@ module _ (limits : Limits) where
   IsFurther s (Ask r fs t) = (s.steps < t.steps) × (t.steps ≤ limits.step_bound)
   IsFurther s (Stop ending u) = (s.steps ≤ u.steps) × (s.steps ≤ limits.step_bound → u.steps ≤ limits.step_bound)
 
-  either-quiet : (t : State) (b : Bool) (x y : Next) → IsQuiet t x → IsQuiet t y → IsQuiet t (elim b [ true ↦ x | false ↦ y ])
+  pub either-quiet : (t : State) (b : Bool) (x y : Next) → IsQuiet t x → IsQuiet t y → IsQuiet t (elim b [ true ↦ x | false ↦ y ])
   either-quiet t true x y h k = h
   either-quiet t false x y h k = k
 
@@ -51,7 +51,7 @@ module _ (limits : Limits) where
   leave-quiet (LoopBody until c b ∷ fs) s = leave-quiet fs s
   leave-quiet (ForBody name values body ∷ fs) s = leave-quiet fs s
 
-  assign-quiet : (pairs : List (Text × tree.Word)) (fs : List Frame) (t s : State) → s.steps ≡ t.steps → IsQuiet t (begin_assign limits.shell pairs fs s)
+  pub assign-quiet : (pairs : List (Text × tree.Word)) (fs : List Frame) (t s : State) → s.steps ≡ t.steps → IsQuiet t (begin_assign limits.shell pairs fs s)
   assign-quiet [] fs t s e = e
   assign-quiet (pair ∷ pairs) fs t s e = let value : Text = assigned_in limits.shell (parameters_in s.memory) pair.1 in either-quiet t (nat_le (length value) most_bytes) (begin_assign limits.shell pairs fs (assign_local limits.shell pair.0 value s)) (Stop Size s) (assign-quiet pairs fs t (assign_local limits.shell pair.0 value s) e) e
 
@@ -96,11 +96,11 @@ module _ (limits : Limits) where
   builtin-quiet again (Device effect) name ws fs s = ask-quiet (request_of name ws (effect_now s.log effect)) fs s
   builtin-quiet again NoCommand name ws fs s = refl
 
-  fields-quiet : (again : Bool) (ws : List Text) (fs : List Frame) (s : State) → IsQuiet s (begin_fields limits again ws fs s)
+  pub fields-quiet : (again : Bool) (ws : List Text) (fs : List Frame) (s : State) → IsQuiet s (begin_fields limits again ws fs s)
   fields-quiet again [] fs s = refl
   fields-quiet again (name ∷ ws) fs s = either-quiet s (follows limits.shell limits.devices name ws) (begin_called limits again (called_by limits.devices name ws) name ws fs s) (Stop (Unsupported name) s) (builtin-quiet again (called_by limits.devices name ws) name ws fs s) refl
 
-  for-quiet : (name : Text) (values : List Text) (body : Script) (fs : List Frame) (s : State) → IsQuiet s (begin_for name values body fs s)
+  pub for-quiet : (name : Text) (values : List Text) (body : Script) (fs : List Frame) (s : State) → IsQuiet s (begin_for name values body fs s)
   for-quiet name [] body fs s = refl
   for-quiet name (f ∷ values) body fs s = refl
 

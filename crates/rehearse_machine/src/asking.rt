@@ -16,8 +16,8 @@ use rehearse_rules::Halt;
 use rehearse_terms::RunBounds;
 use std::alloc::Global;
 
-/// The simple command before the place of a frame.
-fn call_in_front(frame: &Frame) -> Option<&Call>
+/// The simple command before the place of a frame, if one is there.
+pub fn call_in_front(frame: &Frame) -> Option<&Call>
     ensures { option_map (λ call. view.call call.now) result ≡ asking.words_in_front frame.now }
 {
     let at = frame.at();

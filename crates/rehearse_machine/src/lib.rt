@@ -28,7 +28,7 @@ mod steps;
 mod told;
 
 pub use ask::{Ask, Statuses, Step};
-pub use asking::find_again;
+pub use asking::{call_in_front, find_again};
 pub use by_shell::{asks_in, follows, is_refused, question_in};
 pub use list_commands::command_of;
 pub use machine::step;

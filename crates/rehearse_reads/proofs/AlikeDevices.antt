@@ -58,7 +58,7 @@ module _ (limits : Limits) (i j : ℕ) (k l : List LoggedCommand) where
   told_by known s t call always true near h = near.keys (AnswerTo call) h.0
   told_by known s t call always false near h = refl
 
-  told_alike : (known : List Key) (s t : State) (request : Request) → Near known s t → AreAmong (told_reads request) known → told request t.log ≡ told request s.log
+  pub told_alike : (known : List Key) (s t : State) (request : Request) → Near known s t → AreAmong (told_reads request) known → told request t.log ≡ told request s.log
   told_alike known s t request near h = told_by known s t (request.name ∷ request.words) request.effect.always request.effect.stays near h
 
   finish_alike : (known : List Key) (ends : Option BoardEnd) (name : Text) (s t : State) → Near known s t → Is known (finish ends name s) (finish ends name t)

@@ -61,7 +61,7 @@ module _ (limits : Limits) (i j : ℕ) (k l : List LoggedCommand) where
   no_block_alike Old2023 known s t near = normal_alike limits i j k l known s t near
   no_block_alike Old2025 known s t near = normal_alike limits i j k l known s t near
 
-  near_turn : (shell : Shell) (known : List Key) (s t : State) (name value : Text) → Near known s t → Near (known_after known (turn_accesses shell name)) (begin_turn shell name value s) (begin_turn shell name value t)
+  pub near_turn : (shell : Shell) (known : List Key) (s t : State) (name value : Text) → Near known s t → Near (known_after known (turn_accesses shell name)) (begin_turn shell name value s) (begin_turn shell name value t)
   near_turn Profile known s t name value near = near_local limits i j k l known s t name value near
   near_turn Old2023 known s t name value near = near_status limits i j k l (Local name ∷ known) (set_local name value s) (set_local name value t) 0 (near_local limits i j k l known s t name value near)
   near_turn Old2025 known s t name value near = near_status limits i j k l (Local name ∷ known) (set_local name value s) (set_local name value t) 0 (near_local limits i j k l known s t name value near)

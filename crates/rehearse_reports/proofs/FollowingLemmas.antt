@@ -7,8 +7,9 @@ use Rattle.bootstore_state.specs.StoredState.{state_at}
 use Rattle.bootstore_state.specs.declared.store.StoreError.{StoreError}
 use Rattle.rehearse_terms.specs.Outcomes.{Outcome, Success, Failure, OutcomeWord}
 use Rattle.rehearse_terms.specs.State.{Text, State}
-use Rattle.rehearse_rules.specs.Execution.{Limits, Dry, Request}
-use Rattle.rehearse_machine.specs.Frames.{Frame, Lists, Linked, IfCondition, LoopCondition, LoopBody, ForBody, RunNames, RunText, Next, Go, Ask, answered}
+use Rattle.rehearse_rules.specs.Execution.{Limits, Request}
+use Rattle.rehearse_rules.specs.EndingsShown.{halt_shown}
+use Rattle.rehearse_machine.specs.Frames.{Next, Ask}
 use Rattle.rehearse_machine.specs.AskingCommand.{found_again}
 use Rattle.rehearse_machine.specs.Machine.{Asking, IsAsking}
 use Rattle.rehearse_machine.specs.MovesShown.{next_shown, request_shown, Does, Comes}
@@ -23,11 +24,11 @@ use Rattle.rehearse_machine.specs.declared.rehearsal.Stop.TheVariants as stops
 use Rattle.rehearse_machine.proofs.PlaceMoves.{place_answered-is}
 use Rattle.rehearse_reads.specs.Keys.{Key, Access, AreAmong, keys_in_front, keys_read}
 use Rattle.rehearse_reads.specs.Accesses.{outcome_accesses}
-use Rattle.rehearse_reads.proofs.KeysRead.{stretches_join, more_keys_in_front, all_left, all_right, all_of_more}
-use Rattle.rehearse_frames.specs.ToCome.{of_frames, of_next}
+use Rattle.rehearse_reads.proofs.KeysRead.{stretches_join}
+use Rattle.rehearse_frames.specs.ToCome.{names_read}
 use Rattle.rehearse_frames.specs.MoveAccesses.{of_move}
-use Rattle.rehearse_frames.specs.KeysToCome.{AreEnough, AreEnoughFrom, AreEnoughAfter, AreEnoughAt}
-use Rattle.rehearse_frames.proofs.MoveAccessLemmas.{outcomes_come_first}
+use Rattle.rehearse_frames.specs.KeysToCome.{AreEnough, AreEnoughIf, AreEnoughFrom, AreEnoughAfter, AreEnoughAt, asks_at}
+use Rattle.rehearse_frames.proofs.EnoughKeys.{asks_so, keys_of_ends, keys_of_answers, keys_of_asking, keys_of_moments, more_decide, more_keys_are_enough}
 use Rattle.rehearse_frames.proofs.EnoughSteps.{keys_of_steps}
 use Rattle.rehearse_reports.specs.Reports.{Reports}
 use Rattle.rehearse_reports.specs.Following.{Leads, Follows, FollowsToStop, FollowsOutcome, IsReportedFor, AreEnoughFor, AreEnoughAtStop}
@@ -67,43 +68,28 @@ follows_as limits m n step other old new e h = subst (λ (x : Step). Follows lim
 
 -- ---- at a device command that asks
 
--- with no outcome left nothing is read
-frames_dry : (limits : Limits) (wanted : List Text) (fs : List Frame) (s : State) → of_frames limits wanted fs (Dry s) ≡ []
-frames_dry limits wanted [] s = refl
-frames_dry limits wanted (Lists lists ∷ fs) s = frames_dry limits wanted fs s
-frames_dry limits wanted (Linked links ∷ fs) s = frames_dry limits wanted fs s
-frames_dry limits wanted (IfCondition b arms ∷ fs) s = frames_dry limits wanted fs s
-frames_dry limits wanted (LoopCondition until c b last ∷ fs) s = frames_dry limits wanted fs s
-frames_dry limits wanted (LoopBody until c b ∷ fs) s = frames_dry limits wanted fs s
-frames_dry limits wanted (ForBody name values body ∷ fs) s = frames_dry limits wanted fs s
-frames_dry limits wanted (RunNames names ∷ fs) s = frames_dry limits wanted fs s
-frames_dry limits wanted (RunText names ∷ fs) s = frames_dry limits wanted fs s
-
 module _ (limits : Limits) (wanted : List Text) (m : Moment) (asking : Asking limits m) where
   abbrev asks : Next
   asks = Ask asking.request (frames_of m.frames) (state_at m [])
 
-  found_so : (w : OutcomeWord) → of_next limits wanted w (next_of (found_again limits m.frames (state_at m w))) ≡ of_next limits wanted w asks
-  found_so w = ap (λ (x : PlaceNext). of_next limits wanted w (next_of x)) (asking.again w)
+  if_there : (outcome : Outcome) (keys : List Key) → AreEnoughIf limits wanted outcome asks keys → AreEnoughFor limits wanted outcome m keys
+  if_there outcome keys enough = subst (λ (next : Next). AreEnoughIf limits wanted outcome next keys) (sym (asks_so limits m asking)) enough
+
+  if_here : (outcome : Outcome) (keys : List Key) → AreEnoughFor limits wanted outcome m keys → AreEnoughIf limits wanted outcome asks keys
+  if_here outcome keys enough = subst (λ (next : Next). AreEnoughIf limits wanted outcome next keys) (asks_so limits m asking) enough
 
   both_keys : (won lost : List Key) → AreEnoughFor limits wanted Success m won → AreEnoughFor limits wanted Failure m lost → AreEnoughAt limits wanted m (won ++ lost)
-  both_keys won lost from_success from_failure [] = subst (λ (xs : List Access). AreAmong (keys_read xs) (won ++ lost)) (sym (found_so [] ∙ frames_dry limits wanted (frames_of m.frames) _)) tt
-  both_keys won lost from_success from_failure (Success ∷ w) =
-      all_left (keys_read (of_next limits wanted (Success ∷ w) (next_of (found_again limits m.frames (state_at m (Success ∷ w)))))) won lost (from_success w)
-  both_keys won lost from_success from_failure (Failure ∷ w) =
-      all_right (keys_read (of_next limits wanted (Failure ∷ w) (next_of (found_again limits m.frames (state_at m (Failure ∷ w)))))) won lost (from_failure w)
+  both_keys won lost from_success from_failure =
+      keys_of_moments limits wanted m (won ++ lost) asking
+      (keys_of_asking limits wanted asking.request (frames_of m.frames) (state_at m []) won lost (if_here Success won from_success) (if_here Failure lost from_failure))
 
   -- keys that are enough after an outcome, moved in front of what it writes, are enough for it
   pub outcome_keys : (outcome : Outcome) (step : Step) (n : Moment) (later : List Key) → ((w : OutcomeWord) → next_shown step n w ≡ place_answered outcome asking.request m.frames (state_at m w))
       → AreEnoughAfter limits wanted step n later → AreEnoughFor limits wanted outcome m (keys_in_front (outcome_accesses outcome asking.request) later)
-  outcome_keys outcome step n later shown enough w =
-      let accesses : List Access = outcome_accesses outcome asking.request in
-      let next : Next = answered outcome asking.request (frames_of m.frames) (state_at m []) in
-      let after : AreAmong (keys_read (of_next limits wanted w next)) later =
-      subst (λ (x : Next). AreAmong (keys_read (of_next limits wanted w x)) later) (ap next_of (shown []) ∙ place_answered-is outcome asking.request m.frames (state_at m [])) (enough w) in
-      subst (λ (keys : List Key). AreAmong keys (keys_in_front accesses later))
-      (sym (ap keys_read (found_so (outcome ∷ w) ∙ outcomes_come_first limits wanted outcome w asking.request (frames_of m.frames) (state_at m [])) ∙ stretches_join accesses (of_next limits wanted w next) []))
-      (more_keys_in_front accesses (keys_read (of_next limits wanted w next)) later after)
+  outcome_keys outcome step n later shown enough =
+      if_there outcome (keys_in_front (outcome_accesses outcome asking.request) later)
+      (keys_of_answers limits wanted outcome asking.request (frames_of m.frames) (state_at m []) later
+      (subst (λ (next : Next). AreEnough limits wanted next later) (ap next_of (shown []) ∙ place_answered-is outcome asking.request m.frames (state_at m [])) enough))
 
 pub keys_of_both_outcomes : KeysOfBothOutcomes
 unfolding IsAsking
@@ -117,13 +103,18 @@ follows_asking limits old new step ask before after is drives h =
     let d : Drives limits (steps.Asks ask) old new = subst (λ (x : Step). Drives limits x old new) is drives in
     let f : Follows limits old.present (steps.Asks ask) new.present before after = subst (λ (x : Step). Follows limits old.present x new.present before after) is h in
     leads_to (λ wanted. AreEnoughFrom limits wanted old.present) (λ wanted. AreEnoughAfter limits wanted (steps.Asks ask) new.present) (λ wanted. AreEnoughAt limits wanted new.present) before after
-    (λ wanted later k w. subst (λ (x : PlaceNext). AreAmong (keys_read (of_next limits wanted w (next_of x))) later) (d.again w) (k w)) f
+    (λ wanted later k. subst (λ (x : PlaceNext). AreEnough limits wanted (next_of x) later) (d.again []) k) f
+
+-- at an end, what is wanted is enough
+pub at_end : (limits : Limits) (wanted : List Text) (halt : Halt) (n : Moment) (later : List Key) → AreAmong (keys_read (names_read wanted)) later → AreEnoughAfter limits wanted (steps.Ends halt) n later
+at_end limits wanted halt n later all =
+    more_keys_are_enough limits wanted (next_of (next_shown (steps.Ends halt) n [])) (keys_read (names_read wanted)) later (keys_of_ends limits wanted (halt_shown halt) (state_at n [])) all
 
 pub follows_ended : (limits : Limits) (m n : Moment) (step : Step) (halt : Halt) (before after : List Access) → step ≡ steps.Ends halt → Follows limits m step n before after → FollowsToStop limits m (stops.Ends halt) n before after
 follows_ended limits m n step halt before after is h =
     let f : Follows limits m (steps.Ends halt) n before after = subst (λ (x : Step). Follows limits m x n before after) is h in
     leads_to (λ wanted. AreEnoughFrom limits wanted m) (λ wanted. AreEnoughAfter limits wanted (steps.Ends halt) n) (λ wanted. AreEnoughAtStop limits wanted (stops.Ends halt) n) before after
-    (λ wanted later k w. k) f
+    (λ wanted later k. at_end limits wanted halt n later k) f
 
 -- ---- an outcome
 
@@ -143,5 +134,4 @@ pub reported_for : (limits : Limits) (outcome : Outcome) (m : Moment) (stop : St
     → Leads (λ wanted. AreEnoughFor limits wanted outcome m) (λ wanted. AreEnoughAtStop limits wanted stop n) before after → IsReportedFor limits outcome m stop n after
 reported_for limits outcome m stop n before after none leads wanted later h w =
     let covers : Reports [] after leads.accesses = subst (λ (x : List Access). Reports x after leads.accesses) none leads.reported in
-    all_of_more (keys_read (of_next limits wanted (outcome ∷ w) (next_of (found_again limits m.frames (state_at m (outcome ∷ w)))))) (keys_in_front leads.accesses later) (keys_in_front after later)
-    (leads.enough wanted later h w) (covers later)
+    more_decide limits wanted (asks_at limits m) (outcome ∷ w) (keys_in_front leads.accesses later) (keys_in_front after later) (leads.enough wanted later h w) (covers later)

@@ -10,5 +10,9 @@ pub mod StartLemmas
 pub mod BeginLemmas
 pub mod FrameLemmas
 pub mod MoveLemmas
+pub mod FrontLemmas
+pub mod KnownLemmas
+pub mod AskedLemmas
 pub mod FollowingLemmas
+pub mod AskedSame
 pub mod OutcomeLemmas

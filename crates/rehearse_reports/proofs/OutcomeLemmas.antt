@@ -29,7 +29,7 @@ use Rattle.rehearse_frames.specs.KeysToCome.{AreEnoughFrom, AreEnoughAfter}
 use Rattle.rehearse_reports.specs.Reports.{Reports}
 use Rattle.rehearse_reports.specs.Following.{Leads, FollowsOutcome, FollowsToStop, IsReportedFor, AreEnoughFor, AreEnoughAtStop}
 use Rattle.rehearse_reports.proofs.ReportLemmas.{reports_nothing, reports_then}
-use Rattle.rehearse_reports.proofs.FollowingLemmas.{follows_outcome, leads_then, reported_for}
+use Rattle.rehearse_reports.proofs.FollowingLemmas.{at_end, follows_outcome, leads_then, reported_for}
 
 abbrev names_of : List (Text × Text) → List Access
 names_of sets = names_written (map (λ e. e.0) sets)
@@ -119,4 +119,4 @@ all_reported (Err x) limits outcome m n k old mid new e a b = b
 pub end_reported : (limits : Limits) (outcome : Outcome) (m n : Moment) (step : Step) (halt : Halt) (old new : List Access) → old ≡ [] → step ≡ steps.Ends halt → FollowsOutcome limits outcome m step n old new → IsReportedFor limits outcome m (stops.Ends halt) n new
 end_reported limits outcome m n step halt old new e is a wanted later h =
     let f : FollowsOutcome limits outcome m (steps.Ends halt) n old new = subst (λ (x : Step). FollowsOutcome limits outcome m x n old new) is a in
-    reported_for limits outcome m (stops.Ends halt) n old new e (record { accesses = f.accesses; enough = λ names keys k. f.enough names keys (λ w. k); reported = f.reported }) wanted later h
+    reported_for limits outcome m (stops.Ends halt) n old new e (record { accesses = f.accesses; enough = λ names keys k. f.enough names keys (at_end limits names halt n keys k); reported = f.reported }) wanted later h

@@ -1,18 +1,15 @@
 -- What a machine that reports promises: which keys are enough before what it did. Ours.
 use Rattle.std.specs.Prelude.{List, [], ◌∷◌}
 use Rattle.bootstore_state.specs.Moment.{Moment}
-use Rattle.bootstore_state.specs.StoredState.{state_at}
-use Rattle.rehearse_terms.specs.Outcomes.{Outcome, OutcomeWord}
+use Rattle.rehearse_terms.specs.Outcomes.{Outcome}
 use Rattle.rehearse_terms.specs.State.{Text}
 use Rattle.rehearse_rules.specs.Execution.{Limits}
-use Rattle.rehearse_machine.specs.AskingCommand.{found_again}
-use Rattle.rehearse_machine.specs.Places.{next_of}
 use Rattle.rehearse_machine.specs.declared.ask.Step.{Step}
 use Rattle.rehearse_machine.specs.declared.rehearsal.Stop.{Stop}
 use Rattle.rehearse_machine.specs.declared.rehearsal.Stop.TheVariants.{Asks, Ends}
 use Rattle.rehearse_reads.specs.Keys.{Key, Access, AreAmong, keys_in_front, keys_read}
-use Rattle.rehearse_frames.specs.ToCome.{names_read, of_next}
-use Rattle.rehearse_frames.specs.KeysToCome.{AreEnoughFrom, AreEnoughAfter, AreEnoughAt}
+use Rattle.rehearse_frames.specs.ToCome.{names_read}
+use Rattle.rehearse_frames.specs.KeysToCome.{AreEnoughFrom, AreEnoughAfter, AreEnoughAt, AreEnoughIf, asks_at}
 use Rattle.rehearse_reports.specs.Reports.{Reports}
 
 -- A report goes on with what is read and written between two places of a run: keys that are enough at the second one, moved
@@ -35,8 +32,7 @@ AreEnoughAtStop limits wanted (Ends halt) m keys = AreAmong (keys_read (names_re
 
 -- keys that are enough at a moment at which a device command asks, if its outcome is this one
 abbrev pub AreEnoughFor : Limits → (wanted : List Text) → Outcome → Moment → List Key → Type 0
-AreEnoughFor limits wanted outcome m keys = (w : OutcomeWord) →
-    AreAmong (keys_read (of_next limits wanted (outcome ∷ w) (next_of (found_again limits m.frames (state_at m (outcome ∷ w)))))) keys
+AreEnoughFor limits wanted outcome m keys = AreEnoughIf limits wanted outcome (asks_at limits m) keys
 
 -- from a moment up to where its text has stopped
 abbrev pub FollowsToStop : Limits → Moment → Stop → Moment → (old new : List Access) → Type 0

@@ -1,11 +1,13 @@
 //! Runs a rehearsal and reports the keys that its steps read and write.
 #![tactic(auto)]
 
+mod asked;
 mod beginnings;
 mod begins;
 mod calls;
 mod driving;
 mod key;
+mod known;
 pub mod laws;
 mod moves;
 mod outcomes;
@@ -13,6 +15,8 @@ mod reported;
 mod resuming;
 mod words;
 
+pub use asked::report_asked;
 pub use key::Key;
-pub use reported::Reported;
+pub use known::{Known, all_hold, keys_of, known_at};
+pub use reported::{Reported, together};
 pub use resuming::resume_reported;

@@ -1,7 +1,7 @@
 //! What the steps of a run read and write, as they are made.
-ghost use Rattle.std.specs.Prelude.{◌≡◌, [], ◌∷◌, IfOk, OnOk};
+ghost use Rattle.std.specs.Prelude.{◌≡◌, [], ◌∷◌, ◌++◌, IfOk, OnOk};
 ghost use Rattle.std.specs.List.{list_any};
-ghost use Rattle.rehearse_reads.specs.Keys.{Reads, Writes, same_key};
+ghost use Rattle.rehearse_reads.specs.Keys.{Reads, Writes, AreAmong, same_key, keys_in_front};
 ghost use Rattle.rehearse_reports.specs.ReportsShown.{key_shown, keys_shown, accesses_shown};
 ghost use Rattle.rehearse_reports.specs.Reports.{Adds};
 
@@ -79,4 +79,31 @@ impl Reported {
         self.written.push(key)?;
         Ok(())
     }
+
+    /// The keys that have to be known in front of the stretch if these keys have to be known after it,
+    /// and no others. Errors: memory ran out.
+    pub fn in_front(self, later: Vec<Key>) -> Result<Vec<Key>, AllocError>
+        ensures all { IfOk result (λ keys. AreAmong
+            (keys_in_front (accesses_shown self) (keys_shown later.items)) (keys_shown keys.items)) }
+        ensures no_more { IfOk result (λ keys. AreAmong (keys_shown keys.items)
+            (keys_in_front (accesses_shown self) (keys_shown later.items))) }
+    {
+        let mut reported = self;
+        for key in later {
+            reported.reads(key)?;
+        }
+        Ok(reported.read)
+    }
+}
+
+/// The keys of both, each once. Errors: memory ran out.
+pub fn together(alloc: Global, some: Vec<Key>, others: Vec<Key>) -> Result<Vec<Key>, AllocError>
+    ensures { IfOk result (λ keys. AreAmong (keys_shown some.items ++ keys_shown others.items)
+        (keys_shown keys.items)) }
+{
+    let reported = Reported {
+        read: some,
+        written: Vec::new(alloc),
+    };
+    reported.in_front(others)
 }

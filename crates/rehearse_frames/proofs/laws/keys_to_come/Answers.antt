@@ -1,4 +1,4 @@
-use Rattle.rehearse_frames.proofs.EnoughKeys.{keys_of_ends, keys_of_moves, keys_of_asking, keys_of_moments, more_keys_are_enough}
+use Rattle.rehearse_frames.proofs.EnoughKeys.{keys_of_ends, keys_of_moves, keys_of_answers, keys_of_asking, keys_of_moments, more_keys_are_enough}
 use Rattle.rehearse_frames.proofs.laws.keys_to_come.Goals as goal
 
 pub returns-clause-ends : goal.returns-clause-ends
@@ -6,6 +6,9 @@ returns-clause-ends c = keys_of_ends
 
 pub returns-clause-moves : goal.returns-clause-moves
 returns-clause-moves c = keys_of_moves
+
+pub returns-clause-answers : goal.returns-clause-answers
+returns-clause-answers c = keys_of_answers
 
 pub returns-clause-asking : goal.returns-clause-asking
 returns-clause-asking c = keys_of_asking
