@@ -1,4 +1,4 @@
--- What the nodes of a flow draw: ends, device commands that ask, and other moments of the same core.
+-- What the nodes of a flow draw: ends, and device commands that ask.
 use Rattle.std.proofs.Common.{ℕ, zero, suc, Bool, false, not, cond, map, List, [], ◌∷◌, ◌++◌, length, Option, Some, None, refl, sym, ap, ◌∙◌, ◌≡◌, append_assoc, append-nil, inl, inr, arith}
 use Rattle.std.specs.List.{slice_get}
 use Rattle.bootstore_state.specs.Moment.{Moment}
@@ -7,24 +7,30 @@ use Rattle.std.proofs.lemmas.List.{map-append}
 use Rattle.std.proofs.lemmas.List.Elements.{filter-append}
 use Rattle.rehearse_terms.specs.State.{Text, State, LoggedCommand, asked_of}
 use Rattle.bootstore_state.specs.StoredState.{state_at}
+use Rattle.device_list.specs.declared.finish.BoardEnd.{BoardEnd}
 use Rattle.device_list.specs.Called.{sets_in}
-use Rattle.rehearse_rules.specs.Execution.{Limits, Answer, Ending, CutDevices, CutSteps, End, Unknown, Syntax, Unsupported, Size, Finished, Request, take_outcome, set_environment, logged, succeeds}
+use Rattle.rehearse_rules.specs.Execution.{Limits, Answer, Ending, CutDevices, CutSteps, End, Unknown, Syntax, Unsupported, Size, Finished, Request, finish, take_outcome, set_environment, logged, succeeds}
 use Rattle.rehearse_machine.specs.Came.{Came, Over, Wants}
 use Rattle.rehearse_machine.specs.Places.{frames_of}
 use Rattle.rehearse_machine.specs.Meaning.{continue}
 use Rattle.rehearse_machine.specs.Machine.{Asking, asked_at}
 use Rattle.rehearse_machine.specs.declared.rehearsal.Stop.{Stop}
-use Rattle.rehearse_endings.specs.Elsewhere.{HaveFurther, IsAlike, same}
-use Rattle.rehearse_endings.specs.Futures as futures
-use Rattle.rehearse_endings.specs.Futures.{came_kind, came_to_end, came_log, IsSameCame, CameCut, CameAlike}
+use Rattle.rehearse_reads.specs.Keys.{Key, Environment, Local, AnswerTo, Status, Access, AgreeAt, keys_read}
+use Rattle.rehearse_reads.specs.Alike.{HaveFurther, AreAbreast, IsAlike}
+use Rattle.rehearse_reads.proofs.KeysRead.{reads_within, all_itself}
+use Rattle.rehearse_reads.proofs.AlikeParts.{normal_alike, ended_alike}
+use Rattle.rehearse_frames.specs.ToCome.{of_frames}
+use Rattle.rehearse_frames.specs.AlikeFutures as futures
+use Rattle.rehearse_frames.specs.AlikeFutures.{CameCut, CameAlike}
+use Rattle.rehearse_frames.proofs.FramesAlike.{continue_alike}
+use Rattle.rehearse_frames.proofs.EnoughKeys.{asked_so}
+use Rattle.rehearse_reuse.proofs.LogLemmas.{asked-on, further_behind}
+use Rattle.rehearse_reuse.specs.Futures.{came_kind, came_to_end, came_log}
 use Rattle.rehearse_states.specs.Flow.{Node, Asks, Ends, Answered, asked_in, Seen, behind, stands_at, goes_on, walk}
-use Rattle.rehearse_endings.specs.DrawnRuns.{further, seen_behind, Draws, seen_at}
+use Rattle.rehearse_reuse.specs.DrawnRuns.{further, seen_behind, Draws, seen_at}
 use Rattle.rehearse_states.specs.Drawing.{HasMore}
 use Rattle.rehearse_states.specs.Words.{words_in}
 use Rattle.rehearse_endings.specs.Searching.{future, seen_from}
-use Rattle.rehearse_endings.proofs.ElsewhereLemmas.{Alike-finish}
-use Rattle.rehearse_endings.proofs.FrameLemmas.{continue_alike}
-use Rattle.rehearse_endings.proofs.SameCoreLemmas.{asks_so}
 
 -- ---- lists
 
@@ -41,18 +47,9 @@ further_all : (log : List Answered) → further (length log) log ≡ []
 further_all [] = refl
 further_all (c ∷ log) = further_all log
 
-further_behind : (log rest : List Answered) → further (length log) (log ++ rest) ≡ rest
-further_behind [] rest = refl
-further_behind (c ∷ log) rest = further_behind log rest
-
 further_one : (log rest : List Answered) (entry : Answered) → further (suc (length log)) (log ++ entry ∷ rest) ≡ rest
 further_one [] rest entry = refl
 further_one (c ∷ log) rest entry = further_one log rest entry
-
--- the commands of a log that goes on
-pub asked-on : (log rest : List LoggedCommand) → asked_in (log ++ rest) ≡ asked_in log ++ asked_in rest
-asked-on log rest =
-    ap (map (λ e. (e.success, e.words))) (filter-append (λ e. not e.again) log rest) ∙ map-append (λ e. (e.success, e.words)) (asked_of log) (asked_of rest)
 
 -- ---- more nodes change nothing
 
@@ -78,7 +75,7 @@ end_drawn limits nodes place ending m e = λ more w. ended_so ending m w (slice_
 
 -- ---- what the device command that asks leaves in the log
 
-never_cut : (limits : Limits) (i : ℕ) (k : List LoggedCommand) (c : Came) → CameCut limits i i k k c → ⊥
+never_cut : (limits : Limits) (i : ℕ) (k : List LoggedCommand) (c : Came) → CameCut limits i i k k [] c → ⊥
 never_cut limits i k (Over (End status) s) h = h
 never_cut limits i k (Over CutDevices s) h = absurd (omega arith)
 never_cut limits i k (Over CutSteps s) h = absurd (omega arith)
@@ -89,7 +86,7 @@ never_cut limits i k (Over Size s) h = h
 never_cut limits i k (Over (Finished finish name) s) h = h
 never_cut limits i k (Wants s) h = h
 
-logs_itself : (limits : Limits) (i : ℕ) (k : List LoggedCommand) (c : Came) → CameAlike limits i i k k c c → HaveFurther k k (came_log c) (came_log c)
+logs_itself : (limits : Limits) (i : ℕ) (k : List LoggedCommand) (c : Came) → CameAlike limits i i k k [] c c → HaveFurther k k (came_log c) (came_log c)
 logs_itself limits i k c (futures.same h) = h.logs
 logs_itself limits i k c (futures.cut_here h) = absurd (never_cut limits i k c h)
 logs_itself limits i k c (futures.beyond (inl h)) = absurd (omega (arith, h.0))
@@ -98,16 +95,29 @@ logs_itself limits i k c (futures.beyond (inr h)) = absurd (omega (arith, h.0))
 abbrev pub entry_of : Request → Outcome → LoggedCommand
 entry_of request d = record { success = succeeds d; words = request.name ∷ request.words; stays = request.effect.stays; again = request.again }
 
+-- a state is abreast of itself
+at_itself : (key : Key) (s : State) → AgreeAt key s s
+at_itself (Environment name) s = refl
+at_itself (Local name) s = refl
+at_itself (AnswerTo call) s = refl
+at_itself Status s = refl
+
+beside_itself : (limits : Limits) (known : List Key) (s : State) → AreAbreast limits s.steps s.steps s.log s.log known s s
+beside_itself limits known s = record {
+  keys = λ key h. at_itself key s;
+  word = refl;
+  steps = refl;
+  logs = record { further = []; goes_on_here = sym (append-nil s.log); goes_on_there = sym (append-nil s.log) };
+}
+
+ended_itself : (limits : Limits) (known : List Key) (ends : Option BoardEnd) (name : Text) (u : State) → IsAlike limits u.steps u.steps u.log u.log known (finish ends name u) (finish ends name u)
+ended_itself limits known (Some how) name u = ended_alike limits u.steps u.steps u.log u.log known (Finished how name) u u (beside_itself limits known u)
+ended_itself limits known None name u = normal_alike limits u.steps u.steps u.log u.log known u u (beside_itself limits known u)
+
 -- a device command that answered goes on after its entry
-took : (limits : Limits) (request : Request) (d : Outcome) (w : OutcomeWord) (s : State) → IsAlike limits s.steps s.steps (s.log ++ entry_of request d ∷ []) (s.log ++ entry_of request d ∷ []) (take_outcome request (d ∷ w) s) (take_outcome request (d ∷ w) s)
-took limits request Success w s =
-    let u : State = set_environment (sets_in request.words request.effect.sets) (logged Success request (record s { word = w })) in
-    let k : List LoggedCommand = s.log ++ entry_of request Success ∷ [] in
-    Alike-finish limits s.steps s.steps k k request.effect.ends request.name u u.memory.text u.log u.steps (omega arith, record { answers = refl; further = []; goes_on_here = sym (append-nil k); goes_on_there = sym (append-nil k) })
-took limits request Failure w s =
-    let u : State = logged Failure request (record s { word = w }) in
-    let k : List LoggedCommand = s.log ++ entry_of request Failure ∷ [] in
-    same (record { text = u.memory.text; log = u.log; steps = u.steps; is = refl; apart = (omega arith, record { answers = refl; further = []; goes_on_here = sym (append-nil k); goes_on_there = sym (append-nil k) }) })
+took : (limits : Limits) (known : List Key) (request : Request) (d : Outcome) (w : OutcomeWord) (s : State) → IsAlike limits s.steps s.steps (s.log ++ entry_of request d ∷ []) (s.log ++ entry_of request d ∷ []) known (take_outcome request (d ∷ w) s) (take_outcome request (d ∷ w) s)
+took limits known request Success w s = ended_itself limits known request.effect.ends request.name (set_environment (sets_in request.words request.effect.sets) (logged Success request (record s { word = w })))
+took limits known request Failure w s = normal_alike limits s.steps s.steps _ _ known _ _ (beside_itself limits known (logged Failure request (record s { word = w })))
 
 module _ (limits : Limits) (m : Moment) (asking : Asking limits m) where
   logs_next : (d : Outcome) (w : OutcomeWord) → (rest : List LoggedCommand) × (came_log (asked_at limits m (d ∷ w)) ≡ m.log ++ entry_of asking.request d ∷ rest)
@@ -115,8 +125,10 @@ module _ (limits : Limits) (m : Moment) (asking : Asking limits m) where
       let k : List LoggedCommand = m.log ++ entry_of asking.request d ∷ [] in
       let s : State = state_at m (d ∷ w) in
       let a : Answer = take_outcome asking.request (d ∷ w) s in
-      let h = logs_itself limits m.steps k (continue limits (frames_of m.frames) a) (continue_alike limits m.steps m.steps k k (frames_of m.frames) a a (took limits asking.request d w s)) in
-      (h.further, ap came_log (asks_so limits m asking (d ∷ w)) ∙ h.goes_on_here ∙ append_assoc m.log (entry_of asking.request d ∷ []) h.further)
+      let read : List Access = of_frames limits [] (frames_of m.frames) a in
+      let h = logs_itself limits m.steps k (continue limits (frames_of m.frames) a)
+      (continue_alike limits m.steps m.steps k k [] (frames_of m.frames) (keys_read read) a a (reads_within (keys_read read) read (all_itself (keys_read read))) (took limits (keys_read read) asking.request d w s)) in
+      (h.further, ap came_log (asked_so limits m asking (d ∷ w)) ∙ h.goes_on_here ∙ append_assoc m.log (entry_of asking.request d ∷ []) h.further)
 
   -- the commands that took an outcome: after those of the moment, this one, and then others
   asked_next : (d : Outcome) (w : OutcomeWord) → asking.request.again ≡ false → (rest : List Answered) × (asked_in (came_log (asked_at limits m (d ∷ w))) ≡ asked_in m.log ++ (succeeds d, asking.request.name ∷ asking.request.words) ∷ rest)
@@ -175,19 +187,3 @@ module _ (limits : Limits) (m : Moment) (asking : Asking limits m) where
         ap (λ (ws : List Text). walk (slice_get ((nodes ++ Asks ws won_place lost_place ∷ []) ++ more)) w (length nodes)) is
         ∙ ap (λ (x : List Node). walk (slice_get x) w (length nodes)) (append_assoc nodes (asks_node ∷ []) more)
         ∙ sides_drawn more w
-
--- ---- another moment of the same core
-
-further_same : (k l here there : List LoggedCommand) → HaveFurther k l here there → further (length (asked_in k)) (asked_in here) ≡ further (length (asked_in l)) (asked_in there)
-further_same k l here there h =
-    ap (further (length (asked_in k))) (ap asked_in h.goes_on_here ∙ asked-on k h.further) ∙ further_behind (asked_in k) (asked_in h.further)
-    ∙ sym (ap (further (length (asked_in l))) (ap asked_in h.goes_on_there ∙ asked-on l h.further) ∙ further_behind (asked_in l) (asked_in h.further))
-
-seen_same : (limits : Limits) (i j : ℕ) (k l : List LoggedCommand) (c d : Came) → IsSameCame limits i j k l c d → seen_behind (length (asked_in k)) c ≡ seen_behind (length (asked_in l)) d
-seen_same limits i j k l c d h =
-    ap (λ (x : WordKind). record { kind = x; ending = came_to_end c; log = further (length (asked_in k)) (asked_in (came_log c)) }) (sym h.kind)
-    ∙ ap (λ (x : Option Ending). record { kind = came_kind d; ending = x; log = further (length (asked_in k)) (asked_in (came_log c)) }) (sym h.ended)
-    ∙ ap (λ (x : List Answered). record { kind = came_kind d; ending = came_to_end d; log = x }) (further_same k l (came_log c) (came_log d) h.logs)
-
-pub draws_there : (limits : Limits) (m t : Moment) (nodes : List Node) (place : ℕ) → ((w : OutcomeWord) → IsSameCame limits m.steps t.steps m.log t.log (asked_at limits m w) (asked_at limits t w)) → Draws nodes place (seen_at limits m) → Draws nodes place (seen_at limits t)
-draws_there limits m t nodes place h = draws_as nodes place (seen_at limits m) (seen_at limits t) (λ w. seen_same limits m.steps t.steps m.log t.log (asked_at limits m w) (asked_at limits t w) (h w))

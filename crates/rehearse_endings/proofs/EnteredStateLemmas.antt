@@ -2,17 +2,17 @@
 use Rattle.std.proofs.Common.{ℕ, ◌+◌, ◌≤◌, ◌<◌, List, [], ◌∷◌, ◌++◌, length, sym, ap, subst, ◌∙◌, ◌≡◌, arith, append_assoc, append-nil, length-append}
 use Rattle.std.specs.Prelude.{Result, Err, IfErr}
 use Rattle.std.specs.List.{AllByRecursion}
-use Rattle.bootstore_state.specs.Moment.{Moment}
+use Rattle.bootstore_state.specs.Moment.{Moment, RunningFrame}
 use Rattle.rehearse_terms.specs.Outcomes.{OutcomeWord, Outcome, Success, Failure}
 use Rattle.rehearse_rules.specs.Runs.{Task, kind, run_on}
 use Rattle.rehearse_machine.specs.declared.rehearsal.Stop.{Stop}
 use Rattle.rehearse_machine.specs.declared.rehearsal.Stop.TheVariants.{Asks}
-use Rattle.rehearse_endings.specs.Futures.{came_kind}
+use Rattle.rehearse_reuse.specs.Futures.{came_kind}
 use Rattle.rehearse_endings.proofs.SearchLemmas.{kind_settled}
 use Rattle.rehearse_machine.specs.StoppedTexts.{StoppedAt}
 use Rattle.rehearse_endings.specs.States.{Asked, IsMet, IsUnlike, NoTwoAlike, HasStates, Entered, BeginsWith, IsNewAt, HasEntered}
 use Rattle.rehearse_endings.specs.Searching.{IsKept}
-use Rattle.rehearse_states.specs.Cores.{CoreShown}
+use Rattle.rehearse_reports.specs.declared.known.Known.{Known}
 use Rattle.rehearse_states.specs.Summaries.{Summary}
 use Rattle.rehearse_endings.specs.declared.sum_error.SumError.{SumError}
 use Rattle.rehearse_endings.specs.declared.sum_error.SumError.TheVariants.{States}
@@ -137,10 +137,10 @@ behind_both p m won lost h k =
     (all_and (λ s. BeginsWith p s.0) won lost (all_as (λ s. BeginsWith (p ++ Success ∷ []) s.0) (λ s. BeginsWith p s.0) won (λ s b. begins_before p s.0 Success b) h) (all_as (λ s. BeginsWith (p ++ Failure ∷ []) s.0) (λ s. BeginsWith p s.0) lost (λ s b. begins_before p s.0 Failure b) k))
     (begins_self p, tt)
 
-pub gone_through : (task : Task) (p : OutcomeWord) (m : Moment) (kept won lost pending : List Asked) (old new : Table) (core : CoreShown) (steps devices place : ℕ) (shown : Summary)
+pub gone_through : (task : Task) (p : OutcomeWord) (m : Moment) (kept won lost pending : List Asked) (old new : Table) (frames : List RunningFrame) (known : List Known) (steps devices place : ℕ) (shown : Summary)
     → AllByRecursion (λ s. BeginsWith (p ++ Success ∷ []) s.0) won → AllByRecursion (λ s. BeginsWith (p ++ Failure ∷ []) s.0) lost
-    → Entered task ((kept ++ won) ++ lost) ((p, m) ∷ pending) old → IsKept old.entries.items new.entries.items core steps devices place shown → new.visited ≡ old.visited → HasEntered task p kept pending new
-gone_through task p m kept won lost pending old new core steps devices place shown h k entered is visited =
+    → Entered task ((kept ++ won) ++ lost) ((p, m) ∷ pending) old → IsKept old.entries.items new.entries.items frames known steps devices place shown → new.visited ≡ old.visited → HasEntered task p kept pending new
+gone_through task p m kept won lost pending old new frames known steps devices place shown h k entered is visited =
     let same = regrouped kept won lost pending (p, m) in
     record {
       further = (won ++ lost) ++ (p, m) ∷ [];

@@ -1,5 +1,5 @@
 -- The search over the states in which device commands ask.
-use Rattle.std.proofs.Common.{ℕ, zero, suc, get_or, ◌+◌, ◌*◌, ◌≤◌, ◌<◌, true, false, List, [], ◌∷◌, ◌++◌, map, length, Option, Some, None, refl, sym, ap, subst, ◌∙◌, ◌≡◌, ◌≢◌, arith, append-nil, length-append}
+use Rattle.std.proofs.Common.{ℕ, zero, suc, get_or, ◌+◌, ◌*◌, ◌≤◌, ◌<◌, true, false, List, [], ◌∷◌, ◌++◌, map, length, reverse, Option, Some, None, refl, sym, ap, subst, ◌∙◌, ◌≡◌, ◌≢◌, arith, append-nil, length-append}
 use Rattle.std.proofs.lemmas.List.{length-map}
 use Rattle.std.proofs.lemmas.List.Elements.{All-append}
 use Rattle.std.proofs.lemmas.Bool.{ltb-true}
@@ -24,20 +24,34 @@ use Rattle.rehearse_machine.specs.declared.rehearsal.Stop.{Stop}
 use Rattle.rehearse_machine.specs.declared.rehearsal.Stop.TheVariants.{Asks, Ends}
 use Rattle.rehearse_machine.specs.StoppedTexts.{StoppedAt}
 use Rattle.rehearse_machine.proofs.StoppedTextLemmas.{asked_within, stopped_on}
-use Rattle.rehearse_endings.specs.Futures.{came_kind, came_ending, came_end, came_state, came_steps, came_devices, HaveSameCore}
+use Rattle.rehearse_reuse.specs.Futures.{came_kind, came_ending, came_end, came_state, came_steps, came_devices}
 use Rattle.rehearse_states.specs.Endings.{RunEnd, Row, HasRows, ending, end_with, end_of, endings}
-use Rattle.rehearse_states.specs.Cores.{CoreShown, core_shown, core_of}
 use Rattle.rehearse_states.specs.Summaries.{Summary, summary_of_sides, summary_at_end}
-use Rattle.rehearse_endings.specs.SummedRuns.{Sums, FitsIf, Fits, moved_by, moved_on, of_end, of_sides, Summed}
+use Rattle.rehearse_reuse.specs.SummedRuns.{Sums, FitsIf, moved_by, moved_on, of_end, of_sides, Summed}
 use Rattle.rehearse_states.specs.RowsShown.{saturated, of_both_up, summary_shown, saturated_summary}
-use Rattle.rehearse_endings.specs.Searching.{future, IsReached, IsEntry, AreEntries, IsKept}
+use Rattle.rehearse_reuse.specs.Reuse.{FitsByKeys}
+use Rattle.rehearse_reuse.proofs.ReusedSummaries.{summaries_are_reused, nodes_are_reused, keys_are_reused}
+use Rattle.rehearse_reads.specs.Keys.{Key, Access, AreAmong, AgreeOn, keys_in_front}
+use Rattle.rehearse_frames.specs.KeysToCome.{AreEnoughAt, asks_at}
+use Rattle.rehearse_frames.proofs.EnoughKeys.{agree_fewer, more_keys_are_enough}
+use Rattle.rehearse_reports.specs.Asked.{asked_reads}
+use Rattle.rehearse_reports.specs.Following.{IsReportedFor, AreEnoughFor, AreEnoughAtStop}
+use Rattle.rehearse_reports.specs.Known.{AllHold, keys_of}
+use Rattle.rehearse_reports.specs.ReportsShown.{keys_shown}
+use Rattle.rehearse_reports.proofs.AskedSame.{places_are_same}
+use Rattle.rehearse_reports.proofs.FollowingLemmas.{keys_of_both_outcomes}
+use Rattle.rehearse_reports.proofs.KnownLemmas.{agree_on_known}
+use Rattle.rehearse_endings.specs.Searching.{future, seen_from, IsReached, IsEntry, AreEntries, IsKeptAt}
+use Rattle.rehearse_endings.specs.Searched.{IsSearched}
+use Rattle.rehearse_endings.specs.declared.table.Future.{Future}
+use Rattle.rehearse_endings.specs.declared.table.Table.{Table}
 use Rattle.rehearse_endings.specs.declared.table.Entry.{Entry}
 use Rattle.rehearse_states.specs.declared.summary.Summary as kept
 use Rattle.rehearse_states.specs.Flow.{Node, asked_in}
-use Rattle.rehearse_endings.specs.DrawnRuns.{Draws, seen_at}
-use Rattle.rehearse_states.specs.Drawing.{HasMore}
-use Rattle.rehearse_endings.proofs.DrawingLemmas.{draws_on, draws_there}
-use Rattle.rehearse_endings.proofs.SummaryLemmas.{rows_as, sums_same, came_same, sums_there, sums_end, sums_sides}
+use Rattle.rehearse_reuse.specs.DrawnRuns.{Draws, seen_at}
+use Rattle.rehearse_states.specs.Drawing.{HasMore, nodes_shown}
+use Rattle.rehearse_endings.proofs.DrawingLemmas.{draws_on, draws_as}
+use Rattle.rehearse_endings.proofs.SummaryLemmas.{rows_as, sums_same, sums_end, sums_sides}
 use Rattle.rehearse_states.proofs.RowsOfRuns.{are_rows}
 use Rattle.rehearse_states.proofs.SaturatedCountLemmas.{both_up}
 
@@ -155,35 +169,32 @@ module _ (names : List Text) (task : Task) (depth : ℕ) (m : Moment) (reached :
 
 -- ---- the table
 
-same_core : (m t : Moment) → core_of m ≡ core_of t → HaveSameCore m t
-same_core m t e = record {
-  environment = sym (ap (λ (c : CoreShown). c.environment) e);
-  locals = sym (ap (λ (c : CoreShown). c.locals) e);
-  status = sym (ap (λ (c : CoreShown). c.status) e);
-  frames = sym (ap (λ (c : CoreShown). c.frames) e);
-  answers = sym (ap (λ (c : CoreShown). c.answers) e);
-}
-
 -- if an entry is found, the table has it
-pub some_there : (es slice : List Entry) (i : ℕ) → slice ≡ es → true ≡ nat_lt i (length slice) → (o : Option kept.Summary) → MatchOption o ⊤ (λ s. es ≢ [])
+pub some_there : (es slice : List Entry) (i : ℕ) → slice ≡ es → true ≡ nat_lt i (length slice) → (o : Option Future) → MatchOption o ⊤ (λ f. es ≢ [])
 some_there es slice i same within None = tt
-some_there es slice i same within (Some s) = λ none. let l = ltb-true i (length slice) (sym within) in let a : length slice ≡ 0 = ap length (same ∙ none) in absurd (omega arith)
+some_there es slice i same within (Some f) = λ none. let l = ltb-true i (length slice) (sym within) in let a : length slice ≡ 0 = ap length (same ∙ none) in absurd (omega arith)
 
 -- an entry that fits
-module _ (names : List Text) (limits : Limits) (nodes : List Node) (e : Entry) (t : Moment) (depth : ℕ) (h : IsEntry names limits nodes e) (asks : IsAsking limits t) (log : length t.log ≡ depth) (core : core_shown e.core ≡ core_of t)
+module _ (names : List Text) (limits : Limits) (nodes : List Node) (e : Entry) (t : Moment) (depth : ℕ) (h : IsEntry names limits nodes e) (asks : IsAsking limits t) (log : length t.log ≡ depth) (frames : reverse e.frames.items ≡ t.frames) (known : AllHold t e.known.items)
     (steps : FitsIf e.summary.cut_steps e.steps t.steps e.summary.steps limits.step_bound) (devices : FitsIf e.summary.cut_devices e.devices depth e.summary.devices limits.device_bound) where
-  fits_there : Fits limits h.summary h.moment t
+  fits_there : FitsByKeys limits (keys_of e.known.items) h.summary h.moment t
   fits_there =
       let m : Moment = h.moment in
       let kept : Summary = h.summary in
       let shown : summary_shown e.summary ≡ saturated_summary kept = h.shown in
+      let agree : AgreeOn (keys_of e.known.items) (state_at m []) (state_at t []) = agree_on_known m t e.known.items h.known known in
       let fits_steps : FitsIf kept.cut_steps m.steps t.steps kept.steps limits.step_bound =
       subst (λ (x : Summary). FitsIf x.cut_steps m.steps t.steps x.steps limits.step_bound) shown (subst (λ (n : ℕ). FitsIf e.summary.cut_steps n t.steps e.summary.steps limits.step_bound) h.steps steps) in
       let fits_devices : FitsIf kept.cut_devices (length m.log) (length t.log) kept.devices limits.device_bound =
       subst (λ (x : Summary). FitsIf x.cut_devices (length m.log) (length t.log) x.devices limits.device_bound) shown
       (subst (λ (n : ℕ). FitsIf e.summary.cut_devices (length m.log) n e.summary.devices limits.device_bound) (sym log)
       (subst (λ (n : ℕ). FitsIf e.summary.cut_devices n depth e.summary.devices limits.device_bound) h.devices devices)) in
-      record { core = same_core m t (sym h.core ∙ core); steps = fits_steps; devices = fits_devices }
+      record {
+        place = places_are_same limits m t h.asks asks (sym frames ∙ h.frames) (agree_fewer (asked_reads m) (keys_of e.known.items) (state_at m []) (state_at t []) h.asked agree);
+        agree = agree;
+        steps = fits_steps;
+        devices = fits_devices;
+      }
 
   summed_there : (s : Summary) → s ≡ moved_by e.steps t.steps e.devices depth (summary_shown e.summary) → Summed names (asked_at limits t) s
   summed_there s is =
@@ -191,7 +202,7 @@ module _ (names : List Text) (limits : Limits) (nodes : List Node) (e : Entry) (
       let kept : Summary = h.summary in
       let shown : summary_shown e.summary ≡ saturated_summary kept = h.shown in (
         moved_on m t kept,
-        sums_there names limits m t kept h.sums h.reach_steps h.reach_devices fits_there h.asks asks,
+        summaries_are_reused limits names m t (keys_of e.known.items) kept h.asks asks h.enough h.sums fits_there,
         is
             ∙ ap (λ (n : ℕ). moved_by n t.steps e.devices depth (summary_shown e.summary)) h.steps
             ∙ ap (λ (n : ℕ). moved_by m.steps t.steps n depth (summary_shown e.summary)) h.devices
@@ -202,26 +213,25 @@ module _ (names : List Text) (limits : Limits) (nodes : List Node) (e : Entry) (
   drawn_there : (place : ℕ) → place ≡ e.summary.place → Draws nodes place (seen_at limits t)
   drawn_there place is =
       subst (λ (p : ℕ). Draws nodes p (seen_at limits t)) (sym is)
-      (draws_there limits h.moment t nodes e.summary.place (came_same names limits h.moment t h.summary h.sums h.reach_steps h.reach_devices fits_there h.asks asks) h.draws)
+      (draws_as nodes e.summary.place (seen_at limits h.moment) (seen_at limits t) (λ w. sym (nodes_are_reused limits names h.moment t (keys_of e.known.items) h.summary h.asks asks h.enough h.sums fits_there w)) h.draws)
 
   -- what a look-up in the table finds
-  pub look_there : (o : Option kept.Summary) (steps_now : ℕ) → steps_now ≡ t.steps → MatchOption o ⊤ (λ s. summary_shown s ≡ moved_by e.steps steps_now e.devices depth (summary_shown e.summary)) → MatchOption o ⊤ (λ s. Summed names (asked_at limits t) (summary_shown s))
+  pub look_there : (o : Option Future) (steps_now : ℕ) → steps_now ≡ t.steps → MatchOption o ⊤ (λ f. summary_shown f.summary ≡ moved_by e.steps steps_now e.devices depth (summary_shown e.summary)) → MatchOption o ⊤ (λ f. Summed names (asked_at limits t) (summary_shown f.summary))
   look_there None steps_now at is = is
-  look_there (Some s) steps_now at is = summed_there (summary_shown s) (is ∙ ap (λ (n : ℕ). moved_by e.steps n e.devices depth (summary_shown e.summary)) at)
+  look_there (Some f) steps_now at is = summed_there (summary_shown f.summary) (is ∙ ap (λ (n : ℕ). moved_by e.steps n e.devices depth (summary_shown e.summary)) at)
 
-  pub place_there : (o : Option kept.Summary) → MatchOption o ⊤ (λ s. s.place ≡ e.summary.place) → MatchOption o ⊤ (λ s. Draws nodes s.place (seen_at limits t))
+  pub place_there : (o : Option Future) → MatchOption o ⊤ (λ f. f.summary.place ≡ e.summary.place) → MatchOption o ⊤ (λ f. Draws nodes f.summary.place (seen_at limits t))
   place_there None is = is
-  place_there (Some s) is = drawn_there s.place is
+  place_there (Some f) is = drawn_there f.summary.place is
+
+  pub keys_there : (o : Option Future) → MatchOption o ⊤ (λ f. keys_shown f.keys.items ≡ keys_of e.known.items) → MatchOption o ⊤ (λ f. AreEnoughAt limits names t (keys_shown f.keys.items))
+  keys_there None is = is
+  keys_there (Some f) is =
+      subst (AreEnoughAt limits names t) (sym is) (keys_are_reused limits names h.moment t (keys_of e.known.items) h.summary h.asks asks h.enough h.sums fits_there)
 
 pub entry_in : (names : List Text) (limits : Limits) (nodes : List Node) (es slice : List Entry) (i : ℕ) (e : Entry) → slice ≡ es → true ≡ nat_lt i (length slice) → e ≡ get_or slice i e → AreEntries names limits nodes es → IsEntry names limits nodes e
 entry_in names limits nodes es slice i e same within is all =
     subst (IsEntry names limits nodes) (sym is) ((subst (AreEntries names limits nodes) (sym same) all) i e (ltb-true i (length slice) (sym within)))
-
-reach_steps_of : (names : List Text) (task : Task) (m : Moment) (s : Summary) → asked_at task.limits m [] ≡ Wants (state_at m []) → Sums names (asked_at task.limits m) s → m.steps ≤ s.steps
-reach_steps_of names task m s e h = let a = h.steps [] in let b : came_steps (asked_at task.limits m []) ≡ m.steps = ap came_steps e in omega arith
-
-reach_devices_of : (names : List Text) (task : Task) (m : Moment) (s : Summary) → asked_at task.limits m [] ≡ Wants (state_at m []) → Sums names (asked_at task.limits m) s → length m.log ≤ s.devices
-reach_devices_of names task m s e h = let a = h.devices [] in let b : came_devices (asked_at task.limits m []) ≡ suc (length m.log) = ap came_devices e in omega arith
 
 module _ (names : List Text) (limits : Limits) (nodes : List Node) where
   one_at : (e : Entry) → IsEntry names limits nodes e → (n : ℕ) (d : Entry) → n < 1 → IsEntry names limits nodes (get_or (e ∷ []) n d)
@@ -236,13 +246,14 @@ module _ (names : List Text) (limits : Limits) (nodes : List Node) where
   wider new e h k = record {
     moment = k.moment;
     asks = k.asks;
-    core = k.core;
+    frames = k.frames;
+    known = k.known;
+    asked = k.asked;
+    enough = k.enough;
     steps = k.steps;
     devices = k.devices;
     summary = k.summary;
     sums = k.sums;
-    reach_steps = k.reach_steps;
-    reach_devices = k.reach_devices;
     shown = k.shown;
     draws = draws_on nodes new e.summary.place (seen_at limits k.moment) h k.draws;
   }
@@ -254,23 +265,43 @@ module _ (names : List Text) (limits : Limits) (nodes : List Node) where
   all_wider new es h k = λ n d l. wider new (get_or es n d) h (k n d l)
 
 -- one more entry
-pub entries_more : (names : List Text) (task : Task) (nodes : List Node) (depth devices : ℕ) (m : Moment) (old new : List Entry) (core : CoreShown) (steps place : ℕ) (s : Summary) → IsReached task depth Asks m → AreEntries names task.limits nodes old → core ≡ core_of m → steps ≡ m.steps → Summed names (asked_at task.limits m) s → Draws nodes place (seen_at task.limits m) → devices ≡ length m.log → IsKept old new core steps devices place s → AreEntries names task.limits nodes new
-entries_more names task nodes depth devices m old new core steps place s reached all same at summed draws log kept =
-    let wants = reached_wants task depth m reached in
-    let entry : IsEntry names task.limits nodes kept.0 = record {
+pub entries_more : (names : List Text) (task : Task) (nodes : List Node) (depth devices : ℕ) (m n : Moment) (keys : List Key) (old new : List Entry) (place : ℕ) (s : Summary) → IsReached task depth Asks m → AreEntries names task.limits nodes old → n ≡ m
+    → Summed names (asked_at task.limits m) s → Draws nodes place (seen_at task.limits m) → devices ≡ length m.log → AreAmong (asked_reads n) keys → AreEnoughAt task.limits names m keys → IsKeptAt old new n keys devices place s → AreEntries names task.limits nodes new
+entries_more names task nodes depth devices m n keys old new place s reached all same summed draws log asked enough kept_there =
+    let kept : IsKeptAt old new m keys devices place s = subst (λ (x : Moment). IsKeptAt old new x keys devices place s) same kept_there in
+    let e : Entry = kept.kept.0 in
+    let known : keys_of e.known.items ≡ keys = ap keys_of kept.kept.3 ∙ kept.same in
+    let entry : IsEntry names task.limits nodes e = record {
       moment = m;
       asks = reached_asks task depth m reached;
-      core = kept.2 ∙ same;
-      steps = kept.3 ∙ at;
-      devices = kept.4 ∙ log;
+      frames = ap reverse kept.kept.2 ∙ kept.frames;
+      known = subst (AllHold m) (sym kept.kept.3) kept.holds;
+      asked = subst (AreAmong (asked_reads m)) (sym known) (subst (λ (x : Moment). AreAmong (asked_reads x) keys) same asked);
+      enough = subst (AreEnoughAt task.limits names m) (sym known) enough;
+      steps = kept.kept.4;
+      devices = kept.kept.5 ∙ log;
       summary = summed.0;
       sums = summed.1;
-      reach_steps = reach_steps_of names task m summed.0 wants summed.1;
-      reach_devices = reach_devices_of names task m summed.0 wants summed.1;
-      shown = kept.5 ∙ summed.2;
-      draws = subst (λ (p : ℕ). Draws nodes p (seen_at task.limits m)) (sym kept.6) draws;
+      shown = kept.kept.6 ∙ summed.2;
+      draws = subst (λ (p : ℕ). Draws nodes p (seen_at task.limits m)) (sym kept.kept.7) draws;
     } in
-    subst (AreEntries names task.limits nodes) (sym kept.1) (all_append names task.limits nodes old kept.0 all entry)
+    subst (AreEntries names task.limits nodes) (sym kept.kept.1) (all_append names task.limits nodes old e all entry)
+
+-- ---- keys
+
+-- what was reported of both outcomes, and the keys behind
+pub keys_of_sides : (names : List Text) (task : Task) (m first second : Moment) (won_stop lost_stop : Stop) (won_at lost_at : Moment) (won lost : List Access) (after_won after_lost keys : List Key) → IsAsking task.limits m → first ≡ m → second ≡ m
+    → IsReportedFor task.limits Success first won_stop won_at won → AreEnoughAtStop task.limits names won_stop won_at after_won
+    → IsReportedFor task.limits Failure second lost_stop lost_at lost → AreEnoughAtStop task.limits names lost_stop lost_at after_lost
+    → AreAmong (keys_in_front won after_won ++ keys_in_front lost after_lost) keys → AreEnoughAt task.limits names m keys
+keys_of_sides names task m first second won_stop lost_stop won_at lost_at won lost after_won after_lost keys asks at at' from_won enough_won from_lost enough_lost all =
+    let limits : Limits = task.limits in
+    let before_won : List Key = keys_in_front won after_won in
+    let before_lost : List Key = keys_in_front lost after_lost in
+    more_keys_are_enough limits names (asks_at limits m) (before_won ++ before_lost) keys
+    (keys_of_both_outcomes limits names m before_won before_lost asks
+    (subst (λ (x : Moment). AreEnoughFor limits names Success x before_won) at (from_won names after_won enough_won))
+    (subst (λ (x : Moment). AreEnoughFor limits names Failure x before_lost) at' (from_lost names after_lost enough_lost))) all
 
 -- ---- marks
 
@@ -312,6 +343,47 @@ sides_of task depth stop won_stop lost_stop here marked won behind back lost ask
   lost = lost_on task here.present back lost lost_stop (back_there here marked won behind back is kept still returns) lost_stops;
 }
 
+begun_by : (present : Moment) (begun : ℕ) (marked : List Moment) → (returned present begun marked).begun ≡ begun
+begun_by present begun [] = refl
+begun_by present begun (m ∷ ms) = refl
+
+pub begun_back : (r back : Record) → back ≡ gone_back r → back.begun ≡ r.begun
+begun_back r back e = ap (λ (x : Record). x.begun) e ∙ begun_by r.present r.begun r.marked
+
+-- one mark more: a search that starts behind it, and goes back to it at its end
+pub searched_behind : (names : List Text) (task : Task) (stop : Stop) (r here done last : Record) (before after : Table) (f : Future) → here ≡ with_mark r → last ≡ gone_back done → IsSearched names task stop here done before after f → IsSearched names task stop r last before after f
+searched_behind names task stop r here done last before after f is returns h =
+    let present : here.present ≡ r.present = ap (λ (x : Record). x.present) is in
+    let begun : here.begun ≡ r.begun = ap (λ (x : Record). x.begun) is in
+    let marked : done.marked ≡ r.present ∷ r.marked = h.marks ∙ ap (λ (x : Record). x.marked) is in
+    let begun_last : last.begun ≡ done.begun = begun_back done last returns in
+    let a = h.begun in
+    record {
+      sums = subst (λ (m : Moment). Summed names (future task.limits stop m) (summary_shown f.summary)) present h.sums;
+      draws = subst (λ (m : Moment). Draws (nodes_shown after.flow.nodes) f.summary.place (seen_from task.limits stop m)) present h.draws;
+      keys = subst (λ (m : Moment). AreEnoughAtStop task.limits names stop m (keys_shown f.keys.items)) present h.keys;
+      grows = h.grows;
+      last = h.last;
+      marks = ap (λ (x : Record). x.marked) returns ∙ marks_by r done.present done.begun done.marked marked;
+      table = h.table;
+      begun = omega (arith, a, begun, begun_last);
+      room = h.room;
+      most = h.most;
+      entered = λ p kept pending at new entered. h.entered p kept pending (subst (λ (m : Moment). StoppedAt task p stop m) (sym present) at) new entered;
+    }
+
+-- at the first mark of a state
+pub marked_present : (r here : Record) → here ≡ with_mark r → here.present ≡ r.present
+marked_present r here is = ap (λ (x : Record). x.present) is
+
+-- back at the first mark
+pub last_there : (r here done last : Record) → here ≡ with_mark r → last ≡ gone_back done → done.marked ≡ here.marked → last.present ≡ here.present
+last_there r here done last is returns marks =
+    ap (λ (x : Record). x.present) returns ∙ back_by r done.present done.begun done.marked (marks ∙ ap (λ (x : Record). x.marked) is) ∙ sym (marked_present r here is)
+
+pub reached_marked : (task : Task) (depth : ℕ) (stop : Stop) (r here : Record) → here ≡ with_mark r → IsReached task depth stop r.present → IsReached task depth stop here.present
+reached_marked task depth stop r here is reached = subst (IsReached task depth stop) (sym (marked_present r here is)) reached
+
 -- ---- the steps that were begun
 
 abbrev pub Room : (begun visited : ℕ) → Type 0
@@ -326,13 +398,6 @@ begun_on r r₁ e l = omega arith
 
 pub begun_marked : (r₀ r : Record) → r ≡ with_mark r₀ → r.begun ≡ r₀.begun
 begun_marked r₀ r e = ap (λ (x : Record). x.begun) e
-
-begun_by : (present : Moment) (begun : ℕ) (marked : List Moment) → (returned present begun marked).begun ≡ begun
-begun_by present begun [] = refl
-begun_by present begun (m ∷ ms) = refl
-
-pub begun_back : (r back : Record) → back ≡ gone_back r → back.begun ≡ r.begun
-begun_back r back e = ap (λ (x : Record). x.begun) e ∙ begun_by r.present r.begun r.marked
 
 -- the second stretch of steps from a state
 pub begun_lost : (r₀ r r₁ r₂ back r₃ : Record) (v₀ v₁ v₂ : ℕ) → r ≡ with_mark r₀ → r₁.begun + r.present.steps ≡ r.begun + r₁.present.steps → r₁.present.steps ≤ most_steps → Room r₀.begun v₀ → v₁ ≡ v₀ + 1

@@ -1,27 +1,18 @@
--- Summaries: of an end, of both sides, and of another moment of the same core.
-use Rattle.std.proofs.Common.{ℕ, suc, ◌+◌, ◌≤◌, ◌<◌, max, Bool, true, false, ◌||◌, List, [], ◌∷◌, length, refl, sym, ap, subst, ◌∙◌, ◌≡◌, inl, inr, arith}
+-- Summaries: of an end, and of both sides.
+use Rattle.std.proofs.Common.{ℕ, suc, ◌+◌, ◌≤◌, max, Bool, true, false, ◌||◌, List, [], ◌∷◌, length, refl, sym, ap, subst, ◌∙◌, ◌≡◌, arith}
 use Rattle.bootstore_state.specs.Moment.{Moment}
 use Rattle.rehearse_terms.specs.Outcomes.{OutcomeWord, Success, Failure, WordKind}
-use Rattle.rehearse_terms.specs.State.{Text, Variables}
+use Rattle.rehearse_terms.specs.State.{Text}
 use Rattle.bootstore_state.specs.StoredState.{state_at}
-use Rattle.rehearse_rules.specs.Execution.{Limits, Ending, End, CutDevices, CutSteps, Unknown, Syntax, Unsupported, Size, Finished}
+use Rattle.rehearse_rules.specs.Execution.{Ending, End, CutDevices, CutSteps}
 use Rattle.rehearse_machine.specs.Came.{Came, Over, Wants}
-use Rattle.rehearse_machine.specs.Machine.{IsAsking, asked_at}
-use Rattle.rehearse_endings.specs.Elsewhere.{IsCutBy}
-use Rattle.rehearse_endings.specs.Futures as futures
-use Rattle.rehearse_endings.specs.Futures.{came_kind, came_ending, came_end, came_state, came_steps, came_devices, IsSameCame, CameCut, CameAlike}
-use Rattle.rehearse_states.specs.Endings.{RunEnd, Row, HasRows, end_with, ends, asks}
+use Rattle.rehearse_reuse.specs.Futures.{came_kind, came_ending, came_end, came_steps, came_devices}
+use Rattle.rehearse_states.specs.Endings.{RunEnd, Row, HasRows, ends, asks}
 use Rattle.rehearse_states.specs.Summaries.{Summary, is_cut_steps, is_cut_devices}
-use Rattle.rehearse_endings.specs.SummedRuns.{Sums, FitsIf, Fits, moved_on, of_end, of_sides}
-use Rattle.rehearse_endings.proofs.SameCoreLemmas.{asked_alike}
+use Rattle.rehearse_reuse.specs.SummedRuns.{Sums, of_end, of_sides}
 
 pub same_function : {A B : Type 0} (f g : A → B) → ((x : A) → f x ≡ g x) → f ≡ g
 same_function f g h = λ i. λ x. h x i
-
-same_rows : (names : List Text) (f g : OutcomeWord → Came) (rows : List Row) → ((w : OutcomeWord) → came_kind (f w) ≡ came_kind (g w)) → ((w : OutcomeWord) → came_end names (f w) ≡ came_end names (g w)) → HasRows (λ w. came_kind (f w)) (λ w. came_end names (f w)) rows → HasRows (λ w. came_kind (g w)) (λ w. came_end names (g w)) rows
-same_rows names f g rows k e h =
-    subst (λ (x : OutcomeWord → RunEnd). HasRows (λ w. came_kind (g w)) x rows) (same_function (λ w. came_end names (f w)) (λ w. came_end names (g w)) e)
-    (subst (λ (x : OutcomeWord → WordKind). HasRows x (λ w. came_end names (f w)) rows) (same_function (λ w. came_kind (f w)) (λ w. came_kind (g w)) k) h)
 
 pub rows_as : (names : List Text) (f : OutcomeWord → Came) (kinds : OutcomeWord → WordKind) (endings : OutcomeWord → RunEnd) (rows : List Row) → ((w : OutcomeWord) → came_kind (f w) ≡ kinds w) → ((w : OutcomeWord) → came_end names (f w) ≡ endings w) → HasRows (λ w. came_kind (f w)) (λ w. came_end names (f w)) rows → HasRows kinds endings rows
 rows_as names f kinds endings rows k e h =
@@ -31,65 +22,6 @@ rows_as names f kinds endings rows k e h =
 -- two things that come to the same have the same summary
 pub sums_same : (names : List Text) (f g : OutcomeWord → Came) (s : Summary) → ((w : OutcomeWord) → f w ≡ g w) → Sums names f s → Sums names g s
 sums_same names f g s e h = subst (λ (x : OutcomeWord → Came). Sums names x s) (same_function f g e) h
-
--- the same ending, and the same variables
-end_as : (names : List Text) (c d : Came) → came_ending d ≡ came_ending c → (came_state d).memory.environment ≡ (came_state c).memory.environment → came_end names c ≡ came_end names d
-end_as names c d e v =
-    ap (λ (x : Ending). end_with names x (came_state c).memory.environment) (sym e)
-    ∙ ap (λ (x : Variables). end_with names (came_ending d) x) (sym v)
-
--- ---- another moment of the same core
-
-module _ (names : List Text) (limits : Limits) (m t : Moment) (s : Summary) (sums : Sums names (asked_at limits m) s) (reach_steps : m.steps ≤ s.steps) (reach_devices : length m.log ≤ s.devices) (fits : Fits limits s m t) where
-  abbrev Alike : OutcomeWord → Type 0
-  Alike w = CameAlike limits m.steps t.steps m.log t.log (asked_at limits m w) (asked_at limits t w)
-
-  never_cut_steps : (cut : Bool) (here there reach bound : ℕ) (c : Came) → FitsIf cut here there reach bound → (cut ≡ false → came_ending c ≡ CutSteps → ⊥) → came_ending c ≡ CutSteps → there < here → ⊥
-  never_cut_steps true here there reach bound c f u e l = absurd (omega (arith, f))
-  never_cut_steps false here there reach bound c f u e l = u refl e
-
-  never_cut_devices : (cut : Bool) (here there reach bound : ℕ) (c : Came) → FitsIf cut here there reach bound → (cut ≡ false → came_ending c ≡ CutDevices → ⊥) → came_ending c ≡ CutDevices → there < here → ⊥
-  never_cut_devices true here there reach bound c f u e l = absurd (omega (arith, f))
-  never_cut_devices false here there reach bound c f u e l = u refl e
-
-  never_by : (w : OutcomeWord) (ending : Ending) → came_ending (asked_at limits m w) ≡ ending → IsCutBy limits m.steps t.steps m.log t.log ending → ⊥
-  never_by w (End status) e h = h
-  never_by w CutDevices e h = never_cut_devices s.cut_devices (length m.log) (length t.log) s.devices limits.device_bound (asked_at limits m w) fits.devices (λ u. sums.uncut_devices u w) e h
-  never_by w CutSteps e h = never_cut_steps s.cut_steps m.steps t.steps s.steps limits.step_bound (asked_at limits m w) fits.steps (λ u. sums.uncut_steps u w) e h
-  never_by w (Unknown name) e h = h
-  never_by w (Syntax name) e h = h
-  never_by w (Unsupported name) e h = h
-  never_by w Size e h = h
-  never_by w (Finished finish name) e h = h
-
-  never_cut : (w : OutcomeWord) (c : Came) → asked_at limits m w ≡ c → CameCut limits m.steps t.steps m.log t.log c → ⊥
-  never_cut w (Over ending x) e h = never_by w ending (ap came_ending e) h
-  never_cut w (Wants x) e h = h
-
-  never_beyond : (cut : Bool) (here there reach bound came : ℕ) → FitsIf cut here there reach bound → came ≤ reach → here < there → here + bound < there + came → ⊥
-  never_beyond true here there reach bound came f l a b = absurd (omega (arith, f))
-  never_beyond false here there reach bound came f l a b = absurd (omega (arith, f))
-
-  same_there : (w : OutcomeWord) → Alike w → IsSameCame limits m.steps t.steps m.log t.log (asked_at limits m w) (asked_at limits t w)
-  same_there w (futures.same h) = h
-  same_there w (futures.cut_here h) = absurd (never_cut w (asked_at limits m w) refl h)
-  same_there w (futures.beyond (inl h)) = absurd (never_beyond s.cut_steps m.steps t.steps s.steps limits.step_bound (came_steps (asked_at limits m w)) fits.steps (sums.steps w) h.0 h.1)
-  same_there w (futures.beyond (inr h)) = absurd (never_beyond s.cut_devices (length m.log) (length t.log) s.devices limits.device_bound (came_devices (asked_at limits m w)) fits.devices (sums.devices w) h.0 h.1)
-
-  pub came_same : IsAsking limits m → IsAsking limits t → (w : OutcomeWord) → IsSameCame limits m.steps t.steps m.log t.log (asked_at limits m w) (asked_at limits t w)
-  came_same am at w = same_there w (asked_alike limits m t am at fits.core w)
-
-  -- the law of the table: what was summed at one moment is the summary of another
-  pub sums_there : IsAsking limits m → IsAsking limits t → Sums names (asked_at limits t) (moved_on m t s)
-  sums_there am at =
-      let same = came_same am at in
-      record {
-        has_rows = same_rows names (asked_at limits m) (asked_at limits t) s.rows (λ w. sym (same w).kind) (λ w. end_as names (asked_at limits m w) (asked_at limits t w) (same w).ending (same w).environment) sums.has_rows;
-        steps = λ w. let a = (same w).steps in let b = sums.steps w in omega arith;
-        devices = λ w. let a = (same w).devices in let b = sums.devices w in omega arith;
-        uncut_steps = λ u w e. sums.uncut_steps u w (sym (same w).ending ∙ e);
-        uncut_devices = λ u w e. sums.uncut_devices u w (sym (same w).ending ∙ e);
-      }
 
 -- ---- ends and sides
 

@@ -19,9 +19,9 @@ use Rattle.rehearse_rules.specs.declared.halt.Halt.{Halt}
 use Rattle.rehearse_machine.specs.declared.rehearsal.Stop.{Stop}
 use Rattle.rehearse_machine.specs.declared.rehearsal.Stop.TheVariants as stops
 use Rattle.rehearse_states.specs.Flow.{Node, Asks, Ends, next, behind, stands_at, goes_on, walk, numbered, asked_in, seen_of, IsFlow}
-use Rattle.rehearse_endings.specs.Futures.{came_log}
+use Rattle.rehearse_reuse.specs.Futures.{came_log}
 use Rattle.rehearse_states.specs.Drawing.{node_shown, nodes_shown, HasMore, renumbered}
-use Rattle.rehearse_endings.specs.DrawnRuns.{seen_behind, seen_at, Draws}
+use Rattle.rehearse_reuse.specs.DrawnRuns.{seen_behind, seen_at, Draws}
 use Rattle.rehearse_states.specs.Words.{words_in}
 use Rattle.rehearse_endings.specs.Searching.{future, seen_from, IsReached, AreEntries}
 use Rattle.rehearse_states.specs.declared.flow.Flow.{Flow}

@@ -1,7 +1,3 @@
-pub mod Elsewhere
-pub mod Futures
-pub mod SummedRuns
-pub mod DrawnRuns
 pub mod Searching
 pub mod States
 pub mod Searched

@@ -7,21 +7,24 @@ use Rattle.rehearse_terms.specs.State.{Text}
 use Rattle.rehearse_rules.specs.Runs.{Task}
 use Rattle.rehearse_machine.specs.declared.rehearsal.Stop.{Stop}
 use Rattle.rehearse_machine.specs.StoppedTexts.{StoppedAt}
-use Rattle.rehearse_endings.specs.DrawnRuns.{Draws}
+use Rattle.rehearse_reuse.specs.DrawnRuns.{Draws}
 use Rattle.rehearse_states.specs.Drawing.{HasMore, nodes_shown}
-use Rattle.rehearse_endings.specs.SummedRuns.{Summed}
+use Rattle.rehearse_reuse.specs.SummedRuns.{Summed}
 use Rattle.rehearse_states.specs.RowsShown.{summary_shown}
 use Rattle.rehearse_endings.specs.Searching.{future, seen_from, AreEntries}
 use Rattle.rehearse_endings.specs.States.{Asked, Entered, IsNewAt, HasEntered}
-use Rattle.rehearse_states.specs.declared.summary.Summary.{Summary}
+use Rattle.rehearse_reports.specs.Following.{AreEnoughAtStop}
+use Rattle.rehearse_reports.specs.ReportsShown.{keys_shown}
+use Rattle.rehearse_endings.specs.declared.table.Future.{Future}
 use Rattle.rehearse_endings.specs.declared.table.Table.{Table}
 
--- everything after the stop is searched: the summary says what is to come, and the table has what was entered
-pub record IsSearched (names : List Text) (task : Task) (stop : Stop) (old new : Record) (before after : Table) (s : Summary) : Type 0 where
-  pub sums : Summed names (future task.limits stop old.present) (summary_shown s)
-  pub draws : Draws (nodes_shown after.flow.nodes) s.place (seen_from task.limits stop old.present)
+-- everything after the stop is searched: the summary says what is to come, the keys are enough for it, and the table has what was entered
+pub record IsSearched (names : List Text) (task : Task) (stop : Stop) (old new : Record) (before after : Table) (f : Future) : Type 0 where
+  pub sums : Summed names (future task.limits stop old.present) (summary_shown f.summary)
+  pub draws : Draws (nodes_shown after.flow.nodes) f.summary.place (seen_from task.limits stop old.present)
+  pub keys : AreEnoughAtStop task.limits names stop old.present (keys_shown f.keys.items)
   pub grows : HasMore (nodes_shown before.flow.nodes) (nodes_shown after.flow.nodes)
-  pub last : before.entries.items ≡ [] → before.flow.nodes.items ≡ [] → s.place + 1 ≡ length after.flow.nodes.items
+  pub last : before.entries.items ≡ [] → before.flow.nodes.items ≡ [] → f.summary.place + 1 ≡ length after.flow.nodes.items
   pub marks : new.marked ≡ old.marked
   pub table : AreEntries names task.limits (nodes_shown after.flow.nodes) after.entries.items
   pub begun : new.begun + 2 * before.visited * most_steps ≤ old.begun + 2 * after.visited * most_steps

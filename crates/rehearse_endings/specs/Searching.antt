@@ -1,6 +1,6 @@
 -- The search through the states in which device commands ask. Ours.
-use Rattle.std.specs.Prelude.{◌≡◌, ℕ, ◌≤◌, List, [], ◌∷◌, ◌++◌, length, All}
-use Rattle.bootstore_state.specs.Moment.{Moment}
+use Rattle.std.specs.Prelude.{◌≡◌, ℕ, List, [], ◌∷◌, ◌++◌, length, reverse, All}
+use Rattle.bootstore_state.specs.Moment.{Moment, RunningFrame}
 use Rattle.rehearse_terms.specs.Outcomes.{OutcomeWord}
 use Rattle.rehearse_terms.specs.State.{Text}
 use Rattle.bootstore_state.specs.StoredState.{state_at}
@@ -12,11 +12,15 @@ use Rattle.rehearse_machine.specs.Machine.{IsAsking, asked_at}
 use Rattle.rehearse_machine.specs.declared.rehearsal.Stop.{Stop}
 use Rattle.rehearse_machine.specs.declared.rehearsal.Stop.TheVariants.{Asks, Ends}
 use Rattle.rehearse_machine.specs.StoppedTexts.{StoppedAt}
-use Rattle.rehearse_states.specs.Cores.{CoreShown, core_shown, core_of}
+use Rattle.rehearse_reads.specs.Keys.{Key, AreAmong}
+use Rattle.rehearse_frames.specs.KeysToCome.{AreEnoughAt}
+use Rattle.rehearse_reports.specs.Asked.{asked_reads}
+use Rattle.rehearse_reports.specs.Known.{AllHold, keys_of}
+use Rattle.rehearse_reports.specs.declared.known.Known.{Known}
 use Rattle.rehearse_states.specs.Flow.{Node, Seen, asked_in}
-use Rattle.rehearse_endings.specs.DrawnRuns.{Draws, seen_behind, seen_at}
+use Rattle.rehearse_reuse.specs.DrawnRuns.{Draws, seen_behind, seen_at}
 use Rattle.rehearse_states.specs.Summaries.{Summary}
-use Rattle.rehearse_endings.specs.SummedRuns.{Sums}
+use Rattle.rehearse_reuse.specs.SummedRuns.{Sums}
 use Rattle.rehearse_states.specs.RowsShown.{summary_shown, saturated_summary}
 use Rattle.rehearse_endings.specs.declared.table.Entry.{Entry}
 
@@ -33,17 +37,19 @@ seen_from limits stop m w = seen_behind (length (asked_in m.log)) (future limits
 abbrev pub IsReached : Task → (depth : ℕ) → Stop → Moment → Type 0
 IsReached task depth stop m = (p : OutcomeWord) × (length p ≡ depth) × StoppedAt task p stop m
 
--- an entry is the summary of a moment at which a device command asks, and the nodes draw what is to come of it
+-- an entry is the summary of a moment at which a device command asks, with what was known there of keys that are enough, and the
+-- nodes draw what is to come of it
 pub record IsEntry (names : List Text) (limits : Limits) (nodes : List Node) (e : Entry) : Type 0 where
   pub moment : Moment
   pub asks : IsAsking limits moment
-  pub core : core_shown e.core ≡ core_of moment
+  pub frames : reverse e.frames.items ≡ moment.frames
+  pub known : AllHold moment e.known.items
+  pub asked : AreAmong (asked_reads moment) (keys_of e.known.items)
+  pub enough : AreEnoughAt limits names moment (keys_of e.known.items)
   pub steps : e.steps ≡ moment.steps
   pub devices : e.devices ≡ length moment.log
   pub summary : Summary
   pub sums : Sums names (asked_at limits moment) summary
-  pub reach_steps : moment.steps ≤ summary.steps
-  pub reach_devices : length moment.log ≤ summary.devices
   pub shown : summary_shown e.summary ≡ saturated_summary summary
   pub draws : Draws nodes e.summary.place (seen_at limits moment)
 
@@ -51,6 +57,15 @@ abbrev pub AreEntries : (names : List Text) → Limits → List Node → List En
 AreEntries names limits nodes entries = All (IsEntry names limits nodes) entries
 
 -- one more entry
-abbrev pub IsKept : (old new : List Entry) → CoreShown → (steps devices place : ℕ) → Summary → Type 0
-IsKept old new core steps devices place shown = (e : Entry) × (new ≡ old ++ e ∷ []) × (core_shown e.core ≡ core)
+abbrev pub IsKept : (old new : List Entry) → List RunningFrame → List Known → (steps devices place : ℕ) → Summary → Type 0
+IsKept old new frames known steps devices place shown = (e : Entry) × (new ≡ old ++ e ∷ []) × (e.frames.items ≡ frames) × (e.known.items ≡ known)
     × (e.steps ≡ steps) × (e.devices ≡ devices) × (summary_shown e.summary ≡ shown) × (e.summary.place ≡ place)
+
+-- one more entry, of a moment, with what the moment has at these keys
+pub record IsKeptAt (old new : List Entry) (m : Moment) (keys : List Key) (devices place : ℕ) (shown : Summary) : Type 0 where
+  pub left : List RunningFrame
+  pub known : List Known
+  pub frames : reverse left ≡ m.frames
+  pub holds : AllHold m known
+  pub same : keys_of known ≡ keys
+  pub kept : IsKept old new left known m.steps devices place shown

@@ -2,6 +2,7 @@
 //! them.
 #![tactic(auto)]
 
+mod keys;
 pub mod laws;
 mod searching;
 mod sum_error;

@@ -1,23 +1,29 @@
 //! The search through the states in which device commands ask.
-ghost use Rattle.std.specs.Prelude.{◌≡◌, ◌+◌, ◌*◌, ◌≤◌, ◌<◌, ◌^◌, List, length, map, IfOk, IfErr};
+ghost use Rattle.std.specs.Prelude.{◌≡◌, ◌+◌, ◌*◌, ◌≤◌, ◌<◌, ◌^◌, List, length, map, IfOk, IfErr, OnOk};
 ghost use Rattle.rehearse_terms.specs.Bounds.{most_steps};
 ghost use Rattle.rehearse_terms.specs.Outcomes.{OutcomeWord};
 ghost use Rattle.rehearse_machine.specs.Tasks.{task_in};
 ghost use Rattle.rehearse_machine.specs.StoppedTexts.{StoppedAt};
-ghost use Rattle.rehearse_states.specs.RowsShown.{rows_shown, saturated};
+ghost use Rattle.rehearse_states.specs.RowsShown.{rows_shown, saturated, summary_shown};
 ghost use Rattle.rehearse_states.specs.Endings.{endings};
+ghost use Rattle.rehearse_reports.specs.ReportsShown.{keys_shown};
 ghost use Rattle.rehearse_states.specs.Flow.{IsFlow};
 ghost use Rattle.rehearse_states.specs.Drawing.{nodes_shown};
-ghost use Rattle.rehearse_endings.specs.Searching.{IsReached, AreEntries};
+ghost use Rattle.rehearse_endings.specs.Searching.{IsReached, AreEntries, IsKeptAt};
 ghost use Rattle.rehearse_endings.specs.States.{Asked, HasStates, Entered, IsNewAt};
 ghost use Rattle.rehearse_endings.specs.Searched.{IsSearched};
-ghost use Rattle.rehearse_endings.specs.declared.sum_error.SumError.TheVariants.{States};
+ghost use Rattle.rehearse_endings.specs.declared.sum_error.SumError.TheVariants.{Memory, States};
 
+use crate::keys::{keys_at_end, keys_of_both};
 use crate::sum_error::SumError;
-use crate::table::Table;
+use crate::table::{Future, Table};
 use bootstore_state::Store;
-use rehearse_machine::{Rehearsal, Stop, begin, resume};
-use rehearse_states::{Node, Row, Summary, hash_of, of_end, of_sides, run_end_of, words_at};
+use rehearse_machine::{Rehearsal, Stop, begin};
+use rehearse_reports::{Key, Reported, keys_of, known_at, resume_reported};
+use rehearse_states::{
+    Node, Row, Summary, copy_frames, hash_of, of_end, of_sides, run_end_of, words_at,
+};
+use std::alloc::Global;
 
 /// How the runs of a script end.
 #[derive(Drop)]
@@ -39,8 +45,34 @@ fn logged<S: Store>(store: &S) -> u32
     store.log().len() as u32
 }
 
-/// The summary of what is to come of a text that has stopped. States that are in the table are not
-/// searched again. Errors: `Memory`, `States`.
+/// Keeps the summary of a state in which a device command asked, with the values of keys that are enough
+/// for it. Returns these keys. Errors: `Memory`.
+fn keep<S: Store>(
+    alloc: Global,
+    store: &S,
+    table: &mut Table,
+    hash: u64,
+    keys: Vec<Key>,
+    devices: u32,
+    summary: &Summary,
+) -> Result<Vec<Key>, SumError>
+    ensures err { IfErr result (λ e. e ≡ Memory) }
+    ensures keys { IfOk result (λ kept. keys_shown kept.items ≡ keys_shown keys.items) }
+    ensures kept { OnOk result (IsKeptAt table.old.entries.items table.new.entries.items
+        (S.record_of store.now).present (keys_shown keys.items) devices summary.now.place (summary_shown summary.now)) }
+    ensures flow { table.new.flow ≡ table.old.flow }
+    ensures visited { table.new.visited ≡ table.old.visited }
+    ensures most { table.new.most ≡ table.old.most }
+{
+    let known = known_at(alloc, store, keys)?;
+    let keys = keys_of(alloc, &known)?;
+    let frames = copy_frames(alloc, store.frames())?;
+    table.keep(alloc, hash, frames, known, store.steps(), devices, summary)?;
+    Ok(keys)
+}
+
+/// What is to come of a text that has stopped: the summary, and keys that are enough for it. States that
+/// are in the table are not searched again. Errors: `Memory`, `States`.
 fn summed<S: Store>(
     rehearsal: &Rehearsal<'_>,
     store: &mut S,
@@ -48,7 +80,7 @@ fn summed<S: Store>(
     names: &[&[u8]],
     depth: u32,
     stop: Stop,
-) -> Result<Summary, SumError>
+) -> Result<Future, SumError>
     requires reached { IsReached (task_in rehearsal.now) depth stop
         (S.record_of store.old).present }
     requires table { AreEntries (map (λ n. n.now) names.now) (task_in rehearsal.now).limits (nodes_shown table.old.flow.nodes)
@@ -57,8 +89,8 @@ fn summed<S: Store>(
     requires bound { (task_in rehearsal.now).limits.device_bound < 2 ^ 32 }
     requires begun { (S.record_of store.old).begun ≤ (2 * table.old.visited + 1) * most_steps }
     requires room { table.old.visited ≤ table.old.most }
-    ensures searched { IfOk result (λ s. IsSearched (map (λ n. n.now) names.now) (task_in rehearsal.now) stop
-        (S.record_of store.old) (S.record_of store.new) table.old table.new s) }
+    ensures searched { IfOk result (λ f. IsSearched (map (λ n. n.now) names.now) (task_in rehearsal.now) stop
+        (S.record_of store.old) (S.record_of store.new) table.old table.new f) }
     ensures refused { (p : OutcomeWord) (kept pending : List Asked)
         → StoppedAt (task_in rehearsal.now) p stop (S.record_of store.old).present
         → IsNewAt p kept pending → Entered (task_in rehearsal.now) kept pending table.old
@@ -70,7 +102,8 @@ fn summed<S: Store>(
             let place = table.flow.end(&halt)?;
             let run_end = run_end_of(rehearsal.alloc, store, halt, names)?;
             let summary = of_end(rehearsal.alloc, store.steps(), devices, run_end, place)?;
-            Ok(summary)
+            let keys = keys_at_end(rehearsal.alloc, names)?;
+            Ok(Future { summary, keys })
         }
         Stop::Asks => {
             let hash = hash_of(store);
@@ -85,19 +118,40 @@ fn summed<S: Store>(
             )? {
                 return Ok(found);
             }
-            let core = table.enter(rehearsal.alloc, store)?;
-            let steps = store.steps();
+            table.enter()?;
             store.mark()?;
-            let won_stop = resume(rehearsal, store, true)?;
+            store.mark()?;
+            let mut won_way = Reported::new(rehearsal.alloc);
+            let won_stop = resume_reported(rehearsal, &mut won_way, store, true)?;
             let words = words_at(rehearsal.alloc, store, devices)?;
             let won = summed(rehearsal, store, table, names, depth + 1, won_stop)?;
             store.back();
-            let lost_stop = resume(rehearsal, store, false)?;
+            let mut lost_way = Reported::new(rehearsal.alloc);
+            let lost_stop = resume_reported(rehearsal, &mut lost_way, store, false)?;
             let lost = summed(rehearsal, store, table, names, depth + 1, lost_stop)?;
-            let place = table.flow.ask(words, won.place, lost.place)?;
-            let summary = of_sides(rehearsal.alloc, steps, devices, won, lost, place)?;
-            table.keep(rehearsal.alloc, hash, core, steps, devices, &summary)?;
-            Ok(summary)
+            store.back();
+            let both = keys_of_both(
+                rehearsal.alloc,
+                store,
+                won_way,
+                won.keys,
+                lost_way,
+                lost.keys,
+            )?;
+            let place = table
+                .flow
+                .ask(words, won.summary.place, lost.summary.place)?;
+            let steps = store.steps();
+            let summary = of_sides(
+                rehearsal.alloc,
+                steps,
+                devices,
+                won.summary,
+                lost.summary,
+                place,
+            )?;
+            let keys = keep(rehearsal.alloc, store, table, hash, both, devices, &summary)?;
+            Ok(Future { summary, keys })
         }
     }
 }
@@ -129,11 +183,11 @@ pub fn sum_endings<S: Store>(
 {
     let stop = begin(rehearsal, store)?;
     let mut table = Table::new(rehearsal.alloc, most_states);
-    let summary = summed(rehearsal, store, &mut table, names, 0, stop)?;
+    let future = summed(rehearsal, store, &mut table, names, 0, stop)?;
     let states = table.visited;
     let nodes = table.flow.into_lines(rehearsal.alloc)?;
     Ok(Endings {
-        rows: summary.rows,
+        rows: future.summary.rows,
         states,
         nodes,
     })

@@ -1,26 +1,40 @@
 //! The table of the states in which device commands asked.
-ghost use Rattle.std.specs.Prelude.{◌≡◌, ◌≢◌, ◌≤◌, ◌<◌, ◌^◌, IfOk, OnOk, MatchOption, IsTrue, length, map, [], ⊤};
+ghost use Rattle.std.specs.Prelude.{◌≡◌, ◌≢◌, ◌≤◌, ◌<◌, ◌^◌, IfOk, OnOk, MatchOption, IsTrue, length, map, reverse, [], ⊤};
 ghost use Rattle.rehearse_machine.specs.Machine.{IsAsking, asked_at};
 ghost use Rattle.rehearse_machine.specs.MovesShown.{limits_of};
-ghost use Rattle.rehearse_endings.specs.SummedRuns.{Summed, FitsIf, moved_by};
+ghost use Rattle.rehearse_reuse.specs.SummedRuns.{Summed, FitsIf, moved_by};
 ghost use Rattle.rehearse_states.specs.RowsShown.{summary_shown};
 ghost use Rattle.rehearse_endings.specs.Searching.{AreEntries, IsKept};
-ghost use Rattle.rehearse_states.specs.Cores.{core_shown, core_of};
-ghost use Rattle.rehearse_endings.specs.DrawnRuns.{Draws, seen_at};
+ghost use Rattle.rehearse_frames.specs.KeysToCome.{AreEnoughAt};
+ghost use Rattle.rehearse_reports.specs.Known.{AllHold, keys_of};
+ghost use Rattle.rehearse_reports.specs.ReportsShown.{keys_shown};
+ghost use Rattle.rehearse_reuse.specs.DrawnRuns.{Draws, seen_at};
 ghost use Rattle.rehearse_states.specs.Drawing.{nodes_shown};
 
 use crate::sum_error::SumError;
-use bootstore_state::{Store, StoreError};
+use bootstore_state::{Frame, Store, StoreError};
 use device_list::Devices;
-use rehearse_states::{Core, Environments, Flow, Summary, copy_rows, has_core, take_core};
+use rehearse_reports::{Key, Known, all_hold, keys_of};
+use rehearse_states::{Flow, Summary, copy_rows, same_frames};
 use rehearse_terms::RunBounds;
 use std::alloc::Global;
 use std::collections::HashMap;
 
-/// A state in which a device command asked, and the summary of what is to come after it.
+/// What is to come after a state: its summary, and the keys on which it depends.
+#[derive(Drop)]
+pub(crate) struct Future {
+    /// How the runs end.
+    pub(crate) summary: Summary,
+    /// The keys that are enough for it.
+    pub(crate) keys: Vec<Key>,
+}
+
+/// A place at which a device command asked, what was known there of the keys that are enough, and the summary of what
+/// is to come after it.
 #[derive(Drop)]
 pub struct Entry {
-    pub core: Core,
+    pub frames: Vec<Frame>,
+    pub known: Vec<Known>,
     pub steps: u32,
     pub devices: u32,
     pub summary: Summary,
@@ -33,8 +47,6 @@ pub(crate) struct Table {
     pub(crate) entries: Vec<Entry>,
     /// The places of the entries of each number.
     pub(crate) places: HashMap<u64, Vec<usize>>,
-    /// The environments of the states.
-    pub(crate) environments: Environments,
     /// The nodes of the states, and of the ways to end.
     pub(crate) flow: Flow,
     /// How many states were entered.
@@ -57,18 +69,14 @@ impl Table {
         Table {
             entries: Vec::new(alloc),
             places: HashMap::new(alloc),
-            environments: Environments::new(alloc),
             flow: Flow::new(alloc),
             visited: 0,
             most,
         }
     }
 
-    /// Enters the present state of a store, and returns its core. Errors: `States` exactly if as many
-    /// states were entered as allowed; else only `Memory`.
-    pub(crate) fn enter<S: Store>(&mut self, alloc: Global, store: &S) -> Result<Core, SumError>
-        ensures core { IfOk result
-            (λ core. core_shown core ≡ core_of (S.record_of store.now).present) }
+    /// Enters one more state. Errors: `States`, exactly if as many states were entered as allowed.
+    pub(crate) fn enter(&mut self) -> Result<(), SumError>
         ensures entries { self.new.entries.items ≡ self.old.entries.items }
         ensures flow { self.new.flow ≡ self.old.flow }
         ensures most { self.new.most ≡ self.old.most }
@@ -81,12 +89,11 @@ impl Table {
             return Err(SumError::States);
         }
         self.visited += 1;
-        let core = take_core(alloc, &mut self.environments, store)?;
-        Ok(core)
+        Ok(())
     }
 
-    /// The summary of the present state, with the values of variables, if an entry under this number
-    /// fits. Errors: `Memory`.
+    /// What is to come after the present state, with the values of variables, if an entry under this
+    /// number fits. Errors: `Memory`.
     pub(crate) fn find<S: Store>(
         &self,
         alloc: Global,
@@ -96,21 +103,25 @@ impl Table {
         names: &[&[u8]],
         hash: u64,
         depth: u32,
-    ) -> Result<Option<Summary>, StoreError>
+    ) -> Result<Option<Future>, StoreError>
         requires asks { IsAsking (limits_of devices.now bounds) (S.record_of store.now).present }
         requires depth { length (S.record_of store.now).present.log ≡ depth }
         requires table { AreEntries (map (λ n. n.now) names.now) (limits_of devices.now bounds) (nodes_shown self.now.flow.nodes)
             self.now.entries.items }
         ensures sums { IfOk result
             (λ found. MatchOption found ⊤
-            (λ s. Summed (map (λ n. n.now) names.now) (asked_at (limits_of devices.now bounds) (S.record_of store.now).present)
-            (summary_shown s))) }
+            (λ f. Summed (map (λ n. n.now) names.now) (asked_at (limits_of devices.now bounds) (S.record_of store.now).present)
+            (summary_shown f.summary))) }
         ensures draws { IfOk result
             (λ found. MatchOption found ⊤
-            (λ s. Draws (nodes_shown self.now.flow.nodes) s.place
+            (λ f. Draws (nodes_shown self.now.flow.nodes) f.summary.place
             (seen_at (limits_of devices.now bounds) (S.record_of store.now).present))) }
+        ensures keys { IfOk result
+            (λ found. MatchOption found ⊤
+            (λ f. AreEnoughAt (limits_of devices.now bounds) (map (λ n. n.now) names.now) (S.record_of store.now).present
+            (keys_shown f.keys.items))) }
         ensures some { IfOk result
-            (λ found. MatchOption found ⊤ (λ s. self.now.entries.items ≢ [])) }
+            (λ found. MatchOption found ⊤ (λ f. self.now.entries.items ≢ [])) }
     {
         let (_devices, _names) = (devices, names);
         let Some(places) = self.places.get(&hash) else {
@@ -133,14 +144,15 @@ impl Table {
         &mut self,
         alloc: Global,
         hash: u64,
-        core: Core,
+        frames: Vec<Frame>,
+        known: Vec<Known>,
         steps: u32,
         devices: u32,
         summary: &Summary,
     ) -> Result<(), SumError>
         ensures err { IfErr result (λ e. e ≡ Memory) }
         ensures kept { OnOk result
-            (IsKept self.old.entries.items self.new.entries.items (core_shown core) steps devices
+            (IsKept self.old.entries.items self.new.entries.items frames.items known.items steps devices
             summary.now.place (summary_shown summary.now)) }
         ensures flow { self.new.flow ≡ self.old.flow }
         ensures visited { self.new.visited ≡ self.old.visited }
@@ -149,7 +161,8 @@ impl Table {
         let place = self.entries.len();
         let copy = copy_summary(alloc, summary)?;
         self.entries.push(Entry {
-            core,
+            frames,
+            known,
             steps,
             devices,
             summary: copy,
@@ -207,11 +220,12 @@ fn has_room(cut: bool, here: u32, there: u32, reach: u64, bound: u32) -> bool
     }
 }
 
-/// Whether an entry is of the present state, apart from text, log and steps, and its runs have room
-/// here.
+/// Whether the present state is at the place of an entry, what was known there holds here, and its runs
+/// have room here.
 fn fits<S: Store>(store: &S, bounds: RunBounds, entry: &Entry, depth: u32) -> bool
-    ensures core { IsTrue result → core_shown entry.now.core
-        ≡ core_of (S.record_of store.now).present }
+    ensures frames { IsTrue result → reverse entry.now.frames.items
+        ≡ (S.record_of store.now).present.frames }
+    ensures known { IsTrue result → AllHold (S.record_of store.now).present entry.now.known.items }
     ensures steps { IsTrue result → FitsIf entry.now.summary.cut_steps entry.now.steps
         (S.record_of store.now).present.steps entry.now.summary.steps bounds.steps }
     ensures devices { IsTrue result → FitsIf entry.now.summary.cut_devices entry.now.devices depth
@@ -229,22 +243,25 @@ fn fits<S: Store>(store: &S, bounds: RunBounds, entry: &Entry, depth: u32) -> bo
         depth,
         entry.summary.devices,
         bounds.devices(),
-    ) && has_core(store, &entry.core)
+    ) && same_frames(&entry.frames, store.frames())
+        && all_hold(store, &entry.known)
 }
 
-/// The summary of an entry, as it is at these steps and device commands.
+/// What is to come after an entry, as it is at these steps and device commands.
 fn moved(
     alloc: Global,
     entry: &Entry,
     steps: u32,
     devices: u32,
-) -> Result<Option<Summary>, StoreError>
+) -> Result<Option<Future>, StoreError>
     ensures sums { IfOk result
         (λ found. MatchOption found ⊤
-        (λ s. summary_shown s ≡ moved_by entry.now.steps steps entry.now.devices devices
+        (λ f. summary_shown f.summary ≡ moved_by entry.now.steps steps entry.now.devices devices
         (summary_shown entry.now.summary))) }
     ensures place { IfOk result
-        (λ found. MatchOption found ⊤ (λ s. s.place ≡ entry.now.summary.place)) }
+        (λ found. MatchOption found ⊤ (λ f. f.summary.place ≡ entry.now.summary.place)) }
+    ensures keys { IfOk result
+        (λ found. MatchOption found ⊤ (λ f. keys_shown f.keys.items ≡ keys_of entry.now.known.items)) }
 {
     let further = entry.summary.steps.saturating_sub(u64::from(entry.steps));
     let more = entry
@@ -257,13 +274,15 @@ fn moved(
     ) else {
         return Ok(None);
     };
+    let keys = keys_of(alloc, &entry.known)?;
     let rows = copy_rows(alloc, &entry.summary.rows)?;
-    Ok(Some(Summary {
+    let summary = Summary {
         rows,
         steps: reach_steps,
         devices: reach_devices,
         cut_steps: entry.summary.cut_steps,
         cut_devices: entry.summary.cut_devices,
         place: entry.summary.place,
-    }))
+    };
+    Ok(Some(Future { summary, keys }))
 }

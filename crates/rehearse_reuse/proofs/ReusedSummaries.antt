@@ -2,23 +2,29 @@
 use Rattle.std.proofs.Common.{◌≡◌, ◌∙◌, refl, sym, ap, subst, ℕ, ◌+◌, ◌≤◌, ◌<◌, Bool, true, false, List, [], ◌∷◌, ◌++◌, map, length, Option, Some, inl, inr, arith}
 use Rattle.bootstore_state.specs.Moment.{Moment}
 use Rattle.rehearse_terms.specs.Outcomes.{OutcomeWord, WordKind, Run, Success, Failure}
-use Rattle.rehearse_terms.specs.State.{Text, LoggedCommand, get}
-use Rattle.rehearse_rules.specs.Execution.{Limits, Ending, End, CutDevices, CutSteps, Unknown, Syntax, Unsupported, Size, Finished}
+use Rattle.rehearse_terms.specs.State.{Text, State, LoggedCommand, get}
+use Rattle.rehearse_rules.specs.Execution.{Limits, Request, Ending, End, CutDevices, CutSteps, Unknown, Syntax, Unsupported, Size, Finished}
 use Rattle.rehearse_machine.specs.Came.{Came, Over, Wants}
-use Rattle.rehearse_machine.specs.Machine.{asked_at}
-use Rattle.rehearse_reads.specs.Keys.{Key}
+use Rattle.rehearse_machine.specs.Frames.{Frame, Next, Ask}
+use Rattle.rehearse_machine.specs.Machine.{Asking, IsAsking, asked_at}
+use Rattle.rehearse_machine.specs.Meaning.{comes_to}
+use Rattle.rehearse_machine.specs.Places.{frames_of}
+use Rattle.bootstore_state.specs.StoredState.{state_at}
+use Rattle.std.proofs.lemmas.List.{append_cancel_left}
+use Rattle.rehearse_reads.specs.Keys.{Key, Environment, Local, AnswerTo, Status, AgreeAt}
 use Rattle.rehearse_reads.specs.Alike.{HaveFurther, IsCutBy}
 use Rattle.rehearse_frames.specs.AlikeFutures as ahead
 use Rattle.rehearse_frames.specs.AlikeFutures.{CameAlike, IsSameCame, CameCut, same, cut_here, beyond}
-use Rattle.rehearse_frames.proofs.EnoughKeys.{moments_go_alike}
+use Rattle.rehearse_frames.specs.KeysToCome.{from_state, AreEnough, AreEnoughAt}
+use Rattle.rehearse_frames.proofs.EnoughKeys.{moments_go_alike, asked_so, asks_so, requests}
 use Rattle.rehearse_states.specs.Endings.{RunEnd, Row, HasRows, ends, asks, one_run}
 use Rattle.rehearse_states.specs.Flow.{Answered, asked_in, Seen}
 use Rattle.rehearse_states.specs.Summaries.{Summary}
-use Rattle.rehearse_endings.specs.DrawnRuns.{further, seen_at}
-use Rattle.rehearse_endings.specs.Futures.{came_kind, came_ending, came_end, came_to_end, came_log, came_steps, came_devices}
-use Rattle.rehearse_endings.specs.SummedRuns.{Sums, FitsIf, moved_on}
-use Rattle.rehearse_endings.proofs.DrawingLemmas.{asked-on}
-use Rattle.rehearse_reuse.specs.Reuse.{FitsByKeys, SummariesAreReused, NodesAreReused}
+use Rattle.rehearse_reuse.specs.DrawnRuns.{further, seen_at}
+use Rattle.rehearse_reuse.specs.Futures.{came_kind, came_ending, came_end, came_to_end, came_log, came_steps, came_devices}
+use Rattle.rehearse_reuse.specs.SummedRuns.{Sums, FitsIf, moved_on}
+use Rattle.rehearse_reuse.proofs.LogLemmas.{asked-on, further_behind}
+use Rattle.rehearse_reuse.specs.Reuse.{FitsByKeys, SummariesAreReused, NodesAreReused, KeysAreReused}
 
 -- ---- rows say something of runs alone
 
@@ -68,10 +74,6 @@ cut_back names (Over a s) (Over b t) cut e other h =
 cut_back names (Over a s) (Wants t) cut e other h = absurd (cc)
 cut_back names (Wants s) (Over b t) cut e other h = absurd (cc)
 cut_back names (Wants s) (Wants t) cut e other h = absurd (other t.memory.status h)
-
-further_behind : (log rest : List Answered) → further (length log) (log ++ rest) ≡ rest
-further_behind [] rest = refl
-further_behind (c ∷ log) rest = further_behind log rest
 
 further_alike : (k l here there : List LoggedCommand) → HaveFurther k l here there → further (length (asked_in l)) (asked_in there) ≡ further (length (asked_in k)) (asked_in here)
 further_alike k l here there h =
@@ -142,6 +144,80 @@ module _ (limits : Limits) (names : List Text) (m n : Moment) (keys : List Key) 
         ∙ ap (λ (end : Option Ending). let seen : Seen = record { kind = came_kind c; ending = end; log = log } in seen) (ended_alike names c d (alike w).end)
         ∙ ap (λ (l : List Answered). let seen : Seen = record { kind = came_kind c; ending = came_to_end c; log = l } in seen) (further_alike m.log n.log (came_log c) (came_log d) (alike w).logs)
 
+  -- ---- keys that are enough are enough there
+
+  module _ (w : OutcomeWord) (t : State) (e d : Came) (near : IsSameCame limits m.steps n.steps m.log n.log names (asked_at limits m w) e) where
+    abbrev here : Came
+    here = asked_at limits m w
+
+    logs_between : HaveFurther m.log t.log (came_log here) (came_log d) → HaveFurther n.log t.log (came_log e) (came_log d)
+    logs_between h =
+        let same_rest : near.logs.further ≡ h.further = append_cancel_left m.log near.logs.further h.further (sym near.logs.goes_on_here ∙ h.goes_on_here) in
+        record {
+          further = h.further;
+          goes_on_here = near.logs.goes_on_there ∙ ap (λ (rest : List LoggedCommand). n.log ++ rest) same_rest;
+          goes_on_there = h.goes_on_there;
+        }
+
+    same_between : IsSameCame limits m.steps t.steps m.log t.log names here d → IsSameCame limits n.steps t.steps n.log t.log names e d
+    same_between h =
+        let a = near.steps in
+        let b = h.steps in
+        let f = near.devices in
+        let g = h.devices in
+        record {
+          kind = h.kind ∙ sym near.kind;
+          end = h.end ∙ sym near.end;
+          steps = omega arith;
+          devices = omega arith;
+          logs = logs_between h.logs;
+        }
+
+    before_steps : (cut : Bool) (before between after reach bound : ℕ) → FitsIf cut before between reach bound → (cut ≡ false → came_ending here ≡ CutSteps → ⊥) → came_ending here ≡ CutSteps → after < before → after < between
+    before_steps true before between after reach bound f u c l = omega (arith, f)
+    before_steps false before between after reach bound f u c l = absurd (u refl c)
+
+    before_devices : (cut : Bool) (before between after reach bound : ℕ) → FitsIf cut before between reach bound → (cut ≡ false → came_ending here ≡ CutDevices → ⊥) → came_ending here ≡ CutDevices → after < before → after < between
+    before_devices true before between after reach bound f u c l = omega (arith, f)
+    before_devices false before between after reach bound f u c l = absurd (u refl c)
+
+    cut_by_between : (ending : Ending) → came_ending here ≡ ending → IsCutBy limits m.steps t.steps m.log t.log ending → IsCutBy limits n.steps t.steps n.log t.log ending
+    cut_by_between (End status) c h = h
+    cut_by_between CutDevices c h = before_devices s.cut_devices (length m.log) (length n.log) (length t.log) s.devices limits.device_bound fits.devices (λ u. sums.uncut_devices u w) c h
+    cut_by_between CutSteps c h = before_steps s.cut_steps m.steps n.steps t.steps s.steps limits.step_bound fits.steps (λ u. sums.uncut_steps u w) c h
+    cut_by_between (Unknown name) c h = h
+    cut_by_between (Syntax name) c h = h
+    cut_by_between (Unsupported name) c h = h
+    cut_by_between Size c h = h
+    cut_by_between (Finished finish name) c h = h
+
+    cut_between : (c other : Came) → here ≡ c → e ≡ other → ahead.came_end names other ≡ ahead.came_end names c → CameCut limits m.steps t.steps m.log t.log names c → CameCut limits n.steps t.steps n.log t.log names other
+    cut_between (Over ending x) (Over another y) is at end h =
+        let p : EndAndValues = (ending, map (get x.memory.environment) names) in
+        let q : EndAndValues = (another, map (get y.memory.environment) names) in
+        let same_ending : ending ≡ another = ap (λ (z : EndAndValues). z.0) (sym (same_pair q p end)) in
+        subst (IsCutBy limits n.steps t.steps n.log t.log) same_ending (cut_by_between ending (ap came_ending is) h)
+    cut_between (Over ending x) (Wants y) is at end h = absurd (cc)
+    cut_between (Wants x) other is at end h = absurd h
+
+    room_between : (cut : Bool) (before between after reach bound came : ℕ) → FitsIf cut before between reach bound → came ≤ reach → before < after → before + bound < after + came → between < after
+    room_between true before between after reach bound came f l a b = omega (arith, f)
+    room_between false before between after reach bound came f l a b = omega (arith, f)
+
+    alike_between : CameAlike limits m.steps t.steps m.log t.log names here d → CameAlike limits n.steps t.steps n.log t.log names e d
+    alike_between (same h) = same (same_between h)
+    alike_between (cut_here h) = cut_here (cut_between here e refl refl near.end h)
+    alike_between (beyond (inl h)) =
+        let a = near.steps in
+        let f : n.steps < t.steps = room_between s.cut_steps m.steps n.steps t.steps s.steps limits.step_bound (came_steps here) fits.steps (sums.steps w) h.0 h.1 in
+        let g = h.1 in
+        beyond (inl (f, omega arith))
+    alike_between (beyond (inr h)) =
+        let a = near.devices in
+        let f : length n.log < length t.log = room_between s.cut_devices (length m.log) (length n.log) (length t.log) s.devices limits.device_bound (came_devices here) fits.devices (sums.devices w) h.0 h.1 in
+        let g = h.1 in
+        beyond (inr (f, omega arith))
+
 pub summaries_are_reused : SummariesAreReused
 summaries_are_reused limits names m n keys s am an enough sums fits =
     sums_there limits names m n keys s sums fits
@@ -151,3 +227,42 @@ pub nodes_are_reused : NodesAreReused
 nodes_are_reused limits names m n keys s am an enough sums fits w =
     seen_there limits names m n keys s sums fits
     (λ v. same_there limits names m n keys s sums fits v (moments_go_alike limits names m n keys am an fits.place enough fits.agree v)) w
+
+-- what agrees with the second of two that agree agrees with the first
+agree_then : (key : Key) (s t u : State) → AgreeAt key s t → AgreeAt key t u → AgreeAt key s u
+agree_then (Environment name) s t u a b = b ∙ a
+agree_then (Local name) s t u a b = b ∙ a
+agree_then (AnswerTo call) s t u a b = b ∙ a
+agree_then Status s t u a b = b ∙ a
+
+module _ (limits : Limits) (names : List Text) (m n : Moment) (keys : List Key) (s : Summary) (am : Asking limits m) (an : Asking limits n) (enough : AreEnoughAt limits names m keys) (sums : Sums names (asked_at limits m) s) (fits : FitsByKeys limits keys s m n) where
+  abbrev asks_there : Next
+  asks_there = Ask an.request (frames_of n.frames) (state_at n [])
+
+  abbrev asks_here : Next
+  asks_here = Ask am.request (frames_of m.frames) (state_at m [])
+
+  -- from any other state, the command that asks there asks as the one here does
+  from_there : (t : State) → from_state t asks_here ≡ from_state t asks_there
+  from_there t =
+      ap (λ (request : Request). Ask request (frames_of m.frames) t) (sym (requests limits names m n am an fits.place))
+      ∙ ap (λ (fs : List Frame). Ask an.request fs t) (sym fits.place.frames)
+
+  enough_here : AreEnough limits names asks_here keys
+  enough_here = subst (λ (next : Next). AreEnough limits names next keys) (asks_so limits m am) enough
+
+  enough_there : AreEnough limits names asks_there keys
+  unfolding IsAsking
+  enough_there w t agree =
+      let near = same_there limits names m n keys s sums fits w (moments_go_alike limits names m n keys am an fits.place enough fits.agree w) in
+      let alike : CameAlike limits m.steps t.steps m.log t.log names (asked_at limits m w) (comes_to limits w (from_state t asks_there)) =
+      subst (λ (c : Came). CameAlike limits m.steps t.steps m.log t.log names c (comes_to limits w (from_state t asks_there))) (sym (asked_so limits m am w))
+      (subst (λ (next : Next). CameAlike limits m.steps t.steps m.log t.log names (comes_to limits w asks_here) (comes_to limits w next)) (from_there t)
+      (enough_here w t (λ key h. agree_then key (state_at m []) (state_at n []) t (fits.agree key h) (agree key h)))) in
+      subst (λ (c : Came). CameAlike limits n.steps t.steps n.log t.log names c (comes_to limits w (from_state t asks_there))) (asked_so limits n an w)
+      (alike_between limits names m n keys s sums fits w t (asked_at limits n w) (comes_to limits w (from_state t asks_there)) near alike)
+
+pub keys_are_reused : KeysAreReused
+unfolding IsAsking
+keys_are_reused limits names m n keys s am an enough sums fits =
+    subst (λ (next : Next). AreEnough limits names next keys) (sym (asks_so limits n an)) (enough_there limits names m n keys s am an enough sums fits)

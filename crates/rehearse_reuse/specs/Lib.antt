@@ -1,1 +1,4 @@
+pub mod Futures
+pub mod DrawnRuns
+pub mod SummedRuns
 pub mod Reuse

@@ -9,8 +9,8 @@ use Rattle.rehearse_machine.specs.Machine.{IsAsking, asked_at}
 use Rattle.rehearse_reads.specs.Keys.{Key, AgreeOn}
 use Rattle.rehearse_frames.specs.KeysToCome.{AreAtOnePlace, AreEnoughAt}
 use Rattle.rehearse_states.specs.Summaries.{Summary}
-use Rattle.rehearse_endings.specs.DrawnRuns.{seen_at}
-use Rattle.rehearse_endings.specs.SummedRuns.{Sums, FitsIf, moved_on}
+use Rattle.rehearse_reuse.specs.DrawnRuns.{seen_at}
+use Rattle.rehearse_reuse.specs.SummedRuns.{Sums, FitsIf, moved_on}
 
 -- the moment n is at the place of m, has the same at each of these keys, and leaves room for the runs of the summary
 pub record FitsByKeys (limits : Limits) (keys : List Key) (s : Summary) (m n : Moment) : Type 0 where
@@ -30,3 +30,9 @@ abbrev pub NodesAreReused : Type 0
 NodesAreReused = (limits : Limits) (names : List Text) (m n : Moment) (keys : List Key) (s : Summary) → IsAsking limits m → IsAsking limits n →
     AreEnoughAt limits names m keys → Sums names (asked_at limits m) s → FitsByKeys limits keys s m n →
     (w : OutcomeWord) → seen_at limits n w ≡ seen_at limits m w
+
+-- and the same keys are enough there
+abbrev pub KeysAreReused : Type 0
+KeysAreReused = (limits : Limits) (names : List Text) (m n : Moment) (keys : List Key) (s : Summary) → IsAsking limits m → IsAsking limits n →
+    AreEnoughAt limits names m keys → Sums names (asked_at limits m) s → FitsByKeys limits keys s m n →
+    AreEnoughAt limits names n keys

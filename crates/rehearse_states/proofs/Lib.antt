@@ -1,7 +1,6 @@
 pub mod SideBySide
 pub mod EqualLemmas
 pub mod TreeEqualLemmas
-pub mod AnswerLemmas
 pub mod RowsOfRuns
 pub mod SaturatedCountLemmas
 pub mod NodeLemmas

@@ -1,4 +1,3 @@
-pub mod Cores
 pub mod Words
 pub mod Endings
 pub mod Flow

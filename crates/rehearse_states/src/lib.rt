@@ -1,26 +1,24 @@
 //! States that runs can meet: what the runs still to come of one depend on, and the rows and the flow that say how they end.
 #![tactic(auto)]
 
-mod cores;
 mod ending_lines;
-mod environments;
 mod fail_lines;
 mod flow;
 mod flow_lines;
 mod hashing;
+mod places;
 mod rows;
 mod run_end;
 mod summary;
 mod value_lines;
 mod words;
 
-pub use cores::{Core, has_core, take_core};
 pub use ending_lines::{put_ending, put_number, text_of};
-pub use environments::Environments;
 pub use fail_lines::put_fail;
 pub use flow::{Flow, Node};
 pub use flow_lines::flow_text_of;
 pub use hashing::hash_of;
+pub use places::{copy_frames, same_frames};
 pub use rows::{Row, copy_rows};
 pub use run_end::{RunEnd, run_end_of, same_halt};
 pub use summary::{Summary, of_end, of_sides};

@@ -14,27 +14,27 @@ pub summed-requires-clause-reached : goal.summed-requires-clause-reached
 summed-requires-clause-reached g c = reached_first (task_in c.args.rehearsal.now) c.in_ok-stop.stop (g.S.Store.record_of c.begin.new.store).present c.in_ok-stop.ensures.stops
 
 pub returns-clause-rows : goal.returns-clause-rows
-returns-clause-rows g c = whole_rows (map (λ n. n.now) c.args.names.now) (task_in c.args.rehearsal.now) c.in_ok-stop.stop (g.S.Store.record_of c.begin.new.store).present (summary_shown c.in_ok-summary.summary) c.in_ok-stop.ensures.stops c.in_ok-summary.ensures.searched.sums
+returns-clause-rows g c = whole_rows (map (λ n. n.now) c.args.names.now) (task_in c.args.rehearsal.now) c.in_ok-stop.stop (g.S.Store.record_of c.begin.new.store).present (summary_shown c.in_ok-future.future.summary) c.in_ok-stop.ensures.stops c.in_ok-future.ensures.searched.sums
 
 pub returns-clause-met : goal.returns-clause-met
 returns-clause-met g c =
     let task = task_in c.args.rehearsal.now in
     let m = (g.S.Store.record_of c.begin.new.store).present in
     let first = first_entered task c.new-table.result c.new-table.ensures.entries c.new-table.ensures.visited in
-    whole_states task c.summed.new.table (c.in_ok-summary.ensures.searched.entered [] [] [] c.in_ok-stop.ensures.stops first_new first)
+    whole_states task c.summed.new.table (c.in_ok-future.ensures.searched.entered [] [] [] c.in_ok-stop.ensures.stops first_new first)
 
-pub returns-in_err-summary-clause-refused : goal.returns-in_err-summary-clause-refused
-returns-in_err-summary-clause-refused g c =
+pub returns-in_err-future-clause-refused : goal.returns-in_err-future-clause-refused
+returns-in_err-future-clause-refused g c =
     let task = task_in c.args.rehearsal.now in
     let first = first_entered task c.new-table.result c.new-table.ensures.entries c.new-table.ensures.visited in
-    let error = err_from_is_err_and c.from_residual-in_err-summary.result c.from_residual-in_err-summary.ensures.1 in
-    refused_as task (c.args.most_states + 1) c.from_residual-in_err-summary.result c.in_err-summary.field-0.0 (error.1 ∙ ap Err error.2)
-    (λ is. subst (λ (n : ℕ). HasStates task (n + 1)) c.new-table.ensures.most (c.in_err-summary.ensures.refused [] [] [] c.in_ok-stop.ensures.stops first_new first is))
+    let error = err_from_is_err_and c.from_residual-in_err-future.result c.from_residual-in_err-future.ensures.1 in
+    refused_as task (c.args.most_states + 1) c.from_residual-in_err-future.result c.in_err-future.field-0.0 (error.1 ∙ ap Err error.2)
+    (λ is. subst (λ (n : ℕ). HasStates task (n + 1)) c.new-table.ensures.most (c.in_err-future.ensures.refused [] [] [] c.in_ok-stop.ensures.stops first_new first is))
 
 pub returns-clause-flow : goal.returns-clause-flow
 returns-clause-flow g c =
     let task = task_in c.args.rehearsal.now in
     let m = (g.S.Store.record_of c.begin.new.store).present in
     let nodes = c.summed.new.table.flow.nodes in
-    whole_flow task c.in_ok-stop.stop m (nodes_shown nodes) (nodes_shown c.in_ok-nodes.nodes) c.in_ok-summary.summary.place (length nodes.items) c.in_ok-stop.ensures.stops c.in_ok-summary.ensures.searched.draws
-    (c.in_ok-summary.ensures.searched.last c.new-table.ensures.entries c.new-table.ensures.flow) (sym (length-map nodes.items node_shown)) c.in_ok-nodes.ensures
+    whole_flow task c.in_ok-stop.stop m (nodes_shown nodes) (nodes_shown c.in_ok-nodes.nodes) c.in_ok-future.future.summary.place (length nodes.items) c.in_ok-stop.ensures.stops c.in_ok-future.ensures.searched.draws
+    (c.in_ok-future.ensures.searched.last c.new-table.ensures.entries c.new-table.ensures.flow) (sym (length-map nodes.items node_shown)) c.in_ok-nodes.ensures

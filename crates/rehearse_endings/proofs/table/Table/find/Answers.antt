@@ -2,7 +2,7 @@ use Rattle.std.proofs.Common.{refl, get_or, map}
 use Rattle.rehearse_machine.specs.MovesShown.{limits_of}
 use Rattle.rehearse_states.specs.Drawing.{nodes_shown}
 use Rattle.rehearse_endings.specs.declared.table.Entry.{Entry}
-use Rattle.rehearse_endings.proofs.SearchLemmas.{entry_in, look_there, place_there, some_there}
+use Rattle.rehearse_endings.proofs.SearchLemmas.{entry_in, look_there, place_there, keys_there, some_there}
 use Rattle.rehearse_endings.proofs.table.Table.find.Goals as goal
 
 pub returns-then-fits : goal.returns-then-fits
@@ -17,12 +17,14 @@ returns-then-fits g c =
     let at = c.in-Some-get.ensures.lookup in
     let same = c.deref.ensures.value in
     let entry = entry_in names limits nodes entries c.deref.result.now place e same at.0 at.1 c.requires.table in
-    let core = c.if-fits.ensures.core refl in
+    let frames = c.if-fits.ensures.frames refl in
+    let known = c.if-fits.ensures.known refl in
     let steps = c.if-fits.ensures.steps refl in
     let devices = c.if-fits.ensures.devices refl in
     let found = c.in_ok-found.found in
     record {
-      sums = look_there names limits nodes e t c.args.depth entry c.requires.asks c.requires.depth core steps devices found c.steps.result c.steps.ensures c.in_ok-found.ensures.sums;
-      draws = place_there names limits nodes e t c.args.depth entry c.requires.asks c.requires.depth core steps devices found c.in_ok-found.ensures.place;
+      sums = look_there names limits nodes e t c.args.depth entry c.requires.asks c.requires.depth frames known steps devices found c.steps.result c.steps.ensures c.in_ok-found.ensures.sums;
+      draws = place_there names limits nodes e t c.args.depth entry c.requires.asks c.requires.depth frames known steps devices found c.in_ok-found.ensures.place;
+      keys = keys_there names limits nodes e t c.args.depth entry c.requires.asks c.requires.depth frames known steps devices found c.in_ok-found.ensures.keys;
       some = some_there entries c.deref.result.now place same at.0 found;
     }

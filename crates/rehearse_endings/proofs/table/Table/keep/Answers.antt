@@ -4,5 +4,5 @@ use Rattle.rehearse_endings.proofs.table.Table.keep.Goals as goal
 
 pub returns-clause-kept : goal.returns-clause-kept
 returns-clause-kept c =
-    let kept : Entry = record { core = c.args.core; steps = c.args.steps; devices = c.args.devices; summary = c.in_ok-copy.copy } in
-    (kept, c.note.ensures.entries ∙ c.in_ok-push.ensures.items, refl, refl, refl, c.in_ok-copy.ensures.sums, c.in_ok-copy.ensures.place)
+    let kept : Entry = record { frames = c.args.frames; known = c.args.known; steps = c.args.steps; devices = c.args.devices; summary = c.in_ok-copy.copy } in
+    (kept, c.note.ensures.entries ∙ c.in_ok-push.ensures.items, refl, refl, refl, refl, c.in_ok-copy.ensures.sums, c.in_ok-copy.ensures.place)

@@ -1,6 +1,6 @@
 use Rattle.std.proofs.Common.{rules, ◌≡◌, ◌∷◌}
 use Rattle.rehearse_states.proofs.SideBySide.{told_step, told_end}
-use Rattle.rehearse_states.proofs.cores.same_frames.Goals as goal
+use Rattle.rehearse_states.proofs.places.same_frames.Goals as goal
 
 pub returns-then-not-same_frame-clause-told : goal.returns-then-not-same_frame-clause-told
 returns-then-not-same_frame-clause-told c = λ h.

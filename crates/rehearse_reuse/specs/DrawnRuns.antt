@@ -7,7 +7,7 @@ use Rattle.rehearse_rules.specs.Execution.{Limits}
 use Rattle.rehearse_machine.specs.Came.{Came}
 use Rattle.rehearse_machine.specs.Machine.{asked_at}
 use Rattle.rehearse_states.specs.Flow.{Node, Answered, asked_in, Seen, walk}
-use Rattle.rehearse_endings.specs.Futures.{came_kind, came_to_end, came_log}
+use Rattle.rehearse_reuse.specs.Futures.{came_kind, came_to_end, came_log}
 
 -- the commands after the first n
 abbrev pub further : ℕ → List Answered → List Answered

@@ -1,5 +1,5 @@
 use Rattle.std.proofs.Common.{◌≡◌, take, ◌++◌}
-use Rattle.rehearse_states.proofs.cores.same_frames.Given as goal
+use Rattle.rehearse_states.proofs.places.same_frames.Given as goal
 
 -- the frames so far are the same
 abbrev pub invariant-loop-frame : goal.invariant-loop-frame

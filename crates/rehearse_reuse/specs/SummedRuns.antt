@@ -1,4 +1,4 @@
--- What a summary says of the runs to come, and where else it may be used. Ours.
+-- What a summary says of the runs to come, and how it is moved. Ours.
 use Rattle.std.specs.Prelude.{◌≡◌, ℕ, ◌+◌, ◌-◌, ◌≤◌, List, length, Bool, true, false}
 use Rattle.std.specs.FinMap.{entries}
 use Rattle.bootstore_state.specs.Moment.{Moment}
@@ -6,7 +6,7 @@ use Rattle.rehearse_terms.specs.Outcomes.{OutcomeWord}
 use Rattle.rehearse_terms.specs.State.{Text}
 use Rattle.rehearse_rules.specs.Execution.{Limits, Ending, CutDevices, CutSteps}
 use Rattle.rehearse_machine.specs.Came.{Came}
-use Rattle.rehearse_endings.specs.Futures.{came_kind, came_ending, came_end, came_steps, came_devices, HaveSameCore}
+use Rattle.rehearse_reuse.specs.Futures.{came_kind, came_ending, came_end, came_steps, came_devices}
 use Rattle.rehearse_states.specs.Endings.{HasRows, end_with, of_both}
 use Rattle.rehearse_states.specs.Summaries.{Summary, summary_at_end, summary_of_sides}
 use Rattle.rehearse_states.specs.RowsShown.{saturated_summary}
@@ -23,12 +23,6 @@ pub record Sums (names : List Text) (f : OutcomeWord → Came) (s : Summary) : T
 abbrev pub FitsIf : (cut : Bool) → (here there reach bound : ℕ) → Type 0
 FitsIf true here there reach bound = there ≡ here
 FitsIf false here there reach bound = there + reach ≤ here + bound
-
--- the summary of m is valid for a moment with these steps and device commands
-pub record Fits (limits : Limits) (s : Summary) (m t : Moment) : Type 0 where
-  pub core : HaveSameCore m t
-  pub steps : FitsIf s.cut_steps m.steps t.steps s.steps limits.step_bound
-  pub devices : FitsIf s.cut_devices (length m.log) (length t.log) s.devices limits.device_bound
 
 -- a summary, moved to where this many steps and device commands came before
 abbrev pub moved_by : (here there devices_here devices_there : ℕ) → Summary → Summary

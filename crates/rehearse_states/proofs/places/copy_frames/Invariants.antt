@@ -1,5 +1,5 @@
 use Rattle.std.proofs.Common.{◌≡◌, take}
-use Rattle.rehearse_states.proofs.cores.copy_frames.Given as goal
+use Rattle.rehearse_states.proofs.places.copy_frames.Given as goal
 
 -- the frames so far are copied
 abbrev pub invariant-loop-frame : goal.invariant-loop-frame

@@ -1,8 +1,8 @@
 use Rattle.std.proofs.Common.{rules, sym, ◌∙◌}
 use Rattle.rehearse_states.proofs.EqualLemmas.{texts_decided}
 use Rattle.rehearse_states.proofs.TreeEqualLemmas.{script_decided}
-use Rattle.rehearse_states.proofs.cores.same_frame.Goals as goal
-use Rattle.rehearse_states.proofs.cores.same_frame.Goals.{then-eq-2, else-eq-2}
+use Rattle.rehearse_states.proofs.places.same_frame.Goals as goal
+use Rattle.rehearse_states.proofs.places.same_frame.Goals.{then-eq-2, else-eq-2}
 
 pub returns-then-eq-3-clause-same : goal.returns-then-eq-3-clause-same
 returns-then-eq-3-clause-same c = λ h.

@@ -1,0 +1,17 @@
+use Rattle.std.proofs.Common.{◌∙◌, ap, subst, reverse, ℕ}
+use Rattle.rehearse_states.specs.RowsShown.{summary_shown}
+use Rattle.rehearse_endings.specs.Searching.{IsKept}
+use Rattle.rehearse_endings.proofs.searching.keep.Goals as goal
+
+pub returns-clause-kept : goal.returns-clause-kept
+returns-clause-kept g c =
+    record {
+      left = c.in_ok-frames.frames.items;
+      known = c.in_ok-known.known.items;
+      frames = ap reverse c.in_ok-frames.ensures ∙ c.frames.ensures;
+      holds = c.in_ok-known.ensures.hold;
+      same = c.in_ok-known.ensures.keys;
+      kept =
+          subst (λ (steps : ℕ). IsKept c.args.table.now.entries.items c.keep.new.self.entries.items c.in_ok-frames.frames.items c.in_ok-known.known.items steps c.args.devices c.args.summary.now.place (summary_shown c.args.summary.now))
+          c.steps.ensures c.in_ok-keep.ensures.kept;
+    }
