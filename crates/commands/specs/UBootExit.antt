@@ -26,10 +26,9 @@ uboot_exit_status (word ∷ v ∷ ws) = 1
 abbrev pub ends_text : Text → Bool
 ends_text word = nat_lt (in_word (exit_number word)) 2147483647
 
--- the status that a word names, if it is 0 or 1. Another one is not followed: behind a text that a `run` has started it is the
--- status of the `run` if `exit` has ended the text, and else 1 (`parse_stream_outer`), which is not told apart here
+-- the status that a word names, if it is at most 255: a larger one is no status here
 abbrev pub status_named : Text → Option ℕ
-status_named word = let number = in_word (exit_number word) in if nat_le number 1 then Some number else None
+status_named word = let number = in_word (exit_number word) in if nat_le number 255 then Some number else None
 
 -- the status with which the text ends, if it ends
 abbrev pub newer_exit : List Text → Option ℕ

@@ -42,12 +42,12 @@ pub fn ends_text(word: &[u8]) -> bool
     exit_number(word) < 2_147_483_647
 }
 
-/// The status that a word of `exit` names in 2025.01, if it is 0 or 1.
+/// The status that a word of `exit` names in 2025.01, if it is at most 255.
 fn status_named(word: &[u8]) -> Option<u8>
     ensures { result ≡ says.status_named word.now }
 {
     let number = exit_number(word);
-    if number > 1 {
+    if number > 255 {
         return None;
     }
     Some(number as u8)
@@ -71,7 +71,7 @@ pub fn newer_exit_status(words: &[Vec<u8>]) -> u8
     newer_exit(words).unwrap_or(1)
 }
 
-/// Whether the words of an `exit` of 2025.01 are followed: they name no number above 1.
+/// Whether the words of an `exit` of 2025.01 are followed: they name no number above 255.
 pub fn follows_exit(words: &[Vec<u8>]) -> bool
     ensures { result ≡ says.follows_exit (bytes_of_words words.now) }
 {

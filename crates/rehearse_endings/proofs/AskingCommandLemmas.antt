@@ -1,7 +1,7 @@
 -- A command that asks was not told an answer: it takes an outcome of the word.
 use Rattle.device_list.specs.declared.finish.BoardEnd.{BoardEnd}
 use Rattle.rehearse_rules.specs.ByShell.{leaves_in, status_of_exit, asks_in, truth_in, fields_in, follows, reads_again}
-use Rattle.std.proofs.Common.{ℕ, Bool, true, false, List, [], ◌∷◌, length, Option, Some, None, refl, subst, ◌≡◌, nat_lt, nat_le}
+use Rattle.std.proofs.Common.{ℕ, Bool, true, false, List, [], ◌∷◌, length, Option, Some, None, refl, subst, ◌≡◌, nat_lt, nat_le, nat_eq}
 use Rattle.hushlang.specs.Tree as tree
 use Rattle.hushlang.specs.Tree.{Script}
 use Rattle.hushlang.specs.Expansion.{size, most_bytes}
@@ -28,7 +28,7 @@ either_anew false x y h k = k
 
 left_anew : (ps : List RunningFrame) (s : State) → AsksAnew (left ps s)
 left_anew [] s = tt
-left_anew (p ∷ ps) s = tt
+left_anew (p ∷ ps) s = either_anew (nat_eq s.memory.status 0) (GoOn (p ∷ ps) s) (GoOn ps s) tt tt
 
 exit_anew : (o : Option ℕ) (other : ℕ) (ps : List RunningFrame) (s : State) → AsksAnew (place_exit o other ps s)
 exit_anew None other ps s = tt

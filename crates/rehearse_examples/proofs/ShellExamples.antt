@@ -1,5 +1,6 @@
 -- What the shells do otherwise, computed: each script by ubtool's own shell and by U-Boot's old one, which was asked.
 use Rattle.std.proofs.Common.{◌≡◌, List, [], ◌∷◌, None, codes, refl, map}
+use Rattle.std.specs.Prelude.{zip}
 use Rattle.rehearse_terms.specs.State.{Text}
 use Rattle.rehearse_terms.specs.declared.shell.Shell.{Shell}
 use Rattle.rehearse_terms.specs.declared.shell.Shell.TheVariants.{Profile, Old2023, Old2025}
@@ -120,9 +121,8 @@ unread_text : in_each (codes "if true; then") ≡ ([], Syntax (codes "bootcmd"))
 unfolding told_of
 unread_text = refl
 
--- `exit` ends nothing in 2023.01, and its status says whether its number is 0. In 2025.01 it ends the text; a number above 1 is
--- not followed
-exit_with_a_number : in_each (codes "exit 3; echo $?") ≡ ([], End 3) ∷ (codes "1\n", End 0) ∷ ([], Unsupported (codes "exit")) ∷ []
+-- `exit` ends nothing in 2023.01, and its status says whether its number is 0. In 2025.01 it ends the text
+exit_with_a_number : in_each (codes "exit 3; echo $?") ≡ ([], End 3) ∷ (codes "1\n", End 0) ∷ ([], End 3) ∷ []
 unfolding told_of
 exit_with_a_number = refl
 
@@ -161,7 +161,13 @@ newer_exits_read_again : by_newer (codes "x=1; exit $x; echo $?" ∷ codes "e=ex
 unfolding told_of
 newer_exits_read_again = refl
 
-newer_exits_not_followed : by_newer (codes "exit 2" ∷ codes "exit 256" ∷ codes "x=2; exit $x" ∷ codes "if true; then exit 4294967295; fi" ∷ [])
+-- its number is its status up to 255: decimal, or hexadecimal behind `0x`; a word that is no number is 0
+newer_exit_numbers : by_newer (codes "exit 2; echo a" ∷ codes "exit 255" ∷ codes "exit 0x10" ∷ codes "exit 010" ∷ codes "exit 3x" ∷ codes "x=255; exit $x; echo $?" ∷ [])
+    ≡ ([], End 2) ∷ ([], End 255) ∷ ([], End 16) ∷ ([], End 10) ∷ ([], End 3) ∷ (codes "255\n", End 0) ∷ []
+unfolding told_of
+newer_exit_numbers = refl
+
+newer_exits_not_followed : by_newer (codes "exit 256" ∷ codes "x=256; exit $x" ∷ codes "exit 4294967301" ∷ codes "if true; then exit 4294967295; fi" ∷ [])
     ≡ ([], Unsupported (codes "exit")) ∷ ([], Unsupported (codes "exit")) ∷ ([], Unsupported (codes "exit")) ∷ ([], Unsupported (codes "exit")) ∷ []
 unfolding told_of
 newer_exits_not_followed = refl
@@ -174,6 +180,28 @@ newer_exits_of_texts : started_newer (codes "if true; then exit 3; fi; echo a") 
     ≡ (codes "0\n", End 0) ∷ (codes "1\n", End 0) ∷ []
 unfolding told_of
 newer_exits_of_texts = refl
+
+-- a text that ends by itself with another status than 0 gives its `run` the status 1: a command with a variable whose `exit` ends
+-- nothing, and a `run` whose text has ended so
+newer_ends_of_texts : map (λ t. started_newer t (codes "run t; echo $?")) (codes "exit 5; echo a" ∷ codes "x=5; exit $x" ∷ codes "x=5; exit $x; true" ∷ codes "exit $none" ∷ [])
+    ≡ (codes "5\n", End 0) ∷ (codes "1\n", End 0) ∷ (codes "0\n", End 0) ∷ (codes "0\n", End 0) ∷ []
+unfolding told_of
+newer_ends_of_texts = refl
+
+-- the texts of t, u and v
+abbrev started_among : List Text → Shell → Told
+started_among texts shell = told_of (bootcmd_among (record (limits only_load 2 10000) { shell = shell }) (zip (codes "t" ∷ codes "u" ∷ codes "v" ∷ []) texts) (codes "run t u; echo $?"))
+
+-- the second text follows if `exit` has ended the first with status 0; and a text whose `run` has the status 9 gives its own the 1
+newer_texts_of_texts : map (λ texts. started_among texts Old2025) ((codes "exit" ∷ codes "exit 9" ∷ []) ∷ (codes "exit 9" ∷ codes "echo u" ∷ []) ∷ (codes "run v" ∷ codes "echo u" ∷ codes "exit 9" ∷ []) ∷ (codes "run v; exit" ∷ codes "echo u" ∷ codes "exit 9" ∷ []) ∷ [])
+    ≡ (codes "9\n", End 0) ∷ (codes "9\n", End 0) ∷ (codes "1\n", End 0) ∷ (codes "u\n0\n", End 0) ∷ []
+unfolding told_of
+newer_texts_of_texts = refl
+
+-- in ubtool's own reading a `run` has the status of its text, however that has ended
+status_of_a_text : map (started_among (codes "run v" ∷ codes "true" ∷ codes "exit 9" ∷ [])) (Profile ∷ Old2023 ∷ []) ≡ (codes "9\n", End 0) ∷ (codes "1\n", End 0) ∷ []
+unfolding told_of
+status_of_a_text = refl
 
 -- an assignment of an empty value changes nothing in 2023.01
 empty_value : in_each (codes "x=a; x=; echo $?$x; x=$none; echo $?$x") ≡ (codes "0\n0\n", End 0) ∷ (codes "0a\n0a\n", End 0) ∷ (codes "0\n0\n", End 0) ∷ []

@@ -5,7 +5,7 @@ use Rattle.rehearse_terms.specs.Outcomes.{OutcomeWord, WordKind, Run, Long}
 use Rattle.rehearse_terms.specs.State.{Text, State, LoggedCommand, get}
 use Rattle.rehearse_rules.specs.Execution.{Limits, Answer, Normal, Exit, Ended, Dry, Ending, End, take_outcome, run_all, turns, for_each}
 use Rattle.rehearse_rules.specs.Runs.{taken_kind}
-use Rattle.rehearse_rules.proofs.TakenOutcomes.{KeepsAll, Keeps-script, Keeps-joined, Keeps-arms, Keeps-exec, Keeps-run, Keeps-turns, Keeps-for, Keeps-if, after_condition, Keeps-after_condition}
+use Rattle.rehearse_rules.proofs.TakenOutcomes.{KeepsAll, Keeps-script, Keeps-joined, Keeps-arms, Keeps-exec, Keeps-run, Keeps-turns, Keeps-for, Keeps-if, Keeps-stays, after_condition, Keeps-after_condition}
 use Rattle.rehearse_machine.specs.Came.{Over, settled}
 use Rattle.rehearse_machine.specs.Frames.{Frame, Lists, Linked, IfCondition, LoopCondition, LoopBody, ForBody, RunNames, RunText}
 use Rattle.rehearse_machine.specs.Meaning.{with, first_or_next, full, script, joined_of, arms_of, again, resume, continue}
@@ -16,7 +16,7 @@ use Rattle.rehearse_reads.specs.Alike.{AreAbreast, IsAlike}
 use Rattle.rehearse_reads.proofs.AccessLemmas.{within_first, within_then}
 use Rattle.rehearse_reads.proofs.KeysRead.{reads_within}
 use Rattle.rehearse_reads.proofs.AbreastLemmas.{moved_at, near_moved}
-use Rattle.rehearse_reads.proofs.AlikeParts.{further_apart, normal_later, normal_alike, ended_alike, dry_alike, if_alike, go_on_alike, text_end_alike, Alike-read}
+use Rattle.rehearse_reads.proofs.AlikeParts.{further_apart, normal_later, if_later, normal_alike, ended_alike, dry_alike, if_alike, go_on_alike, text_end_alike, Alike-read}
 use Rattle.rehearse_reads.proofs.AlikeDevices.{take_alike}
 use Rattle.rehearse_reads.proofs.AlikeLoops.{Alike-turns, Alike-each, after_alike}
 use Rattle.rehearse_reads.proofs.AlikeScripts.{Alike-run, Alike-script, Alike-joined, Alike-arms, Alike-exec}
@@ -39,9 +39,11 @@ module _ (limits : Limits) (i j : ℕ) (k l : List LoggedCommand) where
   first_alike known (Normal u) b g v does kept w (alike.same h) = subst (λ (x : Answer). Is (known_after known (v u)) (g u) (first_or_next x g)) (sym h.is) (does known u h.there h.abreast w)
   first_alike known (Normal u) b g v does kept w (alike.cut_here h) = absurd h
   first_alike known (Normal u) b g v does kept w (alike.beyond h) = alike.beyond (normal_later limits i j k l u g kept h)
-  first_alike known (Exit u) b g v does kept w (alike.same h) = subst (λ (x : Answer). Is (known_after known (v u)) (g u) (first_or_next x g)) (sym h.is) (does known u h.there h.abreast w)
+  first_alike known (Exit u) b g v does kept w (alike.same h) =
+      subst (λ (x : Answer). Is (known_after known (first_behind (Exit u) v)) (first_or_next (Exit u) g) (first_or_next x g)) (sym h.is)
+      (text_end_alike limits i j k l known (Exit u) (Exit h.there) g v does kept w (alike.same (record { there = h.there; is = refl; abreast = h.abreast })))
   first_alike known (Exit u) b g v does kept w (alike.cut_here h) = absurd h
-  first_alike known (Exit u) b g v does kept w (alike.beyond h) = alike.beyond (normal_later limits i j k l u g kept h)
+  first_alike known (Exit u) b g v does kept w (alike.beyond h) = alike.beyond (if_later limits i j k l u u.memory.status g Normal kept (Keeps-stays limits.device_bound) h)
   first_alike known (Ended ending u) b g v does kept w (alike.same h) = subst (λ (x : Answer). Is known (Ended ending u) (first_or_next x g)) (sym h.is) (ended_alike limits i j k l known ending u h.there h.abreast)
   first_alike known (Ended ending u) b g v does kept w (alike.cut_here h) = alike.cut_here h
   first_alike known (Ended ending u) b g v does kept w (alike.beyond h) = alike.beyond h

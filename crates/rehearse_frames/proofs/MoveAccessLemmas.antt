@@ -16,12 +16,12 @@ use Rattle.rehearse_terms.specs.State.{Text, get, State}
 use Rattle.rehearse_rules.specs.Parameters.{parameters_in}
 use Rattle.rehearse_rules.specs.ByShell.{unread, leaves_in, status_of_exit, asks_in, truth_in, fields_in, turns_in, skips_rest, status_of_loop, follows, assigned_in, reads_again}
 use Rattle.rehearse_rules.specs.Needs.{effect_now}
-use Rattle.rehearse_rules.specs.Execution.{Limits, Answer, Normal, Exit, Ended, Ending, CutDevices, CutSteps, Unknown, Size, Finished, Unsupported, Request, go_on, set_status, status_when, goes, holds, begin, finish, tell_or_take, told, told_again, logged, set_environment, device, text_end, run_all, command, simple, sized, assign, assign_local, turns, for_each, begin_turn, run_text, started_text, request_of, test_request}
+use Rattle.rehearse_rules.specs.Execution.{Limits, Answer, Normal, Exit, Ended, Ending, CutDevices, CutSteps, Unknown, Size, Finished, Unsupported, Request, go_on, set_status, status_when, goes, holds, begin, finish, tell_or_take, told, told_again, logged, set_environment, device, text_end, run_all, command, simple, sized, assign, assign_local, turns, for_each, begin_turn, run_text, started_text, request_of, test_request, text_failed}
 use Rattle.rehearse_rules.proofs.GrowingSteps.{Grew, AtLeast-track, Grew-block}
 use Rattle.rehearse_rules.proofs.TakenOutcomes.{KeepsAll, Keeps-script, Keeps-exec}
 use Rattle.rehearse_machine.specs.Frames.{Frame, Lists, Linked, IfCondition, LoopCondition, LoopBody, ForBody, RunNames, RunText, Next, Go, Ask, Stop, tell_or_ask, finish_next, leave, begin_assign, begin_for, begin_arms, begin_tree, begin_text, begin_names, begin_exit, fitting, ask, begin_called, begin_fields, counted, begin_command, answered, move}
 use Rattle.rehearse_machine.specs.Meaning.{with, full, script, one, joined_of, arms_of, again, resume, AreProperFrames}
-use Rattle.rehearse_machine.proofs.MoveMeaning.{turn_more}
+use Rattle.rehearse_machine.proofs.MoveMeaning.{failed_with_1, turn_more}
 use Rattle.rehearse_machine.proofs.StepBoundLemmas.{closed_exec}
 use Rattle.rehearse_machine.proofs.BoundLemmas.{Cut-block}
 use Rattle.rehearse_reads.specs.Keys.{Access, Reads, Writes, Environment, Status, all_read}
@@ -54,21 +54,34 @@ module _ (limits : Limits) (wanted : List Text) (w : OutcomeWord) where
   frames_ended (RunNames names ∷ fs) ending s = frames_ended fs ending s
   frames_ended (RunText names ∷ fs) ending s = frames_ended fs ending s
 
-  leave_so : (fs : List Frame) (s : State) → of_leaving fs ++ After (leave fs s) ≡ Rest fs (Exit (with w s))
+  if_so : (b : Bool) (xs ys : List Access) (x y : Next) (fs : List Frame) (zs ws : List Access) (u v : Answer) → xs ++ After x ≡ zs ++ Rest fs u → ys ++ After y ≡ ws ++ Rest fs v
+      → (elim b [ true ↦ xs | false ↦ ys ]) ++ After (elim b [ true ↦ x | false ↦ y ]) ≡ (elim b [ true ↦ zs | false ↦ ws ]) ++ Rest fs (elim b [ true ↦ u | false ↦ v ])
+  if_so true xs ys x y fs zs ws u v e k = e
+  if_so false xs ys x y fs zs ws u v e k = k
+
+  -- a `run` whose text has been left
+  left_so : (b : Bool) (names : List Text) (fs : List Frame) (s : State) → nat_eq s.memory.status 0 ≡ b
+      → (elim b [ true ↦ [] | false ↦ Reads Status ∷ [] ]) ++ After (elim b [ true ↦ Go (RunText names ∷ fs) s | false ↦ Go fs s ])
+      ≡ Reads Status ∷ ((elim b [ true ↦ of_names limits names (with w s) | false ↦ [] ]) ++ Rest fs (elim b [ true ↦ run_all limits (full limits) names (with w s) | false ↦ Normal (with w s) ]))
+  left_so true names fs s e =
+      ap (λ (x : Bool). Reads Status ∷ ((elim x [ true ↦ of_names limits names (with w s) | false ↦ [] ]) ++ Rest fs (elim x [ true ↦ run_all limits (full limits) names (with w s) | false ↦ Normal (text_failed limits.shell (with w s)) ]))) e
+  left_so false names fs s e = refl
+
+  names_left : (b : Bool) (names : List Text) (fs : List Frame) (s : State) → After (elim b [ true ↦ Go (RunNames names ∷ fs) s | false ↦ Go fs s ])
+      ≡ (elim b [ true ↦ of_names limits names (with w s) | false ↦ [] ]) ++ Rest fs (elim b [ true ↦ run_all limits (full limits) names (with w s) | false ↦ Normal (with w s) ])
+  names_left true names fs s = refl
+  names_left false names fs s = refl
+
+  leave_so : (fs : List Frame) (s : State) → of_leaving s.memory.status fs ++ After (leave fs s) ≡ Rest fs (Exit (with w s))
   leave_so [] s = refl
-  leave_so (RunNames names ∷ fs) s = refl
-  leave_so (RunText names ∷ fs) s = refl
+  leave_so (RunNames names ∷ fs) s = ap (λ (xs : List Access). Reads Status ∷ xs) (names_left (nat_eq s.memory.status 0) names fs s)
+  leave_so (RunText names ∷ fs) s = left_so (nat_eq s.memory.status 0) names fs s refl
   leave_so (Lists ls ∷ fs) s = leave_so fs s
   leave_so (Linked ls ∷ fs) s = leave_so fs s
   leave_so (IfCondition b arms ∷ fs) s = leave_so fs s
   leave_so (LoopCondition until c b last ∷ fs) s = leave_so fs s
   leave_so (LoopBody until c b ∷ fs) s = leave_so fs s
   leave_so (ForBody name fields body ∷ fs) s = leave_so fs s
-
-  if_so : (b : Bool) (xs ys : List Access) (x y : Next) (fs : List Frame) (zs ws : List Access) (u v : Answer) → xs ++ After x ≡ zs ++ Rest fs u → ys ++ After y ≡ ws ++ Rest fs v
-      → (elim b [ true ↦ xs | false ↦ ys ]) ++ After (elim b [ true ↦ x | false ↦ y ]) ≡ (elim b [ true ↦ zs | false ↦ ws ]) ++ Rest fs (elim b [ true ↦ u | false ↦ v ])
-  if_so true xs ys x y fs zs ws u v e k = e
-  if_so false xs ys x y fs zs ws u v e k = k
 
   stops_so : (fs : List Frame) (ending : Ending) (s : State) → names_read wanted ≡ Rest fs (Ended ending (with w s))
   stops_so fs ending s = sym (frames_ended fs ending (with w s))
@@ -89,11 +102,11 @@ module _ (limits : Limits) (wanted : List Text) (w : OutcomeWord) where
 
   -- a text that is run reads and writes what its script does
   closed_so : (a : Script) → IsProper a → (names : List Text) (fs : List Frame) (t : State)
-      → of_script limits a t ++ (behind_text (script limits a t) (of_names limits names) ++ Rest fs (text_end (script limits a t) (run_all limits (full limits) names)))
-      ≡ (of_full limits a t ++ behind_text (full limits a t) (of_names limits names)) ++ Rest fs (text_end (full limits a t) (run_all limits (full limits) names))
+      → of_script limits a t ++ (behind_text (script limits a t) (of_names limits names) ++ Rest fs (text_end limits.shell (script limits a t) (run_all limits (full limits) names)))
+      ≡ (of_full limits a t ++ behind_text (full limits a t) (of_names limits names)) ++ Rest fs (text_end limits.shell (full limits a t) (run_all limits (full limits) names))
   closed_so a p names fs t =
-      let rest : Answer → List Access = λ x. behind_text x (of_names limits names) ++ Rest fs (text_end x (run_all limits (full limits) names)) in
-      sym (append_assoc (of_full limits a t) (behind_text (full limits a t) (of_names limits names)) (Rest fs (text_end (full limits a t) (run_all limits (full limits) names)))
+      let rest : Answer → List Access = λ x. behind_text x (of_names limits names) ++ Rest fs (text_end limits.shell x (run_all limits (full limits) names)) in
+      sym (append_assoc (of_full limits a t) (behind_text (full limits a t) (of_names limits names)) (Rest fs (text_end limits.shell (full limits a t) (run_all limits (full limits) names)))
       ∙ ap (λ (xs : List Access). xs ++ rest (full limits a t)) (closed_accesses limits limits.step_bound a p t (omega arith))
       ∙ ap (λ (x : Answer). of_script limits a t ++ rest x) (closed_exec limits limits.step_bound a p t (omega arith)))
 
@@ -101,7 +114,7 @@ module _ (limits : Limits) (wanted : List Text) (w : OutcomeWord) where
       → of_beginning_tree o ++ After (begin_tree limits.shell o name names fs s)
       ≡ ((elim o [ None ↦ [] | Some a ↦ tree_accesses limits (full limits) (of_full limits) a (with w s) ])
       ++ behind_text (elim o [ None ↦ Ended (unread limits.shell name) (with w s) | Some a ↦ full limits a (elim a [ tree.Empty ↦ set_status 0 (with w s) | tree.Runs l ls ↦ with w s ]) ]) (of_names limits names))
-      ++ Rest fs (text_end (elim o [ None ↦ Ended (unread limits.shell name) (with w s) | Some a ↦ full limits a (elim a [ tree.Empty ↦ set_status 0 (with w s) | tree.Runs l ls ↦ with w s ]) ]) (run_all limits (full limits) names))
+      ++ Rest fs (text_end limits.shell (elim o [ None ↦ Ended (unread limits.shell name) (with w s) | Some a ↦ full limits a (elim a [ tree.Empty ↦ set_status 0 (with w s) | tree.Runs l ls ↦ with w s ]) ]) (run_all limits (full limits) names))
   tree_so None name names fs s p = stops_so fs (unread limits.shell name) s
   tree_so (Some tree.Empty) name names fs s p = ap (λ (xs : List Access). Writes Status ∷ xs) (closed_so tree.Empty tt names fs (set_status 0 (with w s)))
   tree_so (Some (tree.Runs l ls)) name names fs s p = closed_so (tree.Runs l ls) (p (tree.Runs l ls) refl) names fs (with w s)
@@ -110,14 +123,14 @@ module _ (limits : Limits) (wanted : List Text) (w : OutcomeWord) where
       → (elim b [ true ↦ Writes Status ∷ Reads Status ∷ [] | false ↦ of_beginning_tree (tree_in limits.shell v) ]) ++ After (elim b [ true ↦ Go fs (set_status 1 s) | false ↦ begin_tree limits.shell (tree_in limits.shell v) name names fs s ])
       ≡ ((elim b [ true ↦ status_written | false ↦ text_accesses limits (full limits) (of_full limits) v (with w s) ])
       ++ behind_text (elim b [ true ↦ Normal (set_status 1 (with w s)) | false ↦ run_text limits (full limits) name v (with w s) ]) (of_names limits names))
-      ++ Rest fs (text_end (elim b [ true ↦ Normal (set_status 1 (with w s)) | false ↦ run_text limits (full limits) name v (with w s) ]) (run_all limits (full limits) names))
-  started_so true v name names fs s = refl
+      ++ Rest fs (text_end limits.shell (elim b [ true ↦ Normal (set_status 1 (with w s)) | false ↦ run_text limits (full limits) name v (with w s) ]) (run_all limits (full limits) names))
+  started_so true v name names fs s = ap (λ (n : ℕ). Writes Status ∷ Reads Status ∷ Rest fs (Normal (set_status n (with w s)))) (sym (failed_with_1 limits.shell))
   started_so false v name names fs s = tree_so (tree_in limits.shell v) name names fs s (trees_in_are_proper limits.shell v)
 
   text_so : (o : Option Text) (name : Text) (names : List Text) (fs : List Frame) (s : State)
       → of_beginning_text limits.shell o ++ After (begin_text limits.shell o name names fs s)
       ≡ (elim o [ None ↦ status_written | Some v ↦ started_accesses limits (full limits) (of_full limits) v (with w s) ++ behind_text (started_text limits (full limits) name v (with w s)) (of_names limits names) ])
-      ++ Rest fs (elim o [ None ↦ Normal (set_status 1 (with w s)) | Some v ↦ text_end (started_text limits (full limits) name v (with w s)) (run_all limits (full limits) names) ])
+      ++ Rest fs (elim o [ None ↦ Normal (set_status 1 (with w s)) | Some v ↦ text_end limits.shell (started_text limits (full limits) name v (with w s)) (run_all limits (full limits) names) ])
   text_so None name names fs s = refl
   text_so (Some v) name names fs s = started_so (lacks_end_in limits.shell v) v name names fs s
 
@@ -323,7 +336,7 @@ module _ (limits : Limits) (wanted : List Text) (w : OutcomeWord) where
   move_so (RunNames names ∷ fs) p s = names_so names fs s
   move_so (RunText names ∷ fs) p s =
       ap (λ (xs : List Access). Reads Status ∷ xs)
-      (if_so (nat_eq s.memory.status 0) (of_beginning_names limits.shell names s) [] (begin_names limits.shell names fs s) (Go fs s) fs (of_names limits names (with w s)) [] (run_all limits (full limits) names (with w s)) (Normal (with w s)) (names_so names fs s) refl)
+      (if_so (nat_eq s.memory.status 0) (of_beginning_names limits.shell names s) [] (begin_names limits.shell names fs s) (Go fs (text_failed limits.shell s)) fs (of_names limits names (with w s)) [] (run_all limits (full limits) names (with w s)) (Normal (text_failed limits.shell (with w s))) (names_so names fs s) refl)
 
   -- an outcome is taken
   outcome_so : (outcome : Outcome) (request : Request) (fs : List Frame) (s : State) → of_next limits wanted (outcome ∷ w) (Ask request fs s) ≡ outcome_accesses outcome request ++ After (answered outcome request fs s)

@@ -74,9 +74,14 @@ unfolding begins
 loop_begins = refl
 
 -- `exit` in the text of a `run`, and in the text that is rehearsed, whose status is the run's
-exit_of_a_text : begins (codes "exit 3") (RunText [] ∷ []) before ≡ Writes Status ∷ []
+exit_of_a_text : begins (codes "exit 3") (RunText [] ∷ []) before ≡ Writes Status ∷ Reads Status ∷ []
 unfolding begins
 exit_of_a_text = refl
+
+-- with status 0 that `run` goes on, and reads the status itself
+exit_with_status_0 : begins (codes "exit") (RunText [] ∷ []) before ≡ Writes Status ∷ []
+unfolding begins
+exit_with_status_0 = refl
 
 exit_of_the_run : begins (codes "exit 3") [] before ≡ Writes Status ∷ Reads Status ∷ []
 unfolding begins

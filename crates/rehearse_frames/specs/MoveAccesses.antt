@@ -16,20 +16,21 @@ use Rattle.rehearse_machine.specs.Frames.{Frame, Lists, Linked, IfCondition, Loo
 use Rattle.rehearse_reads.specs.Keys.{Access, Reads, Writes, Environment, Status, all_read}
 use Rattle.rehearse_reads.specs.Accesses.{status_written, words_reads, setenv_accesses, computed_accesses, needs_reads, told_reads, outcome_accesses, sized_accesses, assign_accesses, turn_accesses, nothing_accesses, begun_accesses}
 
--- `exit` passes the frames up to the `run` of its text. With none it ends the run, whose status is read
-abbrev pub of_leaving : List Frame → List Access
-of_leaving [] = Reads Status ∷ []
-of_leaving (RunNames names ∷ fs) = []
-of_leaving (RunText names ∷ fs) = []
-of_leaving (Lists ls ∷ fs) = of_leaving fs
-of_leaving (Linked ls ∷ fs) = of_leaving fs
-of_leaving (IfCondition b arms ∷ fs) = of_leaving fs
-of_leaving (LoopCondition until c b last ∷ fs) = of_leaving fs
-of_leaving (LoopBody until c b ∷ fs) = of_leaving fs
-of_leaving (ForBody name fields body ∷ fs) = of_leaving fs
+-- `exit` passes the frames up to the `run` of its text, which ends with this status if it is not 0. With none it ends the run,
+-- whose status is read
+abbrev pub of_leaving : (status : ℕ) → List Frame → List Access
+of_leaving status [] = Reads Status ∷ []
+of_leaving status (RunNames names ∷ fs) = Reads Status ∷ []
+of_leaving status (RunText names ∷ fs) = elim (nat_eq status 0) [ true ↦ [] | false ↦ Reads Status ∷ [] ]
+of_leaving status (Lists ls ∷ fs) = of_leaving status fs
+of_leaving status (Linked ls ∷ fs) = of_leaving status fs
+of_leaving status (IfCondition b arms ∷ fs) = of_leaving status fs
+of_leaving status (LoopCondition until c b last ∷ fs) = of_leaving status fs
+of_leaving status (LoopBody until c b ∷ fs) = of_leaving status fs
+of_leaving status (ForBody name fields body ∷ fs) = of_leaving status fs
 
 abbrev pub of_exit : Option ℕ → List Frame → List Access
-of_exit (Some status) fs = Writes Status ∷ of_leaving fs
+of_exit (Some status) fs = Writes Status ∷ of_leaving status fs
 of_exit None fs = status_written
 
 -- a command that is told an answer goes on with it

@@ -16,7 +16,7 @@ names_read names = map (λ name. Reads (Environment name)) names
 -- a text that `run` started has ended, or none was started yet
 abbrev pub first_behind : Answer → (State → List Access) → List Access
 first_behind (Normal s) next = next s
-first_behind (Exit s) next = next s
+first_behind (Exit s) next = Reads Status ∷ elim (nat_eq s.memory.status 0) [ true ↦ next s | false ↦ [] ]
 first_behind (Ended ending s) next = []
 first_behind (Dry s) next = []
 

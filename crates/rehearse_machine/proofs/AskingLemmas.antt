@@ -15,7 +15,7 @@ use Rattle.rehearse_rules.specs.Parameters.{parameters_in}
 use Rattle.device_list.specs.Called.{Called, BuiltIn, NoCommand, Device, called_by, sets_in}
 use Rattle.commands.specs.BuiltInCommands.{ChangesVariables, WritesText, RunsTexts, Tests, Exits}
 use Rattle.rehearse_rules.specs.Needs.{effect_now}
-use Rattle.rehearse_rules.specs.Execution.{Limits, CutDevices, CutSteps, Size, set_status, set_local, status_when, goes, holds, Request, test_effect, told, told_again, logged, set_environment, Unsupported, assign_local, request_of, test_request}
+use Rattle.rehearse_rules.specs.Execution.{Limits, CutDevices, CutSteps, Size, set_status, set_local, status_when, goes, holds, Request, test_effect, told, told_again, logged, set_environment, Unsupported, assign_local, request_of, test_request, text_failed}
 use Rattle.rehearse_terms.specs.Outcomes.{Success}
 use Rattle.rehearse_machine.specs.Places.{PlaceNext, GoOn, AskOn, StopOn, list_at, joined_at, second, command_in, command_at, drop_arms, block_frame, behind, in_turn, left, to_run, place_exit, place_finish, place_tell_or_ask, place_assign, place_tree, place_text, place_name, run_move, for_turn, for_move, for_begins, place_arms, condition_ends, phase_move, place_fitting, place_ask, place_called, place_fields, place_counted, place_command, place_joined, place_begins, place_turn, place_list, place_by, place_move, place_skipped, moved_to, place}
 use Rattle.rehearse_machine.specs.AskingCommand.{words_of, fields_again, found_again, AsksAgain}
@@ -60,7 +60,7 @@ module _ (limits : Limits) where
 
   left_here : (ps qs : List RunningFrame) (s t : State) → AsksHere ps s (left qs t)
   left_here ps [] s t = tt
-  left_here ps (q ∷ qs) s t = tt
+  left_here ps (q ∷ qs) s t = either_here ps s (nat_eq t.memory.status 0) (GoOn (q ∷ qs) t) (GoOn qs t) tt tt
 
   exit_here : (ps : List RunningFrame) (s : State) (o : Option ℕ) (other : ℕ) → AsksHere ps s (place_exit o other ps s)
   exit_here ps s None other = tt
@@ -161,7 +161,7 @@ module _ (limits : Limits) where
   run_never f ps s =
       let named : PlaceNext = place_name limits.shell (slice_get f.words f.place.turn) f ps s in
       let h : NeverAsks named = name_never (slice_get f.words f.place.turn) f ps s in
-      either_never (nat_eq f.place.turn 0) named (elim (nat_eq s.memory.status 0) [ true ↦ named | false ↦ GoOn ps s ]) h (either_never (nat_eq s.memory.status 0) named (GoOn ps s) h tt)
+      either_never (nat_eq f.place.turn 0) named (elim (nat_eq s.memory.status 0) [ true ↦ named | false ↦ GoOn ps (text_failed limits.shell s) ]) h (either_never (nat_eq s.memory.status 0) named (GoOn ps (text_failed limits.shell s)) h tt)
 
   -- ---- a move
 

@@ -11,7 +11,7 @@ use Rattle.rehearse_rules.specs.Parameters.{parameters_in}
 use Rattle.device_list.specs.Called.{Called, BuiltIn, NoCommand, Device, called_by, sets_in}
 use Rattle.commands.specs.BuiltInCommands.{ChangesVariables, WritesText, RunsTexts, Tests, Exits}
 use Rattle.rehearse_rules.specs.Needs.{effect_now}
-use Rattle.rehearse_rules.specs.Execution.{Limits, Answer, Normal, Exit, Ended, Dry, Ending, CutDevices, CutSteps, Unknown, Size, go_on, set_status, set_local, status_when, goes, holds, begin, tell_or_take, told, told_again, logged, finish, set_environment, Finished, device, Request, test_effect, text_end, run_text, run_all, command, simple, sized, assign, turns, for_each, Unsupported, assign_local, request_of, test_request, started_text}
+use Rattle.rehearse_rules.specs.Execution.{Limits, Answer, Normal, Exit, Ended, Dry, Ending, CutDevices, CutSteps, Unknown, Size, go_on, set_status, set_local, status_when, goes, holds, begin, tell_or_take, told, told_again, logged, finish, set_environment, Finished, device, Request, test_effect, text_end, run_text, run_all, command, simple, sized, assign, turns, for_each, Unsupported, assign_local, request_of, test_request, started_text, text_failed}
 use Rattle.rehearse_machine.specs.Frames.{Frame, Lists, Linked, IfCondition, LoopCondition, LoopBody, ForBody, RunNames, RunText, Next, Go, Stop, tell_or_ask, finish_next, leave, begin_assign, begin_for, begin_arms, begin_tree, begin_text, begin_names, begin_exit, fitting, ask, begin_called, begin_fields, counted, begin_command, move}
 use Rattle.rehearse_machine.specs.Came.{Over, Wants}
 use Rattle.rehearse_machine.specs.Meaning.{with, full, script, one, joined_of, arms_of, again, resume, continue, comes_to, AreProperFrames}
@@ -20,8 +20,16 @@ use Rattle.rehearse_rules.proofs.TakenOutcomes.{KeepsAll, after_condition, Keeps
 use Rattle.hushlang_old.proofs.TreeByShellLemmas.{trees_in_are_proper}
 use Rattle.rehearse_machine.proofs.BoundLemmas.{Cut-block}
 use Rattle.rehearse_machine.proofs.StepBoundLemmas.{same_go_on, same_if, closed_exec, same_turns}
-use Rattle.rehearse_rules.specs.ByShell.{unread, reads_again, leaves_in, status_of_exit, asks_in, truth_in, fields_in, turns_in, skips_rest, status_of_loop, follows, assigned_in}
+use Rattle.rehearse_terms.specs.declared.shell.Shell.{Shell}
+use Rattle.rehearse_terms.specs.declared.shell.Shell.TheVariants.{Profile, Old2023, Old2025}
+use Rattle.rehearse_rules.specs.ByShell.{unread, reads_again, leaves_in, status_of_exit, status_of_text, asks_in, truth_in, fields_in, turns_in, skips_rest, status_of_loop, follows, assigned_in}
 use Rattle.rehearse_rules.proofs.TakenOutcomes.{skipped}
+
+-- the status 1 of a text that is not run is that of its `run`
+pub failed_with_1 : (shell : Shell) → status_of_text shell 1 ≡ 1
+failed_with_1 Profile = refl
+failed_with_1 Old2023 = refl
+failed_with_1 Old2025 = refl
 
 module _ (limits : Limits) where
   -- an ending, and a command that found no outcome, pass every frame
@@ -54,10 +62,19 @@ module _ (limits : Limits) where
   continue-dry (f ∷ fs) s = ap (continue limits fs) (resume-dry f s) ∙ continue-dry fs s
 
   module _ (w : OutcomeWord) where
+    if-is : (b : Bool) (x y : Next) (fs : List Frame) (u v : Answer) → comes_to limits w x ≡ continue limits fs u → comes_to limits w y ≡ continue limits fs v → comes_to limits w (elim b [ true ↦ x | false ↦ y ]) ≡ continue limits fs (elim b [ true ↦ u | false ↦ v ])
+    if-is true x y fs u v e k = e
+    if-is false x y fs u v e k = k
+
+    -- a `run` whose text has been left
+    left-is : (b : Bool) (names : List Text) (fs : List Frame) (s : State) → nat_eq s.memory.status 0 ≡ b → comes_to limits w (elim b [ true ↦ Go (RunText names ∷ fs) s | false ↦ Go fs s ]) ≡ continue limits fs (elim b [ true ↦ run_all limits (full limits) names (with w s) | false ↦ Normal (with w s) ])
+    left-is true names fs s e = ap (λ (x : Bool). continue limits fs (elim x [ true ↦ run_all limits (full limits) names (with w s) | false ↦ Normal (text_failed limits.shell (with w s)) ])) e
+    left-is false names fs s e = refl
+
     leave-is : (fs : List Frame) (s : State) → comes_to limits w (leave fs s) ≡ continue limits fs (Exit (with w s))
     leave-is [] s = refl
-    leave-is (RunNames names ∷ fs) s = refl
-    leave-is (RunText names ∷ fs) s = refl
+    leave-is (RunNames names ∷ fs) s = if-is (nat_eq s.memory.status 0) (Go (RunNames names ∷ fs) s) (Go fs s) fs (run_all limits (full limits) names (with w s)) (Normal (with w s)) refl refl
+    leave-is (RunText names ∷ fs) s = left-is (nat_eq s.memory.status 0) names fs s refl
     leave-is (Lists ls ∷ fs) s = leave-is fs s
     leave-is (Linked ls ∷ fs) s = leave-is fs s
     leave-is (IfCondition b arms ∷ fs) s = leave-is fs s
@@ -65,26 +82,22 @@ module _ (limits : Limits) where
     leave-is (LoopBody until c b ∷ fs) s = leave-is fs s
     leave-is (ForBody name fields body ∷ fs) s = leave-is fs s
 
-    if-is : (b : Bool) (x y : Next) (fs : List Frame) (u v : Answer) → comes_to limits w x ≡ continue limits fs u → comes_to limits w y ≡ continue limits fs v → comes_to limits w (elim b [ true ↦ x | false ↦ y ]) ≡ continue limits fs (elim b [ true ↦ u | false ↦ v ])
-    if-is true x y fs u v e k = e
-    if-is false x y fs u v e k = k
-
     assign-is : (pairs : List (Text × tree.Word)) (fs : List Frame) (s : State) → comes_to limits w (begin_assign limits.shell pairs fs s) ≡ continue limits fs (assign limits.shell pairs (with w s))
     assign-is [] fs s = refl
     assign-is (pair ∷ pairs) fs s =
         let value : Text = assigned_in limits.shell (parameters_in s.memory) pair.1 in
         if-is (nat_le (length value) most_bytes) (begin_assign limits.shell pairs fs (assign_local limits.shell pair.0 value s)) (Stop Size s) fs (assign limits.shell pairs (assign_local limits.shell pair.0 value (with w s))) (Ended Size (with w s)) (assign-is pairs fs (assign_local limits.shell pair.0 value s)) (sym (continue-ended fs Size (with w s)))
 
-    tree-is : (o : Option Script) (name : Text) (names : List Text) (fs : List Frame) (s : State) → ((t : Script) → o ≡ Some t → IsProper t) → comes_to limits w (begin_tree limits.shell o name names fs s) ≡ continue limits fs (text_end (elim o [ None ↦ Ended (unread limits.shell name) (with w s) | Some a ↦ full limits a (elim a [ tree.Empty ↦ set_status 0 (with w s) | tree.Runs l ls ↦ with w s ]) ]) (run_all limits (full limits) names))
+    tree-is : (o : Option Script) (name : Text) (names : List Text) (fs : List Frame) (s : State) → ((t : Script) → o ≡ Some t → IsProper t) → comes_to limits w (begin_tree limits.shell o name names fs s) ≡ continue limits fs (text_end limits.shell (elim o [ None ↦ Ended (unread limits.shell name) (with w s) | Some a ↦ full limits a (elim a [ tree.Empty ↦ set_status 0 (with w s) | tree.Runs l ls ↦ with w s ]) ]) (run_all limits (full limits) names))
     tree-is None name names fs s p = sym (continue-ended fs (unread limits.shell name) (with w s))
-    tree-is (Some tree.Empty) name names fs s p = ap (λ (a : Answer). continue limits fs (text_end a (run_all limits (full limits) names))) (sym (closed_exec limits limits.step_bound tree.Empty tt (set_status 0 (with w s)) (omega arith)))
-    tree-is (Some (tree.Runs l ls)) name names fs s p = ap (λ (a : Answer). continue limits fs (text_end a (run_all limits (full limits) names))) (sym (closed_exec limits limits.step_bound (tree.Runs l ls) (p (tree.Runs l ls) refl) (with w s) (omega arith)))
+    tree-is (Some tree.Empty) name names fs s p = ap (λ (a : Answer). continue limits fs (text_end limits.shell a (run_all limits (full limits) names))) (sym (closed_exec limits limits.step_bound tree.Empty tt (set_status 0 (with w s)) (omega arith)))
+    tree-is (Some (tree.Runs l ls)) name names fs s p = ap (λ (a : Answer). continue limits fs (text_end limits.shell a (run_all limits (full limits) names))) (sym (closed_exec limits limits.step_bound (tree.Runs l ls) (p (tree.Runs l ls) refl) (with w s) (omega arith)))
 
-    started-is : (b : Bool) (v name : Text) (names : List Text) (fs : List Frame) (s : State) → comes_to limits w (elim b [ true ↦ Go fs (set_status 1 s) | false ↦ begin_tree limits.shell (tree_in limits.shell v) name names fs s ]) ≡ continue limits fs (text_end (elim b [ true ↦ Normal (set_status 1 (with w s)) | false ↦ run_text limits (full limits) name v (with w s) ]) (run_all limits (full limits) names))
-    started-is true v name names fs s = refl
+    started-is : (b : Bool) (v name : Text) (names : List Text) (fs : List Frame) (s : State) → comes_to limits w (elim b [ true ↦ Go fs (set_status 1 s) | false ↦ begin_tree limits.shell (tree_in limits.shell v) name names fs s ]) ≡ continue limits fs (text_end limits.shell (elim b [ true ↦ Normal (set_status 1 (with w s)) | false ↦ run_text limits (full limits) name v (with w s) ]) (run_all limits (full limits) names))
+    started-is true v name names fs s = ap (λ (n : ℕ). continue limits fs (Normal (set_status n (with w s)))) (sym (failed_with_1 limits.shell))
     started-is false v name names fs s = tree-is (tree_in limits.shell v) name names fs s (trees_in_are_proper limits.shell v)
 
-    text-is : (o : Option Text) (name : Text) (names : List Text) (fs : List Frame) (s : State) → comes_to limits w (begin_text limits.shell o name names fs s) ≡ continue limits fs (elim o [ None ↦ Normal (set_status 1 (with w s)) | Some v ↦ text_end (started_text limits (full limits) name v (with w s)) (run_all limits (full limits) names) ])
+    text-is : (o : Option Text) (name : Text) (names : List Text) (fs : List Frame) (s : State) → comes_to limits w (begin_text limits.shell o name names fs s) ≡ continue limits fs (elim o [ None ↦ Normal (set_status 1 (with w s)) | Some v ↦ text_end limits.shell (started_text limits (full limits) name v (with w s)) (run_all limits (full limits) names) ])
     text-is None name names fs s = refl
     text-is (Some v) name names fs s = started-is (lacks_end_in limits.shell v) v name names fs s
 
@@ -179,4 +192,4 @@ module _ (limits : Limits) where
     move-is (ForBody name [] body ∷ fs) p s = refl
     move-is (ForBody name (f ∷ values) body ∷ fs) p s = refl
     move-is (RunNames names ∷ fs) p s = names-is names fs s
-    move-is (RunText names ∷ fs) p s = if-is (nat_eq s.memory.status 0) (begin_names limits.shell names fs s) (Go fs s) fs (run_all limits (full limits) names (with w s)) (Normal (with w s)) (names-is names fs s) refl
+    move-is (RunText names ∷ fs) p s = if-is (nat_eq s.memory.status 0) (begin_names limits.shell names fs s) (Go fs (text_failed limits.shell s)) fs (run_all limits (full limits) names (with w s)) (Normal (text_failed limits.shell (with w s))) (names-is names fs s) refl

@@ -19,9 +19,9 @@ use Rattle.rehearse_rules.specs.Parameters.{parameters_in}
 use Rattle.device_list.specs.Called.{Called, BuiltIn, NoCommand, Device, called_by, sets_in}
 use Rattle.commands.specs.BuiltInCommands.{ChangesVariables, WritesText, RunsTexts, Tests, Exits}
 use Rattle.rehearse_rules.specs.Needs.{effect_now}
-use Rattle.rehearse_rules.specs.Execution.{begin_turn, Limits, End, CutDevices, CutSteps, Size, set_status, set_local, status_when, goes, holds, Request, test_effect, outcome_when, told, told_again, logged, set_environment, Unsupported, assign_local, request_of, test_request}
-use Rattle.rehearse_machine.specs.Frames.{Frame, Lists, Linked, IfCondition, LoopCondition, LoopBody, ForBody, Next, Go, Stop, leave, finish_next, answered, tell_or_ask, begin_assign, begin_for, begin_arms, begun_text, begin_tree, begin_text, begin_names, begin_exit, fitting, ask, begin_called, begin_fields, counted, begin_command, move}
-use Rattle.rehearse_machine.specs.Places.{list_at, drop_lists, joined_at, drop_joined, second, command_in, command_at, drop_arms, place, from_command, condition_frame, phase, from_turn, script_frames, for_frame, run_frame, frames_by, frames_of, PlaceNext, GoOn, StopOn, next_of, moved_to, behind, in_turn, text_frame, block_frame, is_run, to_run, left, place_exit, place_finish, place_answered, place_tell_or_ask, place_assign, place_tree, place_text, place_name, run_move, for_turn, for_move, for_begins, place_arms, condition_ends, phase_move, place_fitting, place_ask, place_called, place_fields, place_counted, place_command, place_joined, place_skipped, place_begins, place_turn, place_list, place_by, place_move, place_skipped}
+use Rattle.rehearse_rules.specs.Execution.{begin_turn, Limits, End, CutDevices, CutSteps, Size, set_status, set_local, status_when, goes, holds, Request, test_effect, outcome_when, told, told_again, logged, set_environment, Unsupported, assign_local, request_of, test_request, text_failed}
+use Rattle.rehearse_machine.specs.Frames.{Frame, Lists, Linked, IfCondition, LoopCondition, LoopBody, ForBody, Next, Go, Stop, leave, finish_next, answered, tell_or_ask, begin_assign, begin_for, begin_arms, begun_text, begin_tree, begin_text, begin_names, begin_exit, fitting, ask, begin_called, begin_fields, counted, begin_command, move, leave_run}
+use Rattle.rehearse_machine.specs.Places.{list_at, drop_lists, joined_at, drop_joined, second, command_in, command_at, drop_arms, place, from_command, condition_frame, phase, from_turn, script_frames, for_frame, run_frame, frames_by, frames_of, PlaceNext, GoOn, StopOn, next_of, moved_to, behind, in_turn, text_frame, block_frame, is_run, to_run, left, place_exit, place_finish, place_answered, place_tell_or_ask, place_assign, place_tree, place_text, place_name, run_move, for_turn, for_move, for_begins, place_arms, condition_ends, phase_move, place_fitting, place_ask, place_called, place_fields, place_counted, place_command, place_joined, place_skipped, place_begins, place_turn, place_list, place_by, place_move, place_skipped, run_left}
 use Rattle.rehearse_machine.proofs.Beginnings.{chosen, passed}
 use Rattle.rehearse_terms.specs.declared.shell.Shell.{Shell}
 use Rattle.rehearse_rules.specs.ByShell.{reads_again, leaves_in, status_of_exit, asks_in, truth_in, fields_in, turns_in, skips_rest, status_of_no_block, status_of_loop, follows, assigned_in}
@@ -130,15 +130,17 @@ leave_for (Some (tree.If arms)) turn values rs s = refl
 leave_for (Some (tree.Loop until c b)) turn values rs s = refl
 leave_for (Some (tree.For name words body)) turn values rs s = refl
 
-leave_run : (turn : ℕ) (names : List Text) (rs : List Frame) (s : State) → leave (run_frame turn names ∷ rs) s ≡ Go (run_frame turn names ∷ rs) s
-leave_run zero names rs s = refl
-leave_run (suc k) names rs s = refl
+leave_names : (turn : ℕ) (names : List Text) (rs : List Frame) (s : State) → leave (run_frame turn names ∷ rs) s ≡ leave_run (run_frame turn names) rs s
+leave_names zero names rs s = refl
+leave_names (suc k) names rs s = refl
 
 leave_by : (k : FrameKind) (f : RunningFrame) (fs : List RunningFrame) (s : State) → f.kind ≡ k → next_of (left (to_run fs) s) ≡ leave (frames_of fs) s → next_of (left (elim (is_run k) [ true ↦ f ∷ fs | false ↦ to_run fs ]) s) ≡ leave (frames_by k f ++ frames_of fs) s
 leave_by kinds.Text f fs s e h = h ∙ sym (leave_script (list_at f.script f.place.list) f.place (drop_lists (suc f.place.list) f.script) (frames_of fs) s)
 leave_by kinds.Block f fs s e h = h ∙ sym (leave_script (list_at f.script f.place.list) f.place (drop_lists (suc f.place.list) f.script) (frames_of fs) s)
 leave_by kinds.For f fs s e h = h ∙ sym (leave_for (command_at (list_at f.script f.place.list) f.place.command) f.place.turn f.words (frames_of fs) s)
-leave_by kinds.Run f fs s e h = ap (λ (x : FrameKind). Go (frames_by x f ++ frames_of fs) s) e ∙ sym (leave_run f.place.turn f.words (frames_of fs) s)
+leave_by kinds.Run f fs s e h =
+    if_next (nat_eq s.memory.status 0) (GoOn (f ∷ fs) s) (GoOn fs s) (Go (run_frame f.place.turn f.words ∷ frames_of fs) s) (Go (frames_of fs) s) (ap (λ (x : FrameKind). Go (frames_by x f ++ frames_of fs) s) e) refl
+    ∙ sym (leave_names f.place.turn f.words (frames_of fs) s)
 
 leave-is : (fs : List RunningFrame) (s : State) → next_of (left (to_run fs) s) ≡ leave (frames_of fs) s
 leave-is [] s = refl
@@ -172,13 +174,13 @@ module _ (limits : Limits) (f : RunningFrame) (fs : List RunningFrame) (s : Stat
   named = place_name limits.shell (slice_get f.words f.place.turn) f fs s
 
   abbrev ended : PlaceNext
-  ended = elim (nat_eq s.memory.status 0) [ true ↦ named | false ↦ GoOn fs s ]
+  ended = elim (nat_eq s.memory.status 0) [ true ↦ named | false ↦ GoOn fs (text_failed limits.shell s) ]
 
   run-turn-is : (turn : ℕ) → f.place.turn ≡ turn → next_of (run_move limits.shell f fs s) ≡ move limits (run_frame turn f.words ∷ frames_of fs) s
   run-turn-is zero e = ap next_of (sym (chosen (nat_eq f.place.turn 0) named ended (ap (λ (x : ℕ). nat_eq x 0) e))) ∙ (name-is (slice_get f.words f.place.turn) refl ∙ ap (λ (x : ℕ). begin_names limits.shell (drop x f.words) (frames_of fs) s) e)
   run-turn-is (suc j) e =
       ap next_of (sym (passed (nat_eq f.place.turn 0) named ended (ap (λ (x : ℕ). nat_eq x 0) e ∙ eqb-suc-zero j)))
-      ∙ if_next (nat_eq s.memory.status 0) named (GoOn fs s) (begin_names limits.shell (drop (suc j) f.words) (frames_of fs) s) (Go (frames_of fs) s)
+      ∙ if_next (nat_eq s.memory.status 0) named (GoOn fs (text_failed limits.shell s)) (begin_names limits.shell (drop (suc j) f.words) (frames_of fs) s) (Go (frames_of fs) (text_failed limits.shell s))
       (name-is (slice_get f.words f.place.turn) refl ∙ ap (λ (x : ℕ). begin_names limits.shell (drop x f.words) (frames_of fs) s) e) refl
 
 module _ (f : RunningFrame) (fs : List RunningFrame) (s : State) (k : f.kind ≡ kinds.For) where
@@ -392,7 +394,7 @@ not_run kinds.Block h = refl
 not_run kinds.For h = refl
 not_run kinds.Run h = absurd (h refl)
 
-pub stops_at_run : (frames all : List RunningFrame) (f : RunningFrame) (s : State) → Some f ≡ slice_get frames 0 → f.kind ≡ kinds.Run → to_run frames ≡ to_run all → GoOn frames s ≡ left (to_run all) s
+pub stops_at_run : (frames all : List RunningFrame) (f : RunningFrame) (s : State) → Some f ≡ slice_get frames 0 → f.kind ≡ kinds.Run → to_run frames ≡ to_run all → run_left frames (without_first frames) s ≡ left (to_run all) s
 stops_at_run [] all f s e k t = absurd (let g = e in cc)
 stops_at_run (x ∷ xs) all f s e k t =
     let same : x ≡ f = (let g = e in cc) in

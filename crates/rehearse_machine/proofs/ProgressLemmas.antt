@@ -10,7 +10,7 @@ use Rattle.rehearse_rules.specs.Parameters.{parameters_in}
 use Rattle.device_list.specs.Called.{Called, BuiltIn, NoCommand, Device, called_by, sets_in}
 use Rattle.commands.specs.BuiltInCommands.{ChangesVariables, WritesText, RunsTexts, Tests, Exits}
 use Rattle.rehearse_rules.specs.Needs.{effect_now}
-use Rattle.rehearse_rules.specs.Execution.{Limits, CutDevices, CutSteps, Size, set_status, set_local, status_when, goes, holds, Request, test_effect, told, told_again, logged, set_environment, Unsupported, assign_local, request_of, test_request}
+use Rattle.rehearse_rules.specs.Execution.{Limits, CutDevices, CutSteps, Size, set_status, set_local, status_when, goes, holds, Request, test_effect, told, told_again, logged, set_environment, Unsupported, assign_local, request_of, test_request, text_failed}
 use Rattle.rehearse_terms.specs.Outcomes.{Success}
 use Rattle.rehearse_machine.specs.Frames.{Frame, Lists, Linked, IfCondition, LoopCondition, LoopBody, ForBody, RunNames, RunText, Next, Go, Ask, Stop, tell_or_ask, finish_next, leave, begin_assign, begin_for, begin_arms, begin_tree, begin_text, begin_names, begin_exit, fitting, ask, begin_called, begin_fields, begin_command, move}
 use Rattle.rehearse_machine.specs.MoveCounts.{command_depth, arms_depth, script_depth, block_weight, links_weight, arms_weight, tree_weight, text_weight, names_weight, weight}
@@ -42,8 +42,8 @@ module _ (limits : Limits) where
 
   leave-quiet : (fs : List Frame) (s : State) → IsQuiet s (leave fs s)
   leave-quiet [] s = refl
-  leave-quiet (RunNames names ∷ fs) s = refl
-  leave-quiet (RunText names ∷ fs) s = refl
+  leave-quiet (RunNames names ∷ fs) s = either-quiet s (nat_eq s.memory.status 0) (Go (RunNames names ∷ fs) s) (Go fs s) refl refl
+  leave-quiet (RunText names ∷ fs) s = either-quiet s (nat_eq s.memory.status 0) (Go (RunText names ∷ fs) s) (Go fs s) refl refl
   leave-quiet (Lists ls ∷ fs) s = leave-quiet fs s
   leave-quiet (Linked ls ∷ fs) s = leave-quiet fs s
   leave-quiet (IfCondition b arms ∷ fs) s = leave-quiet fs s
@@ -213,6 +213,6 @@ module _ (limits : Limits) where
   move_progress (RunText names ∷ fs) s p =
       let m = weight limits.shell s.memory.environment fs in
       let x = names_weight limits.shell s.memory.environment names m in
-      either_progress s (suc (x + m)) (nat_eq s.memory.status 0) (begin_names limits.shell names fs s) (Go fs s)
+      either_progress s (suc (x + m)) (nat_eq s.memory.status 0) (begin_names limits.shell names fs s) (Go fs (text_failed limits.shell s))
       (progress_more s (suc x) (suc (x + m)) (begin_names limits.shell names fs s) (omega arith) (names_progress names fs s))
       (inr (refl, refl, omega arith))

@@ -10,7 +10,7 @@ use Rattle.rehearse_rules.specs.Parameters.{parameters_in}
 use Rattle.device_list.specs.Called.{Called, BuiltIn, NoCommand, Device, called_by, sets_in}
 use Rattle.commands.specs.BuiltInCommands.{ChangesVariables, WritesText, RunsTexts, Tests, Exits}
 use Rattle.rehearse_rules.specs.Needs.{effect_now}
-use Rattle.rehearse_rules.specs.Execution.{Limits, CutDevices, CutSteps, Size, set_status, set_local, status_when, goes, holds, Request, test_effect, told, told_again, logged, set_environment, Unsupported, assign_local, request_of, test_request}
+use Rattle.rehearse_rules.specs.Execution.{Limits, CutDevices, CutSteps, Size, set_status, set_local, status_when, goes, holds, Request, test_effect, told, told_again, logged, set_environment, Unsupported, assign_local, request_of, test_request, text_failed}
 use Rattle.rehearse_terms.specs.Outcomes.{Success}
 use Rattle.rehearse_machine.specs.Frames.{Frame, Lists, Linked, IfCondition, LoopCondition, LoopBody, ForBody, RunNames, RunText, Next, Go, Stop, tell_or_ask, finish_next, leave, begin_assign, begin_for, begin_arms, begin_tree, begin_text, begin_names, begin_exit, fitting, ask, begin_called, begin_fields, begin_command, move}
 use Rattle.hushlang_old.proofs.TreeByShellLemmas.{trees_in_are_proper}
@@ -25,8 +25,8 @@ module _ (limits : Limits) where
 
   leave-proper : (fs : List Frame) (s : State) → AreProperFrames fs → IsProperNext (leave fs s)
   leave-proper [] s p = tt
-  leave-proper (RunNames names ∷ fs) s p = p
-  leave-proper (RunText names ∷ fs) s p = p
+  leave-proper (RunNames names ∷ fs) s p = either (nat_eq s.memory.status 0) (Go (RunNames names ∷ fs) s) (Go fs s) p p.1
+  leave-proper (RunText names ∷ fs) s p = either (nat_eq s.memory.status 0) (Go (RunText names ∷ fs) s) (Go fs s) p p.1
   leave-proper (Lists ls ∷ fs) s p = leave-proper fs s p.1
   leave-proper (Linked ls ∷ fs) s p = leave-proper fs s p.1
   leave-proper (IfCondition b arms ∷ fs) s p = leave-proper fs s p.1
@@ -115,4 +115,4 @@ module _ (limits : Limits) where
   move-proper (ForBody name [] body ∷ fs) s p = p.1
   move-proper (ForBody name (f ∷ values) body ∷ fs) s p = (p.0, p)
   move-proper (RunNames names ∷ fs) s p = names-proper names fs s p.1
-  move-proper (RunText names ∷ fs) s p = either (nat_eq s.memory.status 0) (begin_names limits.shell names fs s) (Go fs s) (names-proper names fs s p.1) p.1
+  move-proper (RunText names ∷ fs) s p = either (nat_eq s.memory.status 0) (begin_names limits.shell names fs s) (Go fs (text_failed limits.shell s)) (names-proper names fs s p.1) p.1

@@ -9,7 +9,7 @@ use Rattle.rehearse_terms.specs.declared.shell.Shell.{Shell}
 use Rattle.rehearse_rules.specs.Parameters.{parameters_in}
 use Rattle.device_list.specs.Called.{Called, BuiltIn, NoCommand, Device, called_by}
 use Rattle.commands.specs.BuiltInCommands.{ChangesVariables, WritesText, RunsTexts, Tests, Exits}
-use Rattle.rehearse_rules.specs.Execution.{begin_turn, Limits, Answer, Normal, Exit, Ended, Dry, CutSteps, Size, go_on, set_status, goes, holds, begin, text_end, run_text, run_all, command, simple, sized, turns, for_each, exec_script, exec_list, exec_joined, exec_command, exec_arms, exec, Unsupported, started_text}
+use Rattle.rehearse_rules.specs.Execution.{begin_turn, Limits, Answer, Normal, Exit, Ended, Dry, CutSteps, Size, go_on, set_status, goes, holds, begin, text_end, text_failed, run_text, run_all, command, simple, sized, turns, for_each, exec_script, exec_list, exec_joined, exec_command, exec_arms, exec, Unsupported, started_text}
 use Rattle.rehearse_rules.proofs.GrowingSteps.{AtLeast, Grew, AtLeast-track, Grew-block}
 use Rattle.rehearse_rules.proofs.TakenOutcomes.{KeepsAll, after_condition, Keeps-script, Keeps-list, Keeps-one, Keeps-exec, Keeps-started}
 use Rattle.hushlang_old.proofs.TreeByShellLemmas.{trees_in_are_proper}
@@ -34,17 +34,17 @@ abbrev pub tree_answer : Shell → (Script → State → Answer) → Option Scri
 tree_answer shell text o name t = elim o [ None ↦ Ended (unread shell name) t | Some a ↦ text a (elim a [ tree.Empty ↦ set_status 0 t | tree.Runs l ls ↦ t ]) ]
 
 abbrev named_answer : Limits → (Script → State → Answer) → Option Text → Text → (State → Answer) → State → Answer
-named_answer limits text o name f t = elim o [ None ↦ Normal (set_status 1 t) | Some v ↦ text_end (started_text limits text name v t) f ]
+named_answer limits text o name f t = elim o [ None ↦ Normal (set_status 1 t) | Some v ↦ text_end limits.shell (started_text limits text name v t) f ]
 
 pub same_if : (b : Bool) (x y u v : Answer) → x ≡ u → y ≡ v → pick b x y ≡ pick b u v
 same_if true x y u v e k = e
 same_if false x y u v e k = k
 
-same_text_end : (n : ℕ) (a b : Answer) (f g : State → Answer) → AtLeast n a → a ≡ b → ((t : State) → n ≤ t.steps → f t ≡ g t) → text_end a f ≡ text_end b g
-same_text_end n (Normal t) b f g l e h = rw (← e) (same_if (nat_eq t.memory.status 0) (f t) (Normal t) (g t) (Normal t) (h t l) refl)
-same_text_end n (Exit t) b f g l e h = rw (← e) (same_if (nat_eq t.memory.status 0) (f t) (Normal t) (g t) (Normal t) (h t l) refl)
-same_text_end n (Ended ending t) b f g l e h = rw (← e) refl
-same_text_end n (Dry t) b f g l e h = rw (← e) refl
+same_text_end : (shell : Shell) (n : ℕ) (a b : Answer) (f g : State → Answer) → AtLeast n a → a ≡ b → ((t : State) → n ≤ t.steps → f t ≡ g t) → text_end shell a f ≡ text_end shell b g
+same_text_end shell n (Normal t) b f g l e h = rw (← e) (same_if (nat_eq t.memory.status 0) (f t) (Normal (text_failed shell t)) (g t) (Normal (text_failed shell t)) (h t l) refl)
+same_text_end shell n (Exit t) b f g l e h = rw (← e) (same_if (nat_eq t.memory.status 0) (f t) (Normal t) (g t) (Normal t) (h t l) refl)
+same_text_end shell n (Ended ending t) b f g l e h = rw (← e) refl
+same_text_end shell n (Dry t) b f g l e h = rw (← e) refl
 
 module _ (limits : Limits) where
   module _ (n m : ℕ) (below : n ≤ m) (text text' : Script → State → Answer) (kept : (tree : Script) → KeepsAll limits (text tree)) (same : (tree : Script) → IsProper tree → (t : State) → limits.step_bound < n + t.steps → text tree t ≡ text' tree t) where
@@ -61,7 +61,7 @@ module _ (limits : Limits) where
 
     same_named : (o : Option Text) (name : Text) (f g : State → Answer) (t : State) → limits.step_bound < n + t.steps → ((u : State) → t.steps ≤ u.steps → f u ≡ g u) → named_answer limits text o name f t ≡ named_answer limits text' o name g t
     same_named None name f g t h k = refl
-    same_named (Some v) name f g t h k = same_text_end t.steps (started_text limits text name v t) (started_text limits text' name v t) f g (AtLeast-track limits.device_bound t (started_text limits text name v t) (Keeps-started limits text kept name v t).0) (same_started name v t h) k
+    same_named (Some v) name f g t h k = same_text_end limits.shell t.steps (started_text limits text name v t) (started_text limits text' name v t) f g (AtLeast-track limits.device_bound t (started_text limits text name v t) (Keeps-started limits text kept name v t).0) (same_started name v t h) k
 
     same_run : (names : List Text) (t : State) → limits.step_bound < n + t.steps → run_all limits text names t ≡ run_all limits text' names t
     same_run [] t h = refl

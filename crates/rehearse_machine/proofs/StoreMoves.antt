@@ -42,6 +42,11 @@ advanced_does old new f at t e =
 pub popped_does : (old new : Record) → new ≡ changed without_frame old → Does steps.Going old new (GoOn (under old.present))
 popped_does old new e = subst (λ (x : Record). Does steps.Going old x (GoOn (under old.present))) (sym e) (λ w. refl, keeps_change without_frame old refl)
 
+pub left_does : (old mid new : Record) (status : ℕ) → mid ≡ changed without_frame old → new ≡ changed (with_status status) mid → Does steps.Going old new (λ s. GoOn (under old.present) (set_status status s))
+left_does old mid new status e d =
+    subst (λ (x : Record). Does steps.Going old x (λ s. GoOn (under old.present) (set_status status s))) (sym (d ∙ ap (changed (with_status status)) e))
+    (λ w. refl, record { marked = refl; begun = omega arith })
+
 pub entered_does : (old mid new : Record) (f child : RunningFrame) (at : At) → IsTop f old.present → mid ≡ changed (with_place at) old → new ≡ changed (with_frame child) mid → Does steps.Going old new (GoOn (child ∷ moved_to at f ∷ under old.present))
 entered_does old mid new f child at t e d =
     subst (λ (x : Record). Does steps.Going old x (GoOn (child ∷ moved_to at f ∷ under old.present))) (sym (d ∙ ap (changed (with_frame child)) e))

@@ -16,7 +16,7 @@ with w s = record s { word = w }
 -- a text that `run` started has ended, or none was started yet; if the run has not ended, the next text follows
 abbrev pub first_or_next : Answer → (State → Answer) → Answer
 first_or_next (Normal s) next = next s
-first_or_next (Exit s) next = next s
+first_or_next (Exit s) next = elim (nat_eq s.memory.status 0) [ true ↦ next s | false ↦ Normal s ]
 first_or_next (Ended ending s) next = Ended ending s
 first_or_next (Dry s) next = Dry s
 
@@ -55,7 +55,7 @@ module _ (limits : Limits) where
   resume (LoopBody until c b) a = go_on a (again until c b)
   resume (ForBody name values body) a = go_on a (λ t. for_each limits.shell name (script body) t.memory.status values t)
   resume (RunNames names) a = first_or_next a (run_all limits full names)
-  resume (RunText names) a = text_end a (run_all limits full names)
+  resume (RunText names) a = text_end limits.shell a (run_all limits full names)
 
   -- what all the frames make of an answer
   abbrev pub continue : List Frame → Answer → Came

@@ -62,6 +62,11 @@ abbrev pub Comes : Result Step StoreError → Record → Record → (State → P
 Comes (Ok step) old new next = Does step old new next
 Comes (Err e) old new next = Unit {0}
 
+-- a part of a move, if memory did not run out
+abbrev pub Went : Result (Unit {0}) StoreError → Record → Record → (State → PlaceNext) → Type 0
+Went (Ok done) old new next = Does steps.Going old new next
+Went (Err e) old new next = Unit {0}
+
 -- a move of the innermost frame, f, that does this over the frames below it
 abbrev pub Moves : RunningFrame → Result Step StoreError → Record → Record → (List RunningFrame → State → PlaceNext) → Type 0
 Moves f result old new does = IsTop f old.present → Comes result old new (does (under old.present))

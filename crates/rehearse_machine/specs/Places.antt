@@ -18,7 +18,7 @@ use Rattle.rehearse_rules.specs.Parameters.{parameters_in}
 use Rattle.device_list.specs.Called.{Called, BuiltIn, NoCommand, Device, called_by, sets_in}
 use Rattle.commands.specs.BuiltInCommands.{ChangesVariables, WritesText, RunsTexts, Tests, Exits, variables_changed, text_written}
 use Rattle.rehearse_rules.specs.Needs.{effect_now}
-use Rattle.rehearse_rules.specs.Execution.{Limits, Ending, End, CutDevices, CutSteps, Unknown, Size, Finished, remember, set_status, set_local, begin_turn, status_when, goes, holds, Request, test_effect, outcome_when, told, told_again, logged, set_environment, Unsupported, assign_local, request_of, test_request}
+use Rattle.rehearse_rules.specs.Execution.{Limits, Ending, End, CutDevices, CutSteps, Unknown, Size, Finished, remember, set_status, set_local, begin_turn, status_when, goes, holds, Request, test_effect, outcome_when, told, told_again, logged, set_environment, Unsupported, assign_local, request_of, test_request, text_failed}
 use Rattle.rehearse_machine.specs.Frames.{Frame, Lists, Linked, IfCondition, LoopCondition, LoopBody, ForBody, RunNames, RunText, Next, Go, Ask, Stop, begun_text}
 
 -- ---- parts of a script by their numbers
@@ -160,9 +160,13 @@ abbrev pub to_run : List RunningFrame → List RunningFrame
 to_run [] = []
 to_run (f ∷ fs) = elim (is_run f.kind) [ true ↦ f ∷ fs | false ↦ to_run fs ]
 
+-- the innermost of these frames is a `run` whose text `exit` has ended, and the others are below it
+abbrev pub run_left : (run below : List RunningFrame) → State → PlaceNext
+run_left run below s = elim (nat_eq s.memory.status 0) [ true ↦ GoOn run s | false ↦ GoOn below s ]
+
 abbrev pub left : List RunningFrame → State → PlaceNext
 left [] s = StopOn (End s.memory.status) s
-left (f ∷ fs) s = GoOn (f ∷ fs) s
+left (f ∷ fs) s = run_left (f ∷ fs) fs s
 
 -- `exit` leaves the text that is running with a status, or has the other status
 abbrev pub place_exit : Option ℕ → (other : ℕ) → List RunningFrame → State → PlaceNext
@@ -216,7 +220,7 @@ run_move shell f fs s =
       | false ↦
           elim (nat_eq s.memory.status 0) [
             | true ↦ place_name shell (slice_get f.words f.place.turn) f fs s
-            | false ↦ GoOn fs s
+            | false ↦ GoOn fs (text_failed shell s)
           ]
     ]
 

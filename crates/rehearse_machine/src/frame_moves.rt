@@ -7,9 +7,9 @@ ghost use Rattle.rehearse_machine.specs.MovesShown.{Moves};
 ghost use Rattle.rehearse_machine.specs.NextMoves.{ContinuesAt, HasRoom};
 
 use crate::ask::Step;
-use crate::by_shell::unread;
+use crate::by_shell::{status_of_text, unread};
 use crate::for_turn::next_turn;
-use crate::frames::{enter, in_turn, leave, place, text};
+use crate::frames::{enter, in_turn, leave, leave_with, place, text};
 use crate::list_commands::command_of;
 use crate::lists::begin_in_list;
 use crate::next_move::Next;
@@ -83,7 +83,7 @@ pub(crate) fn move_for<'d, S: Store>(
 }
 
 /// Advances a `run` frame: starts the next name if it is the first, or if the previous text ended
-/// with status 0. Else the `run` has ended.
+/// with status 0. Else the `run` has ended, with the status that such a text gives it.
 pub(crate) fn move_run<'d, S: Store>(
     store: &mut S,
     frame: &Frame,
@@ -95,10 +95,11 @@ pub(crate) fn move_run<'d, S: Store>(
     if frame.at().turn == 0 {
         return next_name(store, frame, shell);
     }
-    if store.get_status() == 0 {
+    let status = store.get_status();
+    if status == 0 {
         return next_name(store, frame, shell);
     }
-    leave(store)
+    leave_with(store, status_of_text(shell, status))
 }
 
 /// Starts the text of the next name of a `run`, or ends the `run` if no name is left. A name that

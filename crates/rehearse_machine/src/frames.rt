@@ -99,6 +99,16 @@ pub(crate) fn go_on<'d, S: Store>(store: &mut S, at: At) -> Result<Step<'d>, Sto
     Ok(Step::Going)
 }
 
+/// Removes the innermost frame, which is done, and sets the status.
+pub(crate) fn leave_with<'d, S: Store>(store: &mut S, status: u8) -> Result<Step<'d>, StoreError>
+    ensures { Comes result (S.record_of store.old) (S.record_of store.new)
+        (λ s. GoOn (under (S.record_of store.old).present) (set_status status s)) }
+{
+    store.pop()?;
+    store.set_status(status)?;
+    Ok(Step::Going)
+}
+
 /// Removes the innermost frame, which is done.
 pub(crate) fn leave<'d, S: Store>(store: &mut S) -> Result<Step<'d>, StoreError>
     ensures { Comes result (S.record_of store.old) (S.record_of store.new)

@@ -8,10 +8,10 @@ use Rattle.text.specs.Words.{joined_words}
 use Rattle.rehearse_terms.specs.Outcomes.{OutcomeWord, Outcome}
 use Rattle.rehearse_terms.specs.State.{Text, State, get, with_value, without, LoggedCommand}
 use Rattle.rehearse_terms.specs.declared.shell.Shell.{Shell}
-use Rattle.rehearse_rules.specs.ByShell.{is_refused}
+use Rattle.rehearse_rules.specs.ByShell.{is_refused, status_of_text}
 use Rattle.rehearse_rules.specs.Needs.{has_succeeded}
 use Rattle.rehearse_rules.proofs.NeedsLemmas.{succeeded_on}
-use Rattle.rehearse_rules.specs.Execution.{Limits, Request, remember, set_status, set_local, assign_local, set_environment, logged, succeeds}
+use Rattle.rehearse_rules.specs.Execution.{Limits, Request, remember, set_status, set_local, assign_local, set_environment, logged, succeeds, text_failed}
 use Rattle.rehearse_reads.specs.Keys.{Key, Environment, Local, AnswerTo, Succeeded, Status, IsAmong, AgreeAt, Writes, ReadsWithin, known_after}
 use Rattle.rehearse_reads.specs.Accesses.{names_written, setenv_accesses, deletion_accesses, computed_accesses, local_accesses}
 use Rattle.rehearse_reads.specs.Alike.{HaveFurther, AreAbreast}
@@ -120,6 +120,12 @@ module _ (limits : Limits) (i j : ℕ) (k l : List LoggedCommand) where
   -- statuses that are equal
   pub near_statuses : (known : List Key) (s t : State) (n m : ℕ) → m ≡ n → Near known s t → Near (Status ∷ known) (set_status n s) (set_status m t)
   near_statuses known s t n m e near = subst (λ (x : ℕ). Near (Status ∷ known) (set_status n s) (set_status x t)) (sym e) (near_status known s t n near)
+
+  -- a text that has failed, with equal statuses
+  pub near_failed : (known : List Key) (s t : State) (shell : Shell) → t.memory.status ≡ s.memory.status → Near known s t → Near known (text_failed shell s) (text_failed shell t)
+  near_failed known s t shell e near =
+      let after : Near (Status ∷ known) (text_failed shell s) (text_failed shell t) = near_statuses known s t (status_of_text shell s.memory.status) (status_of_text shell t.memory.status) (ap (status_of_text shell) e) near in
+      record { keys = λ key h. after.keys key (inr h); word = after.word; steps = after.steps; logs = after.logs }
 
   pub near_local : (known : List Key) (s t : State) (name value : Text) → Near known s t → Near (Local name ∷ known) (set_local name value s) (set_local name value t)
   near_local known s t name value near = record {

@@ -2,12 +2,13 @@
 use Rattle.std.proofs.Common.{◌≡◌, refl, sym, ap, subst, ℕ, ◌+◌, ◌≤◌, Bool, true, false, List, [], ◌∷◌, ◌++◌, length, inl, inr, length-append, arith, nat_le, nat_eq}
 use Rattle.hushlang.specs.Expansion.{size, most_bytes}
 use Rattle.rehearse_terms.specs.State.{Text, State, LoggedCommand}
-use Rattle.rehearse_rules.specs.Execution.{Limits, Answer, Normal, Exit, Ended, Dry, Ending, Size, go_on, text_end, sized}
+use Rattle.rehearse_rules.specs.Execution.{Limits, Answer, Normal, Exit, Ended, Dry, Ending, Size, go_on, text_end, text_failed, sized}
 use Rattle.rehearse_rules.specs.Runs.{state_of}
-use Rattle.rehearse_rules.proofs.TakenOutcomes.{Track-of, KeepsAll, Keeps-if, Keeps-stays}
+use Rattle.rehearse_rules.proofs.TakenOutcomes.{Track-of, KeepsAll, Keeps-if, Keeps-stays, Keeps-failed}
 use Rattle.rehearse_reads.specs.Keys.{Key, Status, Access, Reads, all_read, ReadsWithin, known_after}
 use Rattle.rehearse_reads.specs.Accesses.{behind, behind_text, sized_accesses}
 use Rattle.rehearse_reads.specs.Alike.{devices_of, HaveFurther, AreAbreast, IsBeyond, IsAlike, same, cut_here, beyond}
+use Rattle.rehearse_reads.proofs.AbreastLemmas.{near_failed}
 use Rattle.rehearse_reads.proofs.AccessLemmas.{within_first, within_then, after_both, after_read}
 
 -- no answer needs less room for device commands than its log
@@ -63,10 +64,10 @@ module _ (limits : Limits) (i j : ℕ) (k l : List LoggedCommand) where
       let to = Track-of limits.device_bound u (g u) (kept u).0 in
       beyond_later (Normal u) (g u) to.steps (let e = to.log in omega arith) h
 
-  if_later : (u : State) (status : ℕ) (g : State → Answer) → KeepsAll limits g → IsBeyond limits i j k l (Normal u) → IsBeyond limits i j k l (elim (nat_eq status 0) [ true ↦ g u | false ↦ Normal u ])
-  if_later u status g kept h =
-      let f : State → Answer = λ t. elim (nat_eq status 0) [ true ↦ g t | false ↦ Normal t ] in
-      let keeps = Keeps-if limits.device_bound u (nat_eq status 0) g Normal (kept u) (Keeps-stays limits.device_bound u) in
+  pub if_later : (u : State) (status : ℕ) (g last : State → Answer) → KeepsAll limits g → KeepsAll limits last → IsBeyond limits i j k l (Normal u) → IsBeyond limits i j k l (elim (nat_eq status 0) [ true ↦ g u | false ↦ last u ])
+  if_later u status g last kept stays h =
+      let f : State → Answer = λ t. elim (nat_eq status 0) [ true ↦ g t | false ↦ last t ] in
+      let keeps = Keeps-if limits.device_bound u (nat_eq status 0) g last (kept u) (stays u) in
       let to = Track-of limits.device_bound u (f u) keeps.0 in
       beyond_later (Normal u) (f u) to.steps (let e = to.log in omega arith) h
 
@@ -109,30 +110,37 @@ module _ (limits : Limits) (i j : ℕ) (k l : List LoggedCommand) where
 
   -- ---- parts of scripts
 
-  -- a text has ended in these states
+  -- a text has ended by itself in these states
   ended_text : (known : List Key) (u t : State) (g : State → Answer) (v : State → List Access) → AlwaysDoes g v → Near known u t
       → ReadsWithin known (Reads Status ∷ elim (nat_eq u.memory.status 0) [ true ↦ v u | false ↦ [] ])
-      → Is (known_after known (elim (nat_eq u.memory.status 0) [ true ↦ v u | false ↦ [] ])) (elim (nat_eq u.memory.status 0) [ true ↦ g u | false ↦ Normal u ]) (elim (nat_eq t.memory.status 0) [ true ↦ g t | false ↦ Normal t ])
+      → Is (known_after known (elim (nat_eq u.memory.status 0) [ true ↦ v u | false ↦ [] ])) (elim (nat_eq u.memory.status 0) [ true ↦ g u | false ↦ Normal (text_failed limits.shell u) ]) (elim (nat_eq t.memory.status 0) [ true ↦ g t | false ↦ Normal (text_failed limits.shell t) ])
   ended_text known u t g v does near w =
+      if_alike known (nat_eq u.memory.status 0) (nat_eq t.memory.status 0) (ap (λ (n : ℕ). nat_eq n 0) (near.keys Status w.0)) (g u) (Normal (text_failed limits.shell u)) (g t) (Normal (text_failed limits.shell t)) (v u) [] (does known u t near) (λ h. normal_alike known (text_failed limits.shell u) (text_failed limits.shell t) (near_failed limits i j k l known u t limits.shell (near.keys Status w.0) near)) w.1
+
+  -- a text has been left in these states
+  left_text : (known : List Key) (u t : State) (g : State → Answer) (v : State → List Access) → AlwaysDoes g v → Near known u t
+      → ReadsWithin known (Reads Status ∷ elim (nat_eq u.memory.status 0) [ true ↦ v u | false ↦ [] ])
+      → Is (known_after known (elim (nat_eq u.memory.status 0) [ true ↦ v u | false ↦ [] ])) (elim (nat_eq u.memory.status 0) [ true ↦ g u | false ↦ Normal u ]) (elim (nat_eq t.memory.status 0) [ true ↦ g t | false ↦ Normal t ])
+  left_text known u t g v does near w =
       if_alike known (nat_eq u.memory.status 0) (nat_eq t.memory.status 0) (ap (λ (n : ℕ). nat_eq n 0) (near.keys Status w.0)) (g u) (Normal u) (g t) (Normal t) (v u) [] (does known u t near) (λ h. normal_alike known u t near) w.1
 
-  pub text_end_alike : (known : List Key) (a b : Answer) (g : State → Answer) (v : State → List Access) → AlwaysDoes g v → KeepsAll limits g → ReadsWithin known (behind_text a v) → Is known a b → Is (known_after known (behind_text a v)) (text_end a g) (text_end b g)
-  text_end_alike known (Normal u) b g v does kept w (same h) = subst (λ (x : Answer). Is (known_after known (behind_text (Normal u) v)) (text_end (Normal u) g) (text_end x g)) (sym h.is) (ended_text known u h.there g v does h.abreast w)
+  pub text_end_alike : (known : List Key) (a b : Answer) (g : State → Answer) (v : State → List Access) → AlwaysDoes g v → KeepsAll limits g → ReadsWithin known (behind_text a v) → Is known a b → Is (known_after known (behind_text a v)) (text_end limits.shell a g) (text_end limits.shell b g)
+  text_end_alike known (Normal u) b g v does kept w (same h) = subst (λ (x : Answer). Is (known_after known (behind_text (Normal u) v)) (text_end limits.shell (Normal u) g) (text_end limits.shell x g)) (sym h.is) (ended_text known u h.there g v does h.abreast w)
   text_end_alike known (Normal u) b g v does kept w (cut_here h) = absurd h
-  text_end_alike known (Normal u) b g v does kept w (beyond h) = beyond (if_later u u.memory.status g kept h)
-  text_end_alike known (Exit u) b g v does kept w (same h) = subst (λ (x : Answer). Is (known_after known (behind_text (Exit u) v)) (text_end (Exit u) g) (text_end x g)) (sym h.is) (ended_text known u h.there g v does h.abreast w)
+  text_end_alike known (Normal u) b g v does kept w (beyond h) = beyond (if_later u u.memory.status g (λ t. Normal (text_failed limits.shell t)) kept (Keeps-failed limits.device_bound limits.shell) h)
+  text_end_alike known (Exit u) b g v does kept w (same h) = subst (λ (x : Answer). Is (known_after known (behind_text (Exit u) v)) (text_end limits.shell (Exit u) g) (text_end limits.shell x g)) (sym h.is) (left_text known u h.there g v does h.abreast w)
   text_end_alike known (Exit u) b g v does kept w (cut_here h) = absurd h
-  text_end_alike known (Exit u) b g v does kept w (beyond h) = beyond (if_later u u.memory.status g kept h)
-  text_end_alike known (Ended ending u) b g v does kept w (same h) = subst (λ (x : Answer). Is known (Ended ending u) (text_end x g)) (sym h.is) (ended_alike known ending u h.there h.abreast)
+  text_end_alike known (Exit u) b g v does kept w (beyond h) = beyond (if_later u u.memory.status g Normal kept (Keeps-stays limits.device_bound) h)
+  text_end_alike known (Ended ending u) b g v does kept w (same h) = subst (λ (x : Answer). Is known (Ended ending u) (text_end limits.shell x g)) (sym h.is) (ended_alike known ending u h.there h.abreast)
   text_end_alike known (Ended ending u) b g v does kept w (cut_here h) = cut_here h
   text_end_alike known (Ended ending u) b g v does kept w (beyond h) = beyond h
-  text_end_alike known (Dry u) b g v does kept w (same h) = subst (λ (x : Answer). Is known (Dry u) (text_end x g)) (sym h.is) (dry_alike known u h.there h.abreast)
+  text_end_alike known (Dry u) b g v does kept w (same h) = subst (λ (x : Answer). Is known (Dry u) (text_end limits.shell x g)) (sym h.is) (dry_alike known u h.there h.abreast)
   text_end_alike known (Dry u) b g v does kept w (cut_here h) = absurd h
   text_end_alike known (Dry u) b g v does kept w (beyond h) = beyond h
 
-  pub Alike-text_end : (known : List Key) (s t : State) (f g : State → Answer) (u v : State → List Access) → Does known s t f u → AlwaysDoes g v → KeepsAll limits g → Does known s t (λ x. text_end (f x) g) (λ x. u x ++ behind_text (f x) v)
+  pub Alike-text_end : (known : List Key) (s t : State) (f g : State → Answer) (u v : State → List Access) → Does known s t f u → AlwaysDoes g v → KeepsAll limits g → Does known s t (λ x. text_end limits.shell (f x) g) (λ x. u x ++ behind_text (f x) v)
   Alike-text_end known s t f g u v h does kept near w =
-      after_then known (u s) (behind_text (f s) v) (text_end (f s) g) (text_end (f t) g)
+      after_then known (u s) (behind_text (f s) v) (text_end limits.shell (f s) g) (text_end limits.shell (f t) g)
       (text_end_alike (known_after known (u s)) (f s) (f t) g v does kept (within_then known (u s) (behind_text (f s) v) w) (h near (within_first known (u s) (behind_text (f s) v) w)))
 
   -- fields that are equal

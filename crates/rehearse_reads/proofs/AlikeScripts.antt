@@ -62,7 +62,7 @@ module _ (limits : Limits) (i j : ℕ) (k l : List LoggedCommand) where
     Alike-started name text = alike_if (lacks_end_in limits.shell text) (λ s. Normal (set_status 1 s)) (run_text limits script name text) (λ s. status_written) (text_accesses limits script of_script text) (status_alike 1) (Alike-text name text)
 
     Alike-named : (found : Option Text) (name : Text) (next : State → Answer) (u : State → List Access) → AlwaysDoes next u → KeepsAll limits next
-        → AlwaysDoes (λ s. elim found [ None ↦ Normal (set_status 1 s) | Some text ↦ text_end (started_text limits script name text s) next ])
+        → AlwaysDoes (λ s. elim found [ None ↦ Normal (set_status 1 s) | Some text ↦ text_end limits.shell (started_text limits script name text s) next ])
         (λ s. elim found [ None ↦ status_written | Some text ↦ started_accesses limits script of_script text s ++ behind_text (started_text limits script name text s) u ])
     Alike-named None name next u h m known s t near w = status_alike 1 known s t near w
     Alike-named (Some text) name next u h m known s t near w =
@@ -73,7 +73,7 @@ module _ (limits : Limits) (i j : ℕ) (k l : List LoggedCommand) where
     Alike-run (name ∷ names) known s t near w =
         let next : State → Answer = run_all limits script names in
         let here : List Key = known_after known (run_accesses limits script of_script (name ∷ names) s) in
-        subst (λ (o : Option Text). Is here (run_all limits script (name ∷ names) s) (elim o [ None ↦ Normal (set_status 1 t) | Some text ↦ text_end (started_text limits script name text t) next ])) (sym (near.keys (Environment name) w.0))
+        subst (λ (o : Option Text). Is here (run_all limits script (name ∷ names) s) (elim o [ None ↦ Normal (set_status 1 t) | Some text ↦ text_end limits.shell (started_text limits script name text t) next ])) (sym (near.keys (Environment name) w.0))
         (Alike-named (get s.memory.environment name) name next (run_accesses limits script of_script names) (Alike-run names) (Keeps-run limits script kept names) known s t near w.1)
 
     -- ---- a command

@@ -33,20 +33,24 @@ nothing_read = reads_alone (Status ∷ [])
 
 -- ---- a command reads and writes the same over any frames
 
-leaving_so : (fs : List Frame) → (of_leaving fs ≡ []) ⊎ (of_leaving fs ≡ Reads Status ∷ [])
-leaving_so [] = inr refl
-leaving_so (RunNames names ∷ fs) = inl refl
-leaving_so (RunText names ∷ fs) = inl refl
-leaving_so (Lists ls ∷ fs) = leaving_so fs
-leaving_so (Linked ls ∷ fs) = leaving_so fs
-leaving_so (IfCondition b arms ∷ fs) = leaving_so fs
-leaving_so (LoopCondition until c b last ∷ fs) = leaving_so fs
-leaving_so (LoopBody until c b ∷ fs) = leaving_so fs
-leaving_so (ForBody name fields body ∷ fs) = leaving_so fs
+leaving_so : (status : ℕ) (fs : List Frame) → (of_leaving status fs ≡ []) ⊎ (of_leaving status fs ≡ Reads Status ∷ [])
+leaving_so status [] = inr refl
+leaving_so status (RunNames names ∷ fs) = inr refl
+leaving_so status (RunText names ∷ fs) = by (nat_eq status 0)
+  where
+    by : (b : Bool) → (elim b [ true ↦ [] | false ↦ Reads Status ∷ [] ] ≡ []) ⊎ (elim b [ true ↦ [] | false ↦ Reads Status ∷ [] ] ≡ Reads Status ∷ [])
+    by true = inl refl
+    by false = inr refl
+leaving_so status (Lists ls ∷ fs) = leaving_so status fs
+leaving_so status (Linked ls ∷ fs) = leaving_so status fs
+leaving_so status (IfCondition b arms ∷ fs) = leaving_so status fs
+leaving_so status (LoopCondition until c b last ∷ fs) = leaving_so status fs
+leaving_so status (LoopBody until c b ∷ fs) = leaving_so status fs
+leaving_so status (ForBody name fields body ∷ fs) = leaving_so status fs
 
 exit_over : (o : Option ℕ) (fs : List Frame) → Covers (of_exit o []) (of_exit o fs)
 exit_over None fs = covers_itself status_written
-exit_over (Some status) fs = by (of_leaving fs) (leaving_so fs)
+exit_over (Some status) fs = by (of_leaving status fs) (leaving_so status fs)
   where
     by : (xs : List Access) → (xs ≡ []) ⊎ (xs ≡ Reads Status ∷ []) → Covers (Writes Status ∷ Reads Status ∷ []) (Writes Status ∷ xs)
     by xs (inl e) = subst (λ (ys : List Access). Covers (Writes Status ∷ Reads Status ∷ []) (Writes Status ∷ ys)) (sym e) (covers_itself status_written)

@@ -11,7 +11,7 @@ use Rattle.rehearse_rules.specs.Parameters.{parameters_in}
 use Rattle.device_list.specs.Called.{Called, BuiltIn, Device, NoCommand, called_by, sets_in}
 use Rattle.commands.specs.BuiltInCommands.{ChangesVariables, WritesText, RunsTexts, Tests, Exits}
 use Rattle.rehearse_rules.specs.ByShell.{unread, leaves_in, status_of_exit, asks_in, truth_in, fields_in, turns_in, skips_rest, status_of_loop, follows, assigned_in, reads_again}
-use Rattle.rehearse_rules.specs.Execution.{Limits, Answer, Normal, Exit, Ended, Dry, Ending, CutDevices, CutSteps, Size, go_on, set_status, status_when, goes, holds, begin, take_outcome, with_outcome, outcome_when, told, told_again, tell_or_take, device, Request, logged, set_environment, finish, text_end, run_text, run_all, command, simple, sized, assign, turns, begin_turn, for_each, exec_script, exec_list, exec_joined, exec_command, exec_arms, exec, Unsupported, assign_local, request_of, test_request, started_text}
+use Rattle.rehearse_rules.specs.Execution.{Limits, Answer, Normal, Exit, Ended, Dry, Ending, CutDevices, CutSteps, Size, go_on, set_status, status_when, goes, holds, begin, take_outcome, with_outcome, outcome_when, told, told_again, tell_or_take, device, Request, logged, set_environment, finish, text_end, run_text, run_all, command, simple, sized, assign, turns, begin_turn, for_each, exec_script, exec_list, exec_joined, exec_command, exec_arms, exec, Unsupported, assign_local, request_of, test_request, started_text, text_failed}
 use Rattle.rehearse_rules.specs.Needs.{effect_now}
 use Rattle.rehearse_rules.specs.Runs.{Task, run_on, state_of, steps}
 use Rattle.hushlang_old.proofs.TreeByShellLemmas.{trees_in_are_proper}
@@ -55,8 +55,8 @@ module _ (limits : Limits) where
   Ends-go_on s (Ended ending t) g k h j = h
   Ends-go_on s (Dry t) g k h j = h
 
-  Ends-text_end : (s : State) (a : Answer) (g : State → Answer) → Track limits.device_bound s a → Ends a → ((t : State) → IsWithin t → s.steps ≤ t.steps → Ends (g t)) → Ends (text_end a g)
-  Ends-text_end s (Normal t) g k h j = Ends-if (nat_eq t.memory.status 0) (g t) (Normal t) (λ e. j t h k.steps) (λ e. h)
+  Ends-text_end : (s : State) (a : Answer) (g : State → Answer) → Track limits.device_bound s a → Ends a → ((t : State) → IsWithin t → s.steps ≤ t.steps → Ends (g t)) → Ends (text_end limits.shell a g)
+  Ends-text_end s (Normal t) g k h j = Ends-if (nat_eq t.memory.status 0) (g t) (Normal (text_failed limits.shell t)) (λ e. j t h k.steps) (λ e. h)
   Ends-text_end s (Exit t) g k h j = Ends-if (nat_eq t.memory.status 0) (g t) (Normal t) (λ e. j t h k.steps) (λ e. h)
   Ends-text_end s (Ended ending t) g k h j = h
   Ends-text_end s (Dry t) g k h j = h
@@ -114,7 +114,7 @@ module _ (limits : Limits) where
     started-ends : (name v : Text) (t : State) → IsWithin t → limits.step_bound < n + t.steps → Ends (started_text limits script name v t)
     started-ends name v t h r = Ends-if (lacks_end_in limits.shell v) (Normal (set_status 1 t)) (run_text limits script name v t) (λ e. h) (λ e. text-ends name v t h r)
 
-    named-ends : (o : Option Text) (name : Text) (next : State → Answer) (t : State) → IsWithin t → limits.step_bound < n + t.steps → ((u : State) → IsWithin u → limits.step_bound < n + u.steps → Ends (next u)) → Ends (elim o [ None ↦ Normal (set_status 1 t) | Some v ↦ text_end (started_text limits script name v t) next ])
+    named-ends : (o : Option Text) (name : Text) (next : State → Answer) (t : State) → IsWithin t → limits.step_bound < n + t.steps → ((u : State) → IsWithin u → limits.step_bound < n + u.steps → Ends (next u)) → Ends (elim o [ None ↦ Normal (set_status 1 t) | Some v ↦ text_end limits.shell (started_text limits script name v t) next ])
     named-ends None name next t h r j = h
     named-ends (Some v) name next t h r j = Ends-text_end t (started_text limits script name v t) next (Keeps-started limits script kept name v t).0 (started-ends name v t h r) (λ u w l. j u w (omega arith))
 

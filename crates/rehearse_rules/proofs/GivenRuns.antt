@@ -42,7 +42,7 @@ module _ (bounds : Limits) (devices : Devices) (f g : Script → Does) (same : f
   run_all-same [] = refl
   run_all-same (name ∷ names) = λ i s. elim (get s.memory.environment name) [
     | None ↦ Normal (set_status 1 s)
-    | Some text ↦ text_end (started-same name text s i) (run_all-same names i)
+    | Some text ↦ text_end bounds.shell (started-same name text s i) (run_all-same names i)
   ]
 
 -- in each script, a command that is not built in does what is given

@@ -11,7 +11,7 @@ use Rattle.device_list.specs.DeviceList.{Effect, computed_by, effect_of}
 use Rattle.rehearse_rules.proofs.TakenOutcomes.{skipped}
 use Rattle.rehearse_terms.specs.declared.shell.Shell.{Shell}
 use Rattle.rehearse_rules.specs.ByShell.{unread, reads_again, leaves_in, status_of_exit, asks_in, question_in, truth_in, fields_in, turns_in, skips_rest, status_of_loop, follows, assigned_in}
-use Rattle.rehearse_rules.specs.Execution.{Limits, Answer, Normal, Exit, Ended, Dry, CutSteps, Size, Request, go_on, set_status, status_when, goes, holds, begin, device, test_effect, text_end, run_text, run_all, command, simple, sized, assign, turns, begin_turn, for_each, exec_script, exec_list, exec_joined, exec_command, exec_arms, exec, Unsupported, assign_local, request_of, test_request, started_text}
+use Rattle.rehearse_rules.specs.Execution.{Limits, Answer, Normal, Exit, Ended, Dry, CutSteps, Size, Request, go_on, set_status, status_when, goes, holds, begin, device, test_effect, text_end, run_text, run_all, command, simple, sized, assign, turns, begin_turn, for_each, exec_script, exec_list, exec_joined, exec_command, exec_arms, exec, Unsupported, assign_local, request_of, test_request, started_text, text_failed}
 use Rattle.rehearse_rules.specs.Needs.{effect_now}
 use Rattle.rehearse_rules.specs.Runs.{state_of}
 use Rattle.rehearse_terms.specs.State.{Text, get, LoggedCommand, State}
@@ -37,11 +37,11 @@ module _ (P : List LoggedCommand → Type 0) where
   keeps-go_on (Ended ending t) g h k = h
   keeps-go_on (Dry t) g h k = h
 
-  keeps-text_end : (a : Answer) (g : State → Answer) → Holds (state_of a) → KeepsLog g → Holds (state_of (text_end a g))
-  keeps-text_end (Normal t) g h k = keeps-if (nat_eq t.memory.status 0) (g t) (Normal t) (k t h) h
-  keeps-text_end (Exit t) g h k = keeps-if (nat_eq t.memory.status 0) (g t) (Normal t) (k t h) h
-  keeps-text_end (Ended ending t) g h k = h
-  keeps-text_end (Dry t) g h k = h
+  keeps-text_end : (shell : Shell) (a : Answer) (g : State → Answer) → Holds (state_of a) → KeepsLog g → Holds (state_of (text_end shell a g))
+  keeps-text_end shell (Normal t) g h k = keeps-if (nat_eq t.memory.status 0) (g t) (Normal (text_failed shell t)) (k t h) h
+  keeps-text_end shell (Exit t) g h k = keeps-if (nat_eq t.memory.status 0) (g t) (Normal t) (k t h) h
+  keeps-text_end shell (Ended ending t) g h k = h
+  keeps-text_end shell (Dry t) g h k = h
 
   keeps-sized : (fs : List Text) (f : List Text → State → Answer) → ((gs : List Text) → KeepsLog (f gs)) → KeepsLog (sized fs f)
   keeps-sized fs f h s k = keeps-if (nat_le (size fs) most_bytes) (f fs s) (Ended Size s) (h fs s k) k
@@ -97,9 +97,9 @@ module _ (P : List LoggedCommand → Type 0) where
       keeps-started : (name text : Text) → KeepsLog (started_text limits script name text)
       keeps-started name text s h = keeps-if (lacks_end_in limits.shell text) (Normal (set_status 1 s)) (run_text limits script name text s) h (keeps-text name text s h)
 
-      keeps-named : (text : Option Text) (name : Text) (next : State → Answer) (s : State) → KeepsLog next → Holds s → Holds (state_of (elim text [ None ↦ Normal (set_status 1 s) | Some v ↦ text_end (started_text limits script name v s) next ]))
+      keeps-named : (text : Option Text) (name : Text) (next : State → Answer) (s : State) → KeepsLog next → Holds s → Holds (state_of (elim text [ None ↦ Normal (set_status 1 s) | Some v ↦ text_end limits.shell (started_text limits script name v s) next ]))
       keeps-named None name next s k h = h
-      keeps-named (Some v) name next s k h = keeps-text_end (started_text limits script name v s) next (keeps-started name v s h) k
+      keeps-named (Some v) name next s k h = keeps-text_end limits.shell (started_text limits script name v s) next (keeps-started name v s h) k
 
       keeps-run : (names : List Text) → KeepsLog (run_all limits script names)
       keeps-run [] s h = h

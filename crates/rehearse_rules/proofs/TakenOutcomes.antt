@@ -12,9 +12,10 @@ use Rattle.hushlang.specs.Expansion.{size, most_bytes}
 use Rattle.hushlang_old.specs.TreesByShell.{tree_in, lacks_end_in}
 use Rattle.device_list.specs.Called.{Called, BuiltIn, Device, NoCommand, called_by, sets_in}
 use Rattle.commands.specs.BuiltInCommands.{ChangesVariables, WritesText, RunsTexts, Tests, Exits, variables_changed, text_written}
-use Rattle.rehearse_rules.specs.ByShell.{unread, leaves_in, status_of_exit, asks_in, truth_in, fields_in, turns_in, skips_rest, status_of_nothing, status_of_no_block, status_of_loop, follows, assigned_in, reads_again}
-use Rattle.rehearse_rules.specs.Execution.{Limits, Answer, Normal, Exit, Ended, Dry, Ending, CutDevices, CutSteps, Unknown, Size, go_on, remember, set_status, status_when, goes, holds, begin, take_outcome, with_outcome, outcome_when, told, told_again, tell_or_take, device, Request, logged, set_environment, finish, text_end, run_text, run_all, command, simple, sized, assign, turns, begin_turn, for_each, exec_script, exec_list, exec_joined, exec_command, exec_arms, exec, succeeds, Unsupported, assign_local, request_of, test_request, started_text}
+use Rattle.rehearse_rules.specs.ByShell.{unread, leaves_in, status_of_exit, asks_in, truth_in, fields_in, turns_in, skips_rest, status_of_nothing, status_of_no_block, status_of_loop, follows, assigned_in, reads_again, status_of_text}
+use Rattle.rehearse_rules.specs.Execution.{Limits, Answer, Normal, Exit, Ended, Dry, Ending, CutDevices, CutSteps, Unknown, Size, go_on, remember, set_status, status_when, goes, holds, begin, take_outcome, with_outcome, outcome_when, told, told_again, tell_or_take, device, Request, logged, set_environment, finish, text_end, run_text, run_all, command, simple, sized, assign, turns, begin_turn, for_each, exec_script, exec_list, exec_joined, exec_command, exec_arms, exec, succeeds, Unsupported, assign_local, request_of, test_request, started_text, text_failed}
 use Rattle.rehearse_rules.specs.Needs.{effect_now}
+use Rattle.rehearse_terms.specs.declared.shell.Shell.{Shell}
 use Rattle.rehearse_rules.specs.Runs.{state_of}
 
 -- the state with these outcomes after its own
@@ -147,36 +148,39 @@ module _ (bound : ℕ) where
   Keeps-counted s f h = (Track-after bound s (record s { steps = suc s.steps }) (f (record s { steps = suc s.steps })) (counts s) h.0, h.1)
 
   -- a text that ended
-  text_end-track : (s : State) (a : Answer) (g : State → Answer) → Track bound s a → ((t : State) → Keeps bound t g) → Track bound s (text_end a g)
-  text_end-track s (Normal t) g h k = Track-after bound s t (elim (nat_eq t.memory.status 0) [ true ↦ g t | false ↦ Normal t ]) h (Keeps-if t (nat_eq t.memory.status 0) g Normal (k t) (Keeps-stays t)).0
-  text_end-track s (Exit t) g h k = Track-after bound s t (elim (nat_eq t.memory.status 0) [ true ↦ g t | false ↦ Normal t ]) h (Keeps-if t (nat_eq t.memory.status 0) g Normal (k t) (Keeps-stays t)).0
-  text_end-track s (Ended ending t) g h k = h
-  text_end-track s (Dry t) g h k = h
+  pub Keeps-failed : (shell : Shell) (t : State) → Keeps bound t (λ u. Normal (text_failed shell u))
+  Keeps-failed shell t = Keeps-normal t (λ m. record m { status = status_of_text shell m.status })
 
-  text_end-less : (x : OutcomeWord) (b : Answer) (g : State → Answer) → ((t : State) → Keeps bound t g) → length (state_of b).word < length x → length (state_of (text_end b g)).word < length x
-  text_end-less x (Normal t) g k h = let e = Keeps-if t (nat_eq t.memory.status 0) g Normal (k t) (Keeps-stays t) in let a : Answer = elim (nat_eq t.memory.status 0) [ true ↦ g t | false ↦ Normal t ] in let n = no_more t (state_of a) (Track-of bound t a e.0) in omega arith
-  text_end-less x (Exit t) g k h = let e = Keeps-if t (nat_eq t.memory.status 0) g Normal (k t) (Keeps-stays t) in let a : Answer = elim (nat_eq t.memory.status 0) [ true ↦ g t | false ↦ Normal t ] in let n = no_more t (state_of a) (Track-of bound t a e.0) in omega arith
-  text_end-less x (Ended ending t) g k h = h
-  text_end-less x (Dry t) g k h = h
+  text_end-track : (shell : Shell) (s : State) (a : Answer) (g : State → Answer) → Track bound s a → ((t : State) → Keeps bound t g) → Track bound s (text_end shell a g)
+  text_end-track shell s (Normal t) g h k = Track-after bound s t (elim (nat_eq t.memory.status 0) [ true ↦ g t | false ↦ Normal (text_failed shell t) ]) h (Keeps-if t (nat_eq t.memory.status 0) g (λ u. Normal (text_failed shell u)) (k t) (Keeps-failed shell t)).0
+  text_end-track shell s (Exit t) g h k = Track-after bound s t (elim (nat_eq t.memory.status 0) [ true ↦ g t | false ↦ Normal t ]) h (Keeps-if t (nat_eq t.memory.status 0) g Normal (k t) (Keeps-stays t)).0
+  text_end-track shell s (Ended ending t) g h k = h
+  text_end-track shell s (Dry t) g h k = h
 
-  text_end-later : (n : ℕ) (b : Answer) (g : State → Answer) → ((t : State) → Keeps bound t g) → n ≤ (state_of b).steps → n ≤ (state_of (text_end b g)).steps
-  text_end-later n (Normal t) g k h = let e = Keeps-if t (nat_eq t.memory.status 0) g Normal (k t) (Keeps-stays t) in let a : Answer = elim (nat_eq t.memory.status 0) [ true ↦ g t | false ↦ Normal t ] in let l = (Track-of bound t a e.0).steps in omega arith
-  text_end-later n (Exit t) g k h = let e = Keeps-if t (nat_eq t.memory.status 0) g Normal (k t) (Keeps-stays t) in let a : Answer = elim (nat_eq t.memory.status 0) [ true ↦ g t | false ↦ Normal t ] in let l = (Track-of bound t a e.0).steps in omega arith
-  text_end-later n (Ended ending t) g k h = h
-  text_end-later n (Dry t) g k h = h
+  text_end-less : (shell : Shell) (x : OutcomeWord) (b : Answer) (g : State → Answer) → ((t : State) → Keeps bound t g) → length (state_of b).word < length x → length (state_of (text_end shell b g)).word < length x
+  text_end-less shell x (Normal t) g k h = let e = Keeps-if t (nat_eq t.memory.status 0) g (λ u. Normal (text_failed shell u)) (k t) (Keeps-failed shell t) in let a : Answer = elim (nat_eq t.memory.status 0) [ true ↦ g t | false ↦ Normal (text_failed shell t) ] in let n = no_more t (state_of a) (Track-of bound t a e.0) in omega arith
+  text_end-less shell x (Exit t) g k h = let e = Keeps-if t (nat_eq t.memory.status 0) g Normal (k t) (Keeps-stays t) in let a : Answer = elim (nat_eq t.memory.status 0) [ true ↦ g t | false ↦ Normal t ] in let n = no_more t (state_of a) (Track-of bound t a e.0) in omega arith
+  text_end-less shell x (Ended ending t) g k h = h
+  text_end-less shell x (Dry t) g k h = h
 
-  text_end-extends : (x : OutcomeWord) (a b : Answer) (g : State → Answer) → ((t : State) → Keeps bound t g) → Extends x a b → Extends x (text_end a g) (text_end b g)
-  text_end-extends x (Normal t) b g k h = rw h ((Keeps-if t (nat_eq t.memory.status 0) g Normal (k t) (Keeps-stays t)).1 x)
-  text_end-extends x (Exit t) b g k h = rw h ((Keeps-if t (nat_eq t.memory.status 0) g Normal (k t) (Keeps-stays t)).1 x)
-  text_end-extends x (Ended ending t) b g k h = rw h refl
-  text_end-extends x (Dry t) b g k h = (λ ne. text_end-less x b g k (h.0 ne), text_end-later t.steps b g k h.1)
+  text_end-later : (shell : Shell) (n : ℕ) (b : Answer) (g : State → Answer) → ((t : State) → Keeps bound t g) → n ≤ (state_of b).steps → n ≤ (state_of (text_end shell b g)).steps
+  text_end-later shell n (Normal t) g k h = let e = Keeps-if t (nat_eq t.memory.status 0) g (λ u. Normal (text_failed shell u)) (k t) (Keeps-failed shell t) in let a : Answer = elim (nat_eq t.memory.status 0) [ true ↦ g t | false ↦ Normal (text_failed shell t) ] in let l = (Track-of bound t a e.0).steps in omega arith
+  text_end-later shell n (Exit t) g k h = let e = Keeps-if t (nat_eq t.memory.status 0) g Normal (k t) (Keeps-stays t) in let a : Answer = elim (nat_eq t.memory.status 0) [ true ↦ g t | false ↦ Normal t ] in let l = (Track-of bound t a e.0).steps in omega arith
+  text_end-later shell n (Ended ending t) g k h = h
+  text_end-later shell n (Dry t) g k h = h
+
+  text_end-extends : (shell : Shell) (x : OutcomeWord) (a b : Answer) (g : State → Answer) → ((t : State) → Keeps bound t g) → Extends x a b → Extends x (text_end shell a g) (text_end shell b g)
+  text_end-extends shell x (Normal t) b g k h = rw h ((Keeps-if t (nat_eq t.memory.status 0) g (λ u. Normal (text_failed shell u)) (k t) (Keeps-failed shell t)).1 x)
+  text_end-extends shell x (Exit t) b g k h = rw h ((Keeps-if t (nat_eq t.memory.status 0) g Normal (k t) (Keeps-stays t)).1 x)
+  text_end-extends shell x (Ended ending t) b g k h = rw h refl
+  text_end-extends shell x (Dry t) b g k h = (λ ne. text_end-less shell x b g k (h.0 ne), text_end-later shell t.steps b g k h.1)
 
 module _ (limits : Limits) where
   abbrev pub KeepsAll : (State → Answer) → Type 0
   KeepsAll f = (s : State) → Keeps limits.device_bound s f
 
-  pub Keeps-text_end : (s : State) (f g : State → Answer) → Keeps limits.device_bound s f → KeepsAll g → Keeps limits.device_bound s (λ t. text_end (f t) g)
-  Keeps-text_end s f g h k = (text_end-track limits.device_bound s (f s) g h.0 k, λ x. text_end-extends limits.device_bound x (f s) (f (more x s)) g k (h.1 x))
+  pub Keeps-text_end : (s : State) (f g : State → Answer) → Keeps limits.device_bound s f → KeepsAll g → Keeps limits.device_bound s (λ t. text_end limits.shell (f t) g)
+  Keeps-text_end s f g h k = (text_end-track limits.device_bound limits.shell s (f s) g h.0 k, λ x. text_end-extends limits.device_bound limits.shell x (f s) (f (more x s)) g k (h.1 x))
 
   pub Keeps-begin : (f : State → Answer) → KeepsAll f → KeepsAll (begin limits f)
   Keeps-begin f h s = Keeps-if limits.device_bound s (nat_lt s.steps limits.step_bound) (λ t. f (record t { steps = suc t.steps })) (Ended CutSteps) (Keeps-counted limits.device_bound s f (h (record s { steps = suc s.steps }))) (Keeps-ended limits.device_bound s CutSteps)
@@ -272,7 +276,7 @@ module _ (limits : Limits) where
     pub Keeps-started : (name text : Text) → KeepsAll (started_text limits script name text)
     Keeps-started name text s = Keeps-if limits.device_bound s (lacks_end_in limits.shell text) (λ t. Normal (set_status 1 t)) (run_text limits script name text) (Keeps-normal limits.device_bound s (λ m. record m { status = 1 })) (Keeps-text name text s)
 
-    pub Keeps-named : (text : Option Text) (name : Text) (next : State → Answer) (s : State) → KeepsAll next → Keeps limits.device_bound s (λ t. elim text [ None ↦ Normal (set_status 1 t) | Some v ↦ text_end (started_text limits script name v t) next ])
+    pub Keeps-named : (text : Option Text) (name : Text) (next : State → Answer) (s : State) → KeepsAll next → Keeps limits.device_bound s (λ t. elim text [ None ↦ Normal (set_status 1 t) | Some v ↦ text_end limits.shell (started_text limits script name v t) next ])
     Keeps-named None name next s h = Keeps-normal limits.device_bound s (λ m. record m { status = 1 })
     Keeps-named (Some v) name next s h = Keeps-text_end s (started_text limits script name v) next (Keeps-started name v s) h
 

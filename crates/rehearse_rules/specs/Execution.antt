@@ -14,7 +14,7 @@ use Rattle.rehearse_terms.specs.declared.shell.Shell.{Shell}
 use Rattle.rehearse_rules.specs.Needs.{effect_now}
 pub use Rattle.rehearse_rules.specs.Ending.{Ending, End, CutDevices, CutSteps, Unknown, Syntax, Unsupported, Size, Finished}
 use Rattle.rehearse_rules.specs.Parameters.{parameters_in}
-use Rattle.rehearse_rules.specs.ByShell.{unread, reads_again, leaves_in, status_of_exit, asks_in, question_in, truth_in, truth_if, fields_in, turns_in, skips_rest, status_of_nothing, status_of_no_block, status_of_loop, status_in_turn, follows, assigned_in, locals_in}
+use Rattle.rehearse_rules.specs.ByShell.{unread, reads_again, leaves_in, status_of_exit, status_of_text, asks_in, question_in, truth_in, truth_if, fields_in, turns_in, skips_rest, status_of_nothing, status_of_no_block, status_of_loop, status_in_turn, follows, assigned_in, locals_in}
 use Rattle.device_list.specs.DeviceList.{Effect, Devices}
 use Rattle.device_list.specs.Called.{Called, BuiltIn, NoCommand, Device, called_by, sets_in}
 use Rattle.commands.specs.BuiltInCommands.{ChangesVariables, WritesText, RunsTexts, Tests, Exits, variables_changed, text_written}
@@ -172,12 +172,16 @@ tell_or_take None request s = take_outcome request s.word s
 
 -- ---- parts of scripts, by the meaning of what they are made of
 
+-- a text that `run` started has ended by itself with a status that is not 0: so does the `run`
+abbrev pub text_failed : Shell → State → State
+text_failed shell s = set_status (status_of_text shell s.memory.status) s
+
 -- a text that `run` started has ended, also by `exit`; the next one follows if its status is 0
-abbrev pub text_end : Answer → (State → Answer) → Answer
-text_end (Normal s) next = elim (nat_eq s.memory.status 0) [ true ↦ next s | false ↦ Normal s ]
-text_end (Exit s) next = elim (nat_eq s.memory.status 0) [ true ↦ next s | false ↦ Normal s ]
-text_end (Ended ending s) next = Ended ending s
-text_end (Dry s) next = Dry s
+abbrev pub text_end : Shell → Answer → (State → Answer) → Answer
+text_end shell (Normal s) next = elim (nat_eq s.memory.status 0) [ true ↦ next s | false ↦ Normal (text_failed shell s) ]
+text_end shell (Exit s) next = elim (nat_eq s.memory.status 0) [ true ↦ next s | false ↦ Normal s ]
+text_end shell (Ended ending s) next = Ended ending s
+text_end shell (Dry s) next = Dry s
 
 -- fields that hold too many bytes end the run
 abbrev pub sized : List Text → (List Text → State → Answer) → State → Answer
@@ -249,7 +253,7 @@ module _ (limits : Limits) where
   run_all script (name ∷ names) s =
       elim (get s.memory.environment name) [
         | None ↦ Normal (set_status 1 s)
-        | Some text ↦ text_end (started_text script name text s) (run_all script names)
+        | Some text ↦ text_end limits.shell (started_text script name text s) (run_all script names)
       ]
 
   -- a command by its fields, the name first; `again` says whether it is read again
