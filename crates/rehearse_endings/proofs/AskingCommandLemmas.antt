@@ -12,6 +12,7 @@ use Rattle.rehearse_terms.specs.State.{Text, State}
 use Rattle.rehearse_rules.specs.Parameters.{parameters_in}
 use Rattle.device_list.specs.Called.{Called, BuiltIn, NoCommand, Device, called_by, sets_in}
 use Rattle.commands.specs.BuiltInCommands.{ChangesVariables, WritesText, RunsTexts, Tests, Exits}
+use Rattle.rehearse_rules.specs.Needs.{effect_now}
 use Rattle.rehearse_rules.specs.Execution.{Limits, CutDevices, Size, Request, told, told_again, logged, set_environment, set_status, status_when, Unsupported, request_of, test_request}
 use Rattle.rehearse_machine.specs.Places.{PlaceNext, GoOn, AskOn, StopOn, left, to_run, place_finish, place_exit, place_tell_or_ask, place_ask, place_called, place_fields}
 use Rattle.rehearse_machine.specs.AskingCommand.{words_in_front, fields_again, found_again}
@@ -56,7 +57,7 @@ module _ (limits : Limits) where
       either_anew (asks_in limits.shell ws) (place_ask limits r ps s) (GoOn ps (set_status (status_when (truth_in limits.shell ws)) s)) (ask_anew r ps s refl) tt
   called_anew again (BuiltIn (WritesText written)) name ws script ps s = tt
   called_anew again (BuiltIn Exits) name ws script ps s = exit_anew (leaves_in limits.shell again ws) (status_of_exit limits.shell ws) ps s
-  called_anew again (Device effect) name ws script ps s = ask_anew (request_of name ws effect) ps s refl
+  called_anew again (Device effect) name ws script ps s = ask_anew (request_of name ws (effect_now s.log effect)) ps s refl
   called_anew again NoCommand name ws script ps s = tt
 
   fields_anew : (again : Bool) (fs : List Text) (script : Script) (ps : List RunningFrame) (s : State) → AsksAnew (place_fields limits again fs script ps s)

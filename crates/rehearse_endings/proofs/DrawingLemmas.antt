@@ -15,7 +15,7 @@ use Rattle.rehearse_machine.specs.Places.{frames_of}
 use Rattle.rehearse_machine.specs.Meaning.{continue}
 use Rattle.rehearse_machine.specs.Machine.{Asking, asked_at}
 use Rattle.rehearse_machine.specs.declared.rehearsal.Stop.{Stop}
-use Rattle.rehearse_reads.specs.Keys.{Key, Environment, Local, AnswerTo, Status, Access, AgreeAt, keys_read}
+use Rattle.rehearse_reads.specs.Keys.{Key, Environment, Local, AnswerTo, Succeeded, Status, Access, AgreeAt, keys_read}
 use Rattle.rehearse_reads.specs.Alike.{HaveFurther, AreAbreast, IsAlike}
 use Rattle.rehearse_reads.proofs.KeysRead.{reads_within, all_itself}
 use Rattle.rehearse_reads.proofs.AlikeParts.{normal_alike, ended_alike}
@@ -100,6 +100,7 @@ at_itself : (key : Key) (s : State) → AgreeAt key s s
 at_itself (Environment name) s = refl
 at_itself (Local name) s = refl
 at_itself (AnswerTo call) s = refl
+at_itself (Succeeded start) s = refl
 at_itself Status s = refl
 
 beside_itself : (limits : Limits) (known : List Key) (s : State) → AreAbreast limits s.steps s.steps s.log s.log known s s

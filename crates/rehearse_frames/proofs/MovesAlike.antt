@@ -14,21 +14,23 @@ use Rattle.rehearse_terms.specs.Outcomes.{Outcome, Success, Failure}
 use Rattle.rehearse_terms.specs.State.{Text, get, State, LoggedCommand, answer_in}
 use Rattle.rehearse_terms.specs.declared.shell.Shell.{Shell}
 use Rattle.rehearse_terms.specs.declared.shell.Shell.TheVariants.{Profile, Old2023, Old2025}
+use Rattle.rehearse_rules.specs.Needs.{effect_now}
+use Rattle.rehearse_rules.proofs.NeedsLemmas.{now_same}
 use Rattle.rehearse_rules.specs.Parameters.{parameters_in}
 use Rattle.rehearse_rules.specs.ByShell.{unread, reads_again, leaves_in, status_of_exit, asks_in, truth_in, fields_in, turns_in, skips_rest, status_of_nothing, status_of_no_block, status_of_loop, status_in_turn, follows, assigned_in}
-use Rattle.rehearse_rules.specs.Execution.{Limits, Ending, End, CutDevices, CutSteps, Unknown, Size, Finished, Unsupported, Request, remember, set_status, set_local, begin_turn, status_when, goes, holds, outcome_when, told, told_again, logged, set_environment, assign_local, request_of, test_request}
-use Rattle.rehearse_machine.specs.Frames.{Frame, Lists, Linked, IfCondition, LoopCondition, LoopBody, ForBody, RunNames, RunText, Next, Go, Ask, Stop, tell_or_ask, finish_next, leave, begin_assign, begin_for, begin_arms, begin_tree, begin_text, begin_names, begin_exit, begun_text, fitting, ask, begin_called, begin_fields, counted, begin_command, answered, move}
+use Rattle.rehearse_rules.specs.Execution.{Limits, Ending, End, CutDevices, CutSteps, Unknown, Size, Finished, Unsupported, Request, remember, set_status, set_local, begin_turn, status_when, goes, holds, outcome_when, told, told_again, logged, set_environment, assign_local, text_failed, request_of, test_request}
+use Rattle.rehearse_machine.specs.Frames.{Frame, Lists, Linked, IfCondition, LoopCondition, LoopBody, ForBody, RunNames, RunText, Next, Go, Ask, Stop, tell_or_ask, finish_next, leave, leave_run, begin_assign, begin_for, begin_arms, begin_tree, begin_text, begin_names, begin_exit, begun_text, fitting, ask, begin_called, begin_fields, counted, begin_command, answered, move}
 use Rattle.rehearse_reads.specs.Keys.{Key, Environment, Local, Status, Access, Reads, Writes, AgreeOn, AreAmong, all_read, ReadsWithin, known_after}
-use Rattle.rehearse_reads.specs.Accesses.{status_written, word_reads, words_reads, setenv_accesses, computed_accesses, told_reads, outcome_accesses, names_written, sized_accesses, local_accesses, assign_accesses, turn_accesses, nothing_accesses, begun_accesses}
+use Rattle.rehearse_reads.specs.Accesses.{status_written, word_reads, words_reads, setenv_accesses, computed_accesses, needs_reads, told_reads, outcome_accesses, names_written, sized_accesses, local_accesses, assign_accesses, turn_accesses, nothing_accesses, begun_accesses}
 use Rattle.rehearse_reads.specs.Alike.{AreAbreast, IsCutBy}
 use Rattle.rehearse_reads.proofs.AccessLemmas.{within_first, within_then, after_both, read_first, read_then, after_read}
-use Rattle.rehearse_reads.proofs.AbreastLemmas.{near_begun, near_status, near_statuses, near_local, near_assigned, near_logged, near_set, near_computed, near_sets, near_echoed}
+use Rattle.rehearse_reads.proofs.AbreastLemmas.{near_begun, near_status, near_statuses, near_local, near_assigned, near_logged, near_set, near_computed, near_sets, near_echoed, near_failed}
 use Rattle.rehearse_reads.proofs.SameWords.{fields_agree, turns_agree, assigned_agree}
 use Rattle.rehearse_reads.proofs.AlikeParts.{further_apart}
-use Rattle.rehearse_reads.proofs.AlikeDevices.{told_alike}
+use Rattle.rehearse_reads.proofs.AlikeDevices.{told_alike, met_alike}
 use Rattle.rehearse_reads.proofs.AlikeLoops.{near_turn}
 use Rattle.rehearse_machine.proofs.ProgressLemmas.{IsQuiet, either-quiet, assign-quiet, fields-quiet, for-quiet}
-use Rattle.rehearse_frames.specs.MoveAccesses.{of_leaving, of_exit, of_telling, of_beginning_for, of_beginning_arms, of_beginning_tree, of_beginning_text, of_beginning_names, of_asking, of_builtin, of_call, of_fields, of_command, of_move}
+use Rattle.rehearse_frames.specs.MoveAccesses.{of_leaving, of_exit, of_telling, of_beginning_for, of_beginning_arms, of_beginning_tree, of_beginning_text, of_beginning_names, of_asking, of_listed, of_builtin, of_call, of_fields, of_command, of_move}
 
 -- the steps that were begun before what is next, and the room that it needs for device commands
 abbrev pub next_steps : Next → ℕ
@@ -93,20 +95,35 @@ module _ (limits : Limits) (i j : ℕ) (k l : List LoggedCommand) where
 
   -- ---- `exit`
 
-  leaves : (fs : List Frame) → Moves (leave fs) (λ s. of_leaving fs)
-  leaves [] known s t near w =
-      subst (λ (n : ℕ). NextAlike known (Stop (End s.memory.status) s) (Stop (End n) t)) (sym (near.keys Status w.0)) (stops_alike near)
-  leaves (RunNames names ∷ fs) known s t near w = goes_alike near
-  leaves (RunText names ∷ fs) known s t near w = goes_alike near
-  leaves (Lists ls ∷ fs) known s t near w = leaves fs known s t near w
-  leaves (Linked ls ∷ fs) known s t near w = leaves fs known s t near w
-  leaves (IfCondition b arms ∷ fs) known s t near w = leaves fs known s t near w
-  leaves (LoopCondition until c b last ∷ fs) known s t near w = leaves fs known s t near w
-  leaves (LoopBody until c b ∷ fs) known s t near w = leaves fs known s t near w
-  leaves (ForBody name fields body ∷ fs) known s t near w = leaves fs known s t near w
+  -- a `run` goes on or ends by the status
+  leaves_run : (run : Frame) (fs : List Frame) (known : List Key) (s t : State) → t.memory.status ≡ s.memory.status → Near known s t → NextAlike known (leave_run run fs s) (leave_run run fs t)
+  leaves_run run fs known s t same near =
+      subst (λ (n : ℕ). NextAlike known (leave_run run fs s) (elim (nat_eq n 0) [ true ↦ Go (run ∷ fs) t | false ↦ Go fs t ])) (sym same) (by (nat_eq s.memory.status 0))
+    where
+      by : (b : Bool) → NextAlike known (elim b [ true ↦ Go (run ∷ fs) s | false ↦ Go fs s ]) (elim b [ true ↦ Go (run ∷ fs) t | false ↦ Go fs t ])
+      by true = goes_alike near
+      by false = goes_alike near
+
+  only_read : (b : Bool) (known : List Key) (x y : Next) → NextAlike known x y → NextAlike (known_after known (elim b [ true ↦ [] | false ↦ Reads Status ∷ [] ])) x y
+  only_read true known x y h = h
+  only_read false known x y h = h
+
+  -- `exit` has set the status in both
+  leaves : (status : ℕ) (fs : List Frame) (known : List Key) (s t : State) → s.memory.status ≡ status → t.memory.status ≡ status → Near known s t → NextAlike (known_after known (of_leaving status fs)) (leave fs s) (leave fs t)
+  leaves status [] known s t e f near =
+      subst (λ (n : ℕ). NextAlike known (Stop (End s.memory.status) s) (Stop (End n) t)) (e ∙ sym f) (stops_alike near)
+  leaves status (RunNames names ∷ fs) known s t e f near = leaves_run (RunNames names) fs known s t (f ∙ sym e) near
+  leaves status (RunText names ∷ fs) known s t e f near =
+      only_read (nat_eq status 0) known (leave_run (RunText names) fs s) (leave_run (RunText names) fs t) (leaves_run (RunText names) fs known s t (f ∙ sym e) near)
+  leaves status (Lists ls ∷ fs) known s t e f near = leaves status fs known s t e f near
+  leaves status (Linked ls ∷ fs) known s t e f near = leaves status fs known s t e f near
+  leaves status (IfCondition b arms ∷ fs) known s t e f near = leaves status fs known s t e f near
+  leaves status (LoopCondition until c b last ∷ fs) known s t e f near = leaves status fs known s t e f near
+  leaves status (LoopBody until c b ∷ fs) known s t e f near = leaves status fs known s t e f near
+  leaves status (ForBody name fields body ∷ fs) known s t e f near = leaves status fs known s t e f near
 
   exits : (o : Option ℕ) (other : ℕ) (fs : List Frame) → Moves (begin_exit o other fs) (λ s. of_exit o fs)
-  exits (Some n) other fs known s t near w = leaves fs (Status ∷ known) (set_status n s) (set_status n t) (near_status limits i j k l known s t n near) w
+  exits (Some n) other fs known s t near w = leaves n fs (Status ∷ known) (set_status n s) (set_status n t) refl refl (near_status limits i j k l known s t n near)
   exits None other fs known s t near w = sets_status other fs known s t near w
 
   -- ---- device commands
@@ -247,15 +264,25 @@ module _ (limits : Limits) (i j : ℕ) (k l : List LoggedCommand) where
   begins_builtin again False name words fs known s t near w = sets_status 1 fs known s t near w
   begins_builtin again Leave name words fs known s t near w = exits (leaves_in limits.shell again words) (status_of_exit limits.shell words) fs known s t near w
 
+  begins_listed : (name : Text) (words : List Text) (effect : Effect) (fs : List Frame) → Moves (λ x. ask limits (request_of name words (effect_now x.log effect)) fs x) (of_listed limits name words effect)
+  begins_listed name words effect fs known s t near w =
+      let request : Effect → Request = request_of name words in
+      let keys : List Key = needs_reads effect.needs in
+      let rest : List Access = of_asking limits (request (effect_now s.log effect)) s in
+      let now : effect_now t.log effect ≡ effect_now s.log effect = now_same effect s.log t.log (met_alike limits i j k l known s t effect.needs near (read_first known keys rest w)) in
+      after_keys known keys rest (ask limits (request (effect_now s.log effect)) fs s) (ask limits (request (effect_now t.log effect)) fs t)
+      (subst (λ (x : Effect). NextAlike (known_after known rest) (ask limits (request (effect_now s.log effect)) fs s) (ask limits (request x) fs t)) (sym now)
+      (asks (request (effect_now s.log effect)) fs known s t near (read_then known keys rest w)))
+
   begins_call : (again : Bool) (name : Text) (words : List Text) (fs : List Frame) → Moves (begin_called limits again (called_by limits.devices name words) name words fs) (of_call limits again name words fs)
   begins_call again name words fs = by (computed_by limits.devices name words) (builtin_of name) (effect_of limits.devices name words)
     where
       by : (o : Option Computed) (b : Option Builtin) (f : Option Effect)
           → Moves (begin_called limits again (elim o [ Some computed ↦ BuiltIn (ChangesVariables (λ ws. carried computed)) | None ↦ elim b [ Some builtin ↦ BuiltIn (deed_of builtin) | None ↦ elim f [ Some effect ↦ Device effect | None ↦ NoCommand ] ] ]) name words fs)
-          (λ s. elim o [ Some computed ↦ computed_accesses computed | None ↦ elim b [ Some builtin ↦ of_builtin limits again builtin name words fs s | None ↦ elim f [ Some effect ↦ of_asking limits (request_of name words effect) s | None ↦ [] ] ] ])
+          (λ s. elim o [ Some computed ↦ computed_accesses computed | None ↦ elim b [ Some builtin ↦ of_builtin limits again builtin name words fs s | None ↦ elim f [ Some effect ↦ of_listed limits name words effect s | None ↦ [] ] ] ])
       by (Some computed) b f known s t near w = goes_alike (near_computed limits i j k l computed known s t near w)
       by None (Some builtin) f known s t near w = begins_builtin again builtin name words fs known s t near w
-      by None None (Some effect) known s t near w = asks (request_of name words effect) fs known s t near w
+      by None None (Some effect) known s t near w = begins_listed name words effect fs known s t near w
       by None None None known s t near w = stops_alike near
 
   begins_fields : (again : Bool) (found : List Text) (fs : List Frame) → Moves (begin_fields limits again found fs) (of_fields limits again fs found)
@@ -364,5 +391,5 @@ module _ (limits : Limits) (i j : ℕ) (k l : List LoggedCommand) where
   moves_alike (RunNames names ∷ fs) known s t near w = begins_names limits.shell names fs known s t near w
   moves_alike (RunText names ∷ fs) known s t near w =
       if_moves known (nat_eq s.memory.status 0) (nat_eq t.memory.status 0) (ap (λ (n : ℕ). nat_eq n 0) (near.keys Status w.0))
-      (begin_names limits.shell names fs s) (Go fs s) (begin_names limits.shell names fs t) (Go fs t)
-      (of_beginning_names limits.shell names s) [] (begins_names limits.shell names fs known s t near) (λ v. goes_alike near) w.1
+      (begin_names limits.shell names fs s) (Go fs (text_failed limits.shell s)) (begin_names limits.shell names fs t) (Go fs (text_failed limits.shell t))
+      (of_beginning_names limits.shell names s) [] (begins_names limits.shell names fs known s t near) (λ v. goes_alike (near_failed limits i j k l known s t limits.shell (near.keys Status w.0) near)) w.1

@@ -136,7 +136,7 @@ module _ (limits : Limits) (i j : ℕ) (k l : List LoggedCommand) where
 
   -- ---- a command of the list, whose need is met or not
 
-  met_alike : (known : List Key) (s t : State) (needs : List Text) → Near known s t → AreAmong (needs_reads needs) known → is_met needs t.log ≡ is_met needs s.log
+  pub met_alike : (known : List Key) (s t : State) (needs : List Text) → Near known s t → AreAmong (needs_reads needs) known → is_met needs t.log ≡ is_met needs s.log
   met_alike known s t [] near h = refl
   met_alike known s t (name ∷ words) near h = near.keys (Succeeded (name ∷ words)) h.0
 

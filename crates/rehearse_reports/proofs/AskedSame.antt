@@ -1,5 +1,5 @@
 -- With the same frames, and the same words, the same device command asks.
-use Rattle.std.proofs.Common.{◌≡◌, ◌∙◌, refl, sym, ap, subst, ℕ, Bool, true, false, List, [], ◌∷◌, length, Option, Some, None, nat_lt, nat_le}
+use Rattle.std.proofs.Common.{◌≡◌, ◌∙◌, refl, sym, ap, subst, ℕ, Bool, true, false, List, [], ◌∷◌, length, Option, Some, None, nat_lt, nat_le, if◌then◌else◌}
 use Rattle.device_list.specs.declared.finish.BoardEnd.{BoardEnd}
 use Rattle.device_list.specs.Called.{Called, BuiltIn, NoCommand, Device, called_by, sets_in}
 use Rattle.commands.specs.BuiltInCommands.{ChangesVariables, WritesText, RunsTexts, Tests, Exits}
@@ -10,6 +10,8 @@ use Rattle.bootstore_state.specs.Moment.{Moment, RunningFrame}
 use Rattle.bootstore_state.specs.StoredState.{state_at}
 use Rattle.rehearse_terms.specs.Outcomes.{Success}
 use Rattle.rehearse_terms.specs.State.{Text, State}
+use Rattle.device_list.specs.DeviceList.{Effect}
+use Rattle.rehearse_rules.specs.Needs.{is_met, effect_now}
 use Rattle.rehearse_rules.specs.Parameters.{parameters_in}
 use Rattle.rehearse_rules.specs.ByShell.{reads_again, leaves_in, status_of_exit, asks_in, truth_in, fields_in, follows}
 use Rattle.rehearse_rules.specs.Execution.{Limits, CutDevices, Size, Unsupported, Request, told, told_again, logged, set_environment, set_status, status_when, request_of, test_request}
@@ -78,6 +80,30 @@ module _ (limits : Limits) (s t : State) where
   ask_same : (r : Request) (ps : List RunningFrame) → AskSame (place_ask limits r ps s) (place_ask limits r ps t)
   ask_same r ps = ask_by (told r s.log) (told r t.log) (nat_lt (length s.log) limits.device_bound) (nat_lt (length t.log) limits.device_bound) r ps s t
 
+  -- a command that needs a call asks only if that has succeeded; or else it is told that it fails
+  abbrev by_need : Effect → (met : Bool) → Effect
+  by_need effect met = if met then effect else record effect { stays = false; always = Some false }
+
+  failed_there : (room : Bool) (x : PlaceNext) (r : Request) (ps : List RunningFrame) (u : State) → AskSame x (elim room [ true ↦ place_tell_or_ask (Some false) r ps u | false ↦ StopOn CutDevices u ])
+  failed_there true (GoOn qs v) r ps u = tt
+  failed_there true (AskOn q qs v) r ps u = tt
+  failed_there true (StopOn ending v) r ps u = tt
+  failed_there false x r ps u = cut_same x u
+
+  failed_here : (room : Bool) (x : PlaceNext) (r : Request) (ps : List RunningFrame) (u : State) → AskSame (elim room [ true ↦ place_tell_or_ask (Some false) r ps u | false ↦ StopOn CutDevices u ]) x
+  failed_here true x r ps u = tt
+  failed_here false x r ps u = tt
+
+  listed_by : (here there : Bool) (name : Text) (ws : List Text) (effect : Effect) (ps : List RunningFrame) → AskSame (place_ask limits (request_of name ws (by_need effect here)) ps s) (place_ask limits (request_of name ws (by_need effect there)) ps t)
+  listed_by true true name ws effect ps = ask_same (request_of name ws effect) ps
+  listed_by true false name ws effect ps =
+      failed_there (nat_lt (length t.log) limits.device_bound) (place_ask limits (request_of name ws effect) ps s) (request_of name ws (by_need effect false)) ps t
+  listed_by false there name ws effect ps =
+      failed_here (nat_lt (length s.log) limits.device_bound) (place_ask limits (request_of name ws (by_need effect there)) ps t) (request_of name ws (by_need effect false)) ps s
+
+  listed_same : (name : Text) (ws : List Text) (effect : Effect) (ps : List RunningFrame) → AskSame (place_ask limits (request_of name ws (effect_now s.log effect)) ps s) (place_ask limits (request_of name ws (effect_now t.log effect)) ps t)
+  listed_same name ws effect ps = listed_by (is_met effect.needs s.log) (is_met effect.needs t.log) name ws effect ps
+
   called_same : (again : Bool) (b : Called) (name : Text) (ws : List Text) (script : Script) (ps : List RunningFrame) → AskSame (place_called limits again b name ws script ps s) (place_called limits again b name ws script ps t)
   called_same again (BuiltIn (ChangesVariables change)) name ws script ps = tt
   called_same again (BuiltIn RunsTexts) name [] script ps = tt
@@ -85,7 +111,7 @@ module _ (limits : Limits) (s t : State) where
   called_same again (BuiltIn Tests) name ws script ps = either_same (asks_in limits.shell ws) (place_ask limits (test_request limits name ws) ps) (λ x. GoOn ps (set_status (status_when (truth_in limits.shell ws)) x)) s t (ask_same (test_request limits name ws) ps) tt
   called_same again (BuiltIn (WritesText written)) name ws script ps = tt
   called_same again (BuiltIn Exits) name ws script ps = exit_same (leaves_in limits.shell again ws) (status_of_exit limits.shell ws) ps s (place_exit (leaves_in limits.shell again ws) (status_of_exit limits.shell ws) ps t)
-  called_same again (Device effect) name ws script ps = ask_same (request_of name ws effect) ps
+  called_same again (Device effect) name ws script ps = listed_same name ws effect ps
   called_same again NoCommand name ws script ps = tt
 
   fields_same : (again : Bool) (fs : List Text) (script : Script) (ps : List RunningFrame) → AskSame (place_fields limits again fs script ps s) (place_fields limits again fs script ps t)

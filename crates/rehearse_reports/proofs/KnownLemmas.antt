@@ -1,5 +1,6 @@
 -- Keys with what a moment has at them: one after another, and at two moments.
-use Rattle.std.proofs.Common.{◌≡◌, ◌∙◌, refl, sym, ap, subst, ℕ, ◌+◌, ◌<◌, ◌≤◌, List, [], ◌∷◌, ◌++◌, length, take, get_or, append_assoc, append-nil, add-one, Option, Vec, Global, inl, inr}
+use Rattle.std.proofs.Common.{◌≡◌, ◌∙◌, refl, sym, ap, subst, ℕ, ◌+◌, ◌<◌, ◌≤◌, List, [], ◌∷◌, ◌++◌, length, take, get_or, append_assoc, append-nil, add-one, Option, Vec, Global, Bool, true, false, IsTrue, inl, inr}
+use Rattle.std.proofs.Math.Bool.{beq}
 use Rattle.std.proofs.Math.Seq.{take-suc}
 use Rattle.std.proofs.lemmas.List.{map-append, take_all}
 use Rattle.std.specs.FinMap.{get-entries}
@@ -9,9 +10,16 @@ use Rattle.rehearse_reads.specs.Keys as keys
 use Rattle.rehearse_reads.specs.Keys.{AgreeAt, AgreeOn, IsAmong}
 use Rattle.rehearse_reports.specs.declared.key.Key.{Key}
 use Rattle.rehearse_reports.specs.declared.known.Known.{Known}
-use Rattle.rehearse_reports.specs.declared.known.Known.TheVariants.{Environment, Local, AnswerTo, Status}
+use Rattle.rehearse_reports.specs.declared.known.Known.TheVariants.{Environment, Local, AnswerTo, Succeeded, Status}
 use Rattle.rehearse_reports.specs.ReportsShown.{key_shown, keys_shown}
 use Rattle.rehearse_reports.specs.Known.{value_shown, key_of, keys_of, Holds, AllHold}
+
+-- answers that are found equal are equal
+pub same_answer : (a b : Bool) → IsTrue (beq a b) → a ≡ b
+same_answer true true h = refl
+same_answer true false h = absurd (let g = h in cc)
+same_answer false true h = absurd (let g = h in cc)
+same_answer false false h = refl
 
 pub hold_more : (m : Moment) (some more : List Known) → AllHold m some → AllHold m more → AllHold m (some ++ more)
 hold_more m [] more h k = k
@@ -45,6 +53,7 @@ agree_at : (m n : Moment) (known : Known) → Holds m known → Holds n known �
 agree_at m n (Environment name value) h k = sym (get-entries n.environment name.items) ∙ k ∙ sym h ∙ get-entries m.environment name.items
 agree_at m n (Local name value) h k = sym (get-entries n.locals name.items) ∙ k ∙ sym h ∙ get-entries m.locals name.items
 agree_at m n (AnswerTo call answer) h k = k ∙ sym h
+agree_at m n (Succeeded start has) h k = k ∙ sym h
 agree_at m n (Status status) h k = k ∙ sym h
 
 pub agree_on_known : (m n : Moment) (all : List Known) → AllHold m all → AllHold n all → AgreeOn (keys_of all) (state_at m []) (state_at n [])

@@ -6,7 +6,7 @@ ghost use Rattle.rehearse_reports.specs.ReportsShown.{key_shown, keys_shown};
 ghost use Rattle.rehearse_reports.specs.Known.{value_shown, key_of, keys_of, Holds, AllHold};
 
 use crate::key::Key;
-use bootstore_state::{LogEntry, Store, StoreError};
+use bootstore_state::{LogEntry, Store, StoreError, has_succeeded};
 use std::alloc::{AllocError, Global};
 use text::copied_words;
 
@@ -19,6 +19,8 @@ pub enum Known {
     Local(Vec<u8>, Option<Vec<u8>>),
     /// The words of a device command, its name first, and the answer that stays for it, if there is one.
     AnswerTo(Vec<Vec<u8>>, Option<bool>),
+    /// The first words of a device command, its name first, and whether one that begins so has succeeded.
+    Succeeded(Vec<Vec<u8>>, bool),
     /// `$?`
     Status(u8),
 }
@@ -87,6 +89,10 @@ impl Known {
                 let answer = answer_to(store.log(), &call);
                 Ok(Known::AnswerTo(call, answer))
             }
+            Key::Succeeded(start) => {
+                let has = has_succeeded(store.log(), &start);
+                Ok(Known::Succeeded(start, has))
+            }
             Key::Status => Ok(Known::Status(store.get_status())),
         }
     }
@@ -99,6 +105,7 @@ impl Known {
             Known::Environment(name, value) => is_value(store.get_env(name), value),
             Known::Local(name, value) => is_value(store.get_local(name), value),
             Known::AnswerTo(call, answer) => answer_to(store.log(), call) == *answer,
+            Known::Succeeded(start, has) => has_succeeded(store.log(), start) == *has,
             Known::Status(status) => store.get_status() == *status,
         }
     }
@@ -111,6 +118,7 @@ impl Known {
             Known::Environment(name, _) => Ok(Key::Environment(Vec::from_slice(alloc, name)?)),
             Known::Local(name, _) => Ok(Key::Local(Vec::from_slice(alloc, name)?)),
             Known::AnswerTo(call, _) => Ok(Key::AnswerTo(copied_words(alloc, call)?)),
+            Known::Succeeded(start, _) => Ok(Key::Succeeded(copied_words(alloc, start)?)),
             Known::Status(_) => Ok(Key::Status),
         }
     }

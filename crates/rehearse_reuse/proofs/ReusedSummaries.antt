@@ -11,7 +11,7 @@ use Rattle.rehearse_machine.specs.Meaning.{comes_to}
 use Rattle.rehearse_machine.specs.Places.{frames_of}
 use Rattle.bootstore_state.specs.StoredState.{state_at}
 use Rattle.std.proofs.lemmas.List.{append_cancel_left}
-use Rattle.rehearse_reads.specs.Keys.{Key, Environment, Local, AnswerTo, Status, AgreeAt}
+use Rattle.rehearse_reads.specs.Keys.{Key, Environment, Local, AnswerTo, Succeeded, Status, AgreeAt}
 use Rattle.rehearse_reads.specs.Alike.{HaveFurther, IsCutBy}
 use Rattle.rehearse_frames.specs.AlikeFutures as ahead
 use Rattle.rehearse_frames.specs.AlikeFutures.{CameAlike, IsSameCame, CameCut, same, cut_here, beyond}
@@ -233,6 +233,7 @@ agree_then : (key : Key) (s t u : State) → AgreeAt key s t → AgreeAt key t u
 agree_then (Environment name) s t u a b = b ∙ a
 agree_then (Local name) s t u a b = b ∙ a
 agree_then (AnswerTo call) s t u a b = b ∙ a
+agree_then (Succeeded start) s t u a b = b ∙ a
 agree_then Status s t u a b = b ∙ a
 
 module _ (limits : Limits) (names : List Text) (m n : Moment) (keys : List Key) (s : Summary) (am : Asking limits m) (an : Asking limits n) (enough : AreEnoughAt limits names m keys) (sums : Sums names (asked_at limits m) s) (fits : FitsByKeys limits keys s m n) where
