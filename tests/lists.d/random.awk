@@ -1,4 +1,5 @@
-# Random device lists and scripts, as files listN and scriptN. Usage: awk -v seed=S -v count=N -v folder=DIR -f random.awk
+# Random device lists and scripts, as files listN and scriptN, and which alternative of the list is named, if one is, as choiceN.
+# Usage: awk -v seed=S -v count=N -v folder=DIR -f random.awk
 
 # one of these words
 function one_of(words,    all) {
@@ -38,7 +39,7 @@ function settings(called, most,    text, left) {
 function name() {
     if (chance(2))
         return one_of("echo test setenv m*")
-    return chance(80) ? one_of("load mmc") : one_of("final restart halt steady sub call absent env")
+    return chance(80) ? one_of("load mmc") : one_of("final restart halt steady sub call absent env given before")
 }
 
 function pattern(    text, left) {
@@ -79,20 +80,70 @@ function call(    of) {
         return "test -e mmc 0 " one_of("f g")
     if (of < 3)
         return "env exists " one_of("a b p")
-    return (chance(85) ? one_of("load mmc") : one_of("final halt steady sub call absent")) some_words(3)
+    return (chance(85) ? one_of("load mmc") : one_of("final halt steady sub call absent given before")) some_words(3)
+}
+
+# a value of a line of the start: that of `c` and `d` is a text of calls
+function start_value(of,    text) {
+    if (chance(5))
+        return chance(60) ? "" : one_of(quote "1 1" quote "2 1" quote "x" quote "y" quote "z @1 :")
+    if (of !~ /^[cd]$/)
+        return chance(80) ? one_of("1 2 xyz") : quote one_of("y  z : @1") " " quote one_of("1 2")
+    text = call() (chance(30) ? "; " call() : "") (chance(5) ? "; none" : "")
+    if (chance(50))
+        return quote text quote
+    gsub(/ /, quote " " quote, text)
+    return text
+}
+
+# a line of the start, or one that is nearly one
+function start_line(    of, value) {
+    if (chance(30))
+        return "before " (chance(95) ? one_of("c c d d a q") : one_of("a/b -c c=1 " quote "c" quote)) (chance(3) ? " d" : "")
+    of = chance(97) ? one_of("a b p c c d") : one_of("-a @1 a.b " quote "a" quote " = a" quote)
+    value = start_value(of) (chance(3) ? one_of("c d a=1") : "") (chance(2) ? " 1" : "")
+    return "given" (chance(90) ? " " : " \t ") of "=" counted(of, value)
+}
+
+# the value, which is counted among those of the variable
+function counted(of, value) {
+    if (!((of, value) in seen)) {
+        seen[of, value]
+        if (values[of])
+            several = several * (values[of] + 1) / values[of]
+        values[of]++
+    }
+    return value
+}
+
+# the number of the alternative that is named, now and then one that is not there; mostly none is named if there are not several
+function choice() {
+    if (chance(several > 1 ? 8 : 80))
+        return ""
+    return chance(92) ? 1 + int(rand() * (several > 64 ? 64 : several)) : one_of("2 3 9 64")
 }
 
 BEGIN {
     srand(seed)
     quote = sprintf("%c", 39)
     for (number = 1; number <= count; number++) {
-        for (left = 2 + int(rand() * 5); left > 0; left--)
+        starts = chance(50)
+        several = 1
+        split("", seen); split("", values)
+        for (left = 2 + int(rand() * 5); left > 0; left--) {
             print (chance(10) ? " " : "") line() (chance(10) ? "\t\r" : "") >(folder "/list" number)
+            for (more = starts ? int(rand() * 3) : 0; more > 0; more--)
+                print (chance(10) ? "\t" : "") start_line() (chance(10) ? " \r" : "") >(folder "/list" number)
+        }
+        for (left = starts && chance(8) ? 4 + int(rand() * 40) : 0; left > 0; left--)
+            print "given " (of = one_of("a b p e f g")) "=" counted(of, one_of("1 2 3")) >(folder "/list" number)
+        print choice() >(folder "/choice" number)
         if (chance(60))
             print "load\nmmc b=2\nknown env" >(folder "/list" number)
         for (left = 1 + int(rand() * 4); left > 0; left--)
             print call() >(folder "/script" number)
         close(folder "/list" number)
         close(folder "/script" number)
+        close(folder "/choice" number)
     }
 }

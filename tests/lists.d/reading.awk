@@ -1,5 +1,6 @@
-# What `ubtool rehearse --script scriptN -d listN a b p` has to print, read off docs/RUNNING.md and not off its code: the
-# listing or the refusal, and the status. Usage: awk -v count=N -v folder=DIR -v steady=0|1 -f reading.awk
+# What `ubtool rehearse --script scriptN -d listN a b p` has to print, with `--given K` if choiceN has a K, read off
+# docs/RUNNING.md and not off its code: the listing or the refusal, and the status.
+# Usage: awk -v count=N -v folder=DIR -v steady=0|1 -f reading.awk
 
 # ---- the words of a line
 
@@ -132,12 +133,58 @@ function read_command(words, many,    at, final, stays, name, first, key, set, s
     return ""
 }
 
+# the value of a line `given` without its quotes, behind a letter; none if a blank stands outside them, or one is not closed
+function plain_value(text,    at, byte, inside, value) {
+    for (at = 1; at <= length(text); at++) {
+        byte = substr(text, at, 1)
+        if (byte == quote)
+            inside = !inside
+        else if (!inside && (byte == " " || byte == "\t"))
+            return ""
+        else
+            value = value byte
+    }
+    return inside ? "" : "v" value
+}
+
+# how many alternatives there are
+function alternatives(    all, at) {
+    all = 1
+    for (at = 1; at <= start_names; at++)
+        all *= value_count[start_name[at]]
+    return all
+}
+
+# the fault of a line `given`, or none
+function read_given(text,    at, name, value) {
+    at = index(text, "=")
+    name = substr(text, 1, at - 1)
+    value = plain_value(substr(text, at + 1))
+    if (name == "" || name ~ /^-/ || index(name, quote) || value == "")
+        return "bad line"
+    if ((name, value) in is_given)
+        return ""
+    is_given[name, value]
+    if (!value_count[name])
+        start_name[++start_names] = name
+    given_value[name, value_count[name]++] = substr(value, 2)
+    return value_count[name] > 1 && alternatives() > 64 ? "more than 64 alternatives" : ""
+}
+
 # the fault of a line, or none
 function read_line(line,    words, many, at, named) {
     gsub(/^[ \t\r]+|[ \t\r]+$/, "", line)
     many = cut(line, 0, words)
     if (!many || words[1] ~ /^#/)
         return ""
+    if (words[1] == "given" && index(words[2], "=")) {
+        sub(/^given[ \t]+/, "", line)
+        return read_given(line)
+    }
+    if (words[1] == "before" && many == 2 && !index(words[2], "=")) {
+        before[++befores] = words[2]
+        return words[2] ~ /^[A-Za-z0-9_.][A-Za-z0-9_.-]*$/ ? "" : "bad line"
+    }
     for (at = 2; at <= many; at++)
         named = named || words[at] == ":"
     if (words[1] == "call" && named)
@@ -205,48 +252,78 @@ function set_all(parts, from, count, words, many,    at, sides, name, value) {
 
 # ---- runs
 
-# the record of the run on a word, which is made longer by successes where it ends
-function run(commands, count,    at, words, many, effect, parts, size, stays, answer, taken, ending, key, text) {
+# does one command of the run
+function perform(command,    words, many, effect, parts, size, stays, answer, key) {
+    many = cut(command, 0, words)
+    if (!many)
+        return
+    if (words[1] == "env" && is_known["env"] && words[2] == "exists" && many == 3) {
+        status = words[3] in env ? 0 : 1
+        return
+    }
+    # (a value with an `=` that is run as a text is an assignment)
+    if (words[1] ~ /^[a-z]+=/) {
+        status = 0
+        return
+    }
+    effect = words[1] == "test" ? "\n" test_stays + 0 "\n\n" : effect_of(words, many)
+    if (effect == "") {
+        ending = "stop unknown " words[1]
+        return
+    }
+    size = split(effect, parts, "\n")
+    key = command
+    gsub(/^[ \t]+|[ \t]+$/, "", key)
+    gsub(/[ \t]+/, " ", key)
+    stays = (steady || parts[2]) && parts[3] == ""
+    if (parts[3] != "")
+        answer = parts[3]
+    else if (stays && key in answers)
+        answer = answers[key]
+    else {
+        if (++taken > length(word))
+            word = word "0"
+        answer = substr(word, taken, 1)
+    }
+    if (stays)
+        answers[key] = answer
+    status = answer + 0
+    text = text "dev " answer " " key "\n"
+    if (answer == "0") {
+        set_all(parts, 4, size, words, many)
+        if (parts[1] != "")
+            ending = parts[1] " " words[1]
+    }
+}
+
+# the environment of the alternative with this number from 0 on: the last name changes fastest
+function begin_with(place,    at, name) {
     split("", env)
+    for (at = start_names; at >= 1; at--) {
+        name = start_name[at]
+        if (given_value[name, place % value_count[name]] != "")
+            env[name] = given_value[name, place % value_count[name]]
+        place = int(place / value_count[name])
+    }
+}
+
+# the record of the run on a word, which is made longer by successes where it ends
+function run(commands, count, place,    at, size, parts, part, first) {
+    begin_with(place)
     split("", answers)
     text = ""
     status = 0
     taken = 0
     ending = ""
-    for (at = 1; at <= count && ending == ""; at++) {
-        many = cut(commands[at], 0, words)
-        if (words[1] == "env" && is_known["env"] && words[2] == "exists" && many == 3) {
-            status = words[3] in env ? 0 : 1
-            continue
-        }
-        effect = words[1] == "test" ? "\n" test_stays + 0 "\n\n" : effect_of(words, many)
-        if (effect == "") {
-            ending = "stop unknown " words[1]
-            break
-        }
-        size = split(effect, parts, "\n")
-        key = commands[at]
-        gsub(/[ \t]+/, " ", key)
-        stays = (steady || parts[2]) && parts[3] == ""
-        if (parts[3] != "")
-            answer = parts[3]
-        else if (stays && key in answers)
-            answer = answers[key]
-        else {
-            if (++taken > length(word))
-                word = word "0"
-            answer = substr(word, taken, 1)
-        }
-        if (stays)
-            answers[key] = answer
-        status = answer + 0
-        text = text "dev " answer " " key "\n"
-        if (answer == "0") {
-            set_all(parts, 4, size, words, many)
-            if (parts[1] != "")
-                ending = parts[1] " " words[1]
-        }
+    for (at = 1; at <= befores; at++)
+        first[at] = before[at] in env
+    for (at = 1; at <= befores; at++) {
+        size = first[at] && ending == "" ? split(env[before[at]], parts, /;/) : 0
+        for (part = 1; part <= size && ending == ""; part++)
+            perform(parts[part])
     }
+    for (at = 1; at <= count && ending == ""; at++)
+        perform(commands[at])
     if (ending == "")
         ending = "end " status
     for (at = 1; at <= 3; at++)
@@ -256,10 +333,10 @@ function run(commands, count,    at, words, many, effect, parts, size, stays, an
 }
 
 # all runs, in the order of their words
-function listing(commands, count) {
+function listing(commands, count, place) {
     word = ""
     for (;;) {
-        printf "%s", run(commands, count)
+        printf "%s", run(commands, count, place)
         sub(/1*$/, "", word)
         if (word == "")
             break
@@ -280,18 +357,31 @@ BEGIN {
         print "== " number
         split("", calls); split("", call_pattern); split("", call_effect)
         split("", is_there); split("", is_final); split("", is_steady); split("", all_sets); split("", is_known)
-        test_stays = 0
+        split("", is_given); split("", start_name); split("", value_count); split("", given_value); split("", before)
+        test_stays = start_names = befores = 0
         fault = ""
-        for (line = 1; (getline text <(folder "/list" number)) > 0; line++)
-            if (fault == "" && (fault = read_line(text)) != "")
-                fault = "ubtool: device list line " line ": " fault
+        too_many = 0
+        for (line = 1; (getline text <(folder "/list" number)) > 0; line++) {
+            found = read_line(text)
+            # (that there are too many alternatives counts before all other faults)
+            if (found != "" && !too_many && (fault == "" || found ~ /alternatives/))
+                fault = "ubtool: device list line " line ": " found
+            too_many = too_many || found ~ /alternatives/
+        }
         close(folder "/list" number)
         size = 0
         while ((getline text <(folder "/script" number)) > 0)
             commands[++size] = text
         close(folder "/script" number)
+        getline choice <(folder "/choice" number)
+        close(folder "/choice" number)
+        all = alternatives()
+        if (fault == "" && choice == "" && all > 1)
+            fault = "ubtool: the device list has " all " alternatives: name one by --given"
+        else if (fault == "" && choice != "" && (choice < 1 || choice > all))
+            fault = "ubtool: no alternative " choice ": the device list has " all
         if (fault == "")
-            listing(commands, size)
+            listing(commands, size, choice == "" ? 0 : choice - 1)
         else
             print fault
         print "status " (fault == "" ? 0 : 1)
