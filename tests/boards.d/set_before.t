@@ -4,10 +4,10 @@ What the C code of boards sets, as share/boards/set_before has it.
 
   $ grep -v '^#' "$repository/share/boards/set_before" >lines
 
-each line has a board of the list, a file of C and a variable
+each line has a board of the list, a file of C and a variable, which has a value or is as the environment has it
   $ cut -d ' ' -f 1 lines | grep -vxFf "$repository/tools/boards.list"
   [1]
-  $ grep -vE '^[^ ]+ [a-z0-9_/-]+\.c [a-z_]+=[^ ]' lines
+  $ grep -vE '^[^ ]+ [a-z0-9_/-]+\.c [a-z_]+=([^ ]| # )' lines
   [1]
 
 the texts of a board read the variable, or it is one that U-Boot runs
@@ -21,3 +21,10 @@ the texts of a board read the variable, or it is one that U-Boot runs
   0
   4
   1
+
+each list of a board is read, and begins with what the file has of the board: given, or left out
+  $ for file in "$repository"/share/boards/*.given; do "$UBTOOL" endings --script /dev/null -d "$file" >said 2>&1 || cat said; done
+  $ for file in "$repository"/share/boards/*.given; do
+  >     board=$(basename "$file" .given); sed -n 's/^given \([^=]*\)=.*/\1/p; s/^# Left out: \([^=]*\)=.*/\1/p' "$file" >names
+  >     awk -v board="$board" '$1 == board { sub(/=.*/, "", $3); print $3 }' lines | cmp - names || echo "$board"
+  > done

@@ -7,8 +7,8 @@ Pages in Chromium, at the widths of a telephone and of a desk, light and dark. W
   $ share=$repository/share; . "$repository/tools/lib"
   $ report() { "$repository/tools/report" "$@"; }
   $ for board in rpi_4 warp7; do joined_lists "$share/boards/$board.given" "$share"/devices/* >$board.devices; done
-  $ marked report --text "$share/boards/rpi_4.env" -d rpi_4.devices --shell old-2023.01 --failures 3 -o rpi_4.html
-  $ marked report --text "$share/boards/warp7.env" -d warp7.devices -o warp7.html
+  $ marked report --text "$share/boards/rpi_4.env" -d rpi_4.devices --given 1 --shell old-2023.01 --failures 3 -o rpi_4.html
+  $ marked report --text "$share/boards/warp7.env" -d warp7.devices --given 1 -o warp7.html
   $ mkdir fleet; cp "$share/boards/warp7.env" "$share/boards/sheevaplug.env" fleet; echo x >fleet/none.env
   $ printf 'bootcmd=load %0300d || reset; %0300d\n' 7 8 >fleet/long.env
   $ marked report --text fleet -d "$share/devices" --shell old-2023.01 -o fleet.html

@@ -9,7 +9,7 @@ What the pages of tools/report say, of real boards and of made ones.
   $ for board in rpi_4 warp7; do joined_lists "$share/boards/$board.given" "$share"/devices/* >$board.devices; done
 
 rpi_4: whatever two things fail
-  $ marked report --text "$share/boards/rpi_4.env" -d rpi_4.devices --shell old-2023.01 -o rpi_4.html
+  $ marked report --text "$share/boards/rpi_4.env" -d rpi_4.devices --given 1 --shell old-2023.01 -o rpi_4.html
   $ by_part rpi_4.html verdict
   Boots, whatever two things fail.
   If nothing fails, the script calls 5 commands that can fail, and boots if any one of them does.
@@ -21,13 +21,18 @@ rpi_4: whatever two things fail
   test -e mmc 0:1 /extlinux/extlinux.conf
   sysboot mmc 0:1 any 0x02400000 /extlinux/extlinux.conf
 
-warp7: not at all, unless something fails
-  $ marked report --text "$share/boards/warp7.env" -d warp7.devices --shell old-2023.01 -o warp7.html
+warp7, a closed chip: not at all, unless something fails
+  $ marked report --text "$share/boards/warp7.env" -d warp7.devices --given 2 --shell old-2023.01 -o warp7.html
   $ by_part warp7.html verdict
   Does not boot, though nothing fails.
   If every command succeeds, it ends at U-Boot's prompt (end 0).
   It boots only if something fails, for example:
   load mmc 0:1 0x83200000 boot.scr.imx-signed
+
+an alternative has to be named
+  $ marked report --text "$share/boards/warp7.env" -d warp7.devices --shell old-2023.01 -o none.html
+  ! report: ubtool: the device list has 2 alternatives: name one by --given
+  [1]
 
 its pictures
   $ grep -c '<svg' warp7.html
@@ -37,8 +42,6 @@ what is not seen of it
   $ by_part warp7.html limits
   What is not seen
   This page tells what the script does, by the lists and the environment that it was given. It does not know the board.
-  Variables that nothing sets. The texts read them, and neither the environment nor a text sets them, so here they are empty. U-Boot's own code may set them before the script runs.
-  hab_enabled
   What is handed over. What these run, or set, is in a file that this page does not have. A script that source runs has a page of its own by --script.
   source 0x83200000:bootscr
   Questions answered both ways. In some run with few failures, one of these is asked again and answered otherwise. If the board cannot do that, say steady of the command in the list, or take --steady.

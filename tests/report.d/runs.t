@@ -5,7 +5,7 @@ by the flow, are those of the cause.
 
   $ share=$repository/share; . "$repository/tools/lib"; printf 'true\n' >start.cmd
   $ by_runs() {
-  >     ubtool rehearse "${board[@]:0:4}" "${board[@]: -2}" --script start.cmd >start
+  >     ubtool rehearse "${board[@]:0:6}" "${board[@]: -2}" --script start.cmd >start
   >     ubtool causes "${board[@]}" --failures "$1" >causes
   >     ubtool rehearse "${board[@]}" --failures "$1" --devices 1000 --steps 1000000 >listing
   >     awk -f "$repository/tools/report.d/runs.awk" part=start start part=causes causes part=runs listing >runs
@@ -34,40 +34,40 @@ by the flow, are those of the cause.
 
 warp7, by the rules of its shell and by ubtool's own
   $ joined_lists "$share/boards/warp7.given" "$share"/devices/* >devices
-  $ board=(--text "$share/boards/warp7.env" -d devices --shell old-2023.01); ubtool endings "${board[@]}" --flow >flow; by_runs 3
+  $ board=(--text "$share/boards/warp7.env" -d devices --given 1 --shell old-2023.01); ubtool endings "${board[@]}" --flow >flow; by_runs 3
   7
-  $ board=(--text "$share/boards/warp7.env" -d devices --shell profile); ubtool endings "${board[@]}" --flow >flow; by_runs 3
+  $ board=(--text "$share/boards/warp7.env" -d devices --given 1 --shell profile); ubtool endings "${board[@]}" --flow >flow; by_runs 3
   5
 
 the same, each question with one answer
-  $ board=(--text "$share/boards/warp7.env" -d devices --steady --shell profile); ubtool endings "${board[@]}" --flow >flow; by_runs 3
+  $ board=(--text "$share/boards/warp7.env" -d devices --given 1 --steady --shell profile); ubtool endings "${board[@]}" --flow >flow; by_runs 3
   5
 
 rpi_4
   $ joined_lists "$share/boards/rpi_4.given" "$share"/devices/* >devices
-  $ board=(--text "$share/boards/rpi_4.env" -d devices --shell old-2023.01); ubtool endings "${board[@]}" --flow >flow; by_runs 2
+  $ board=(--text "$share/boards/rpi_4.env" -d devices --given 1 --shell old-2023.01); ubtool endings "${board[@]}" --flow >flow; by_runs 2
   5
 
 am335x_evm
   $ joined_lists "$share/boards/am335x_evm.given" "$share"/devices/* >devices
-  $ board=(--text "$share/boards/am335x_evm.env" -d devices --shell old-2023.01); ubtool endings "${board[@]}" --flow >flow; by_runs 2
+  $ board=(--text "$share/boards/am335x_evm.env" -d devices --given 1 --shell old-2023.01); ubtool endings "${board[@]}" --flow >flow; by_runs 2
   5
 
 two slots of an update service
   $ cat "$share"/devices/* >devices; printf 'kernel_addr_r=0x80000\n' >slots.env
-  $ board=(--text slots.env -d devices --script "$repository/tests/compare_boards.d/two_slots" --shell old-2025.01)
+  $ board=(--text slots.env -d devices --given 1 --script "$repository/tests/compare_boards.d/two_slots" --shell old-2025.01)
   $ ubtool endings "${board[@]}" --flow >flow; by_runs 3
   2
 
 commands that are asked twice, steady and not, and calls that always fail
   $ printf 'load\nsteady probe\ncall dhcp a : always 1\ndhcp\nfinal boot\n' >devices
   $ printf 'bootcmd=probe x || probe x || dhcp a; load a || load a && load b && boot; probe x; dhcp b && boot; load b\n' >asked.env
-  $ board=(--text asked.env -d devices --shell profile); ubtool endings "${board[@]}" --flow >flow; by_runs 3
+  $ board=(--text asked.env -d devices --given 1 --shell profile); ubtool endings "${board[@]}" --flow >flow; by_runs 3
   11
 
 a run in which more fails, before the run of a cause, which ends as it does
   $ printf 'load\n' >devices
   $ { printf 'bootcmd=load x || setenv f 1; load y || setenv g 1; load x || setenv h 1; '
   >     echo 'if test "$f" = 1; then false; elif test "$g$h" = 11; then false; else true; fi'; } >more.env
-  $ board=(--text more.env -d devices --shell profile); ubtool endings "${board[@]}" --flow >flow; by_runs 3
+  $ board=(--text more.env -d devices --given 1 --shell profile); ubtool endings "${board[@]}" --flow >flow; by_runs 3
   2
