@@ -5,6 +5,7 @@ mod LargeExamples
 mod ExecutionExamples
 mod BootingExamples
 mod SteadyExamples
+mod NeedsExamples
 mod ResumingExamples
 mod PlainExecutionExamples
 mod ListedExamples
