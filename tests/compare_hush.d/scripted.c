@@ -58,13 +58,14 @@ enum {
 
 /*
  * A line of the device list. A setting is a name and, behind its end, a value. A `call` line has the words of its
- * pattern behind the name, and what its calls always come to, `0` or `1`, if it says so.
+ * pattern behind the name, and what its calls always come to, `0` or `1`, and the name and the first word of the call that
+ * they need, if it says so.
  */
 struct device_line {
 	/* how a success ends the run, and a space; NULL if it does not */
 	const char *ends;
 	bool steady, call;
-	char always, *name, *sub, *pattern[MOST_WORDS + 1], *settings[MOST_WORDS + 1];
+	char always, *needs, *needs_word, *name, *sub, *pattern[MOST_WORDS + 1], *settings[MOST_WORDS + 1];
 };
 
 static char outcomes[LONGEST_WORD + 1];
@@ -206,20 +207,40 @@ static void end_run(const char *how, const char *status)
 	os_exit(0);
 }
 
-/* The answer in an earlier line of the record with the words of its last, which begins at `start`; 0 if there is none. */
-static char earlier_answer(int start)
+/*
+ * Where the record goes on behind the first call that succeeded of those that a line needs; 0 if it needs none, and -1 if none
+ * has succeeded.
+ */
+static int met_at(const struct device_line *line)
 {
-	int at;
+	char wanted[LARGEST_TEXT];
+	int at, size;
 
-	for (at = 0; at < start; at++)
+	if (!line->needs)
+		return 0;
+	size = snprintf(wanted, sizeof(wanted), "dev 0 %s%s%s", line->needs, line->needs_word ? " " : "",
+			line->needs_word ? line->needs_word : "");
+	for (at = 0; at + size < record_size; at++)
+		if ((!at || record[at - 1] == '\n') && !memcmp(record + at, wanted, size) && strchr(" \n", record[at + size]))
+			return at + size;
+	return -1;
+}
+
+/* The answer in a line of the record from `at` on with the words of its last, which begins at `start`; 0 if there is none. */
+static char earlier_answer(int at, int start)
+{
+	for (; at < start; at++)
 		if ((!at || record[at - 1] == '\n') &&
 		    !memcmp(record + at + 5, record + start + 5, record_size - start - 5))
 			return record[at + 4];
 	return 0;
 }
 
-/* Answers a command: by `answer`, unless that is 0, or else by the next digit of the word. */
-static int ask(int argc, char *const argv[], bool steady, char answer)
+/*
+ * Answers a command: by `answer`, unless that is 0, or else, if it is steady, as it was answered behind `from` in the record, or by
+ * the next digit of the word.
+ */
+static int ask(int argc, char *const argv[], bool steady, int from, char answer)
 {
 	int start = record_size, i;
 
@@ -232,7 +253,7 @@ static int ask(int argc, char *const argv[], bool steady, char answer)
 	}
 	add("\n");
 	if (steady && !answer)
-		answer = earlier_answer(start);
+		answer = earlier_answer(from, start);
 	if (!answer) {
 		if (!outcomes[asked]) {
 			outcomes[asked] = '0';
@@ -246,7 +267,7 @@ static int ask(int argc, char *const argv[], bool steady, char answer)
 
 static int do_device(struct cmd_tbl *cmdtp, int flag, int argc, char *const argv[])
 {
-	return ask(argc, argv, false, 0);
+	return ask(argc, argv, false, 0, 0);
 }
 
 /* In the place of file_exists, for `test -e`. */
@@ -254,7 +275,7 @@ int scripted_exists(const char *interface, const char *part, const char *path, i
 {
 	char *const words[] = { "test", "-e", (char *)interface, (char *)part, (char *)path };
 
-	return !ask(5, words, false, 0);
+	return !ask(5, words, false, 0, 0);
 }
 
 /* In the place of puts and putc, in `echo`. */
@@ -346,7 +367,9 @@ static int do_listed(struct cmd_tbl *cmdtp, int flag, int argc, char *const argv
 	const struct device_line *line = call_line(argc, argv);
 
 	if (line) {
-		if (ask(argc, argv, line->steady, line->always))
+		int met = met_at(line);
+
+		if (met < 0 ? ask(argc, argv, false, 0, '1') : ask(argc, argv, line->steady, met, line->always))
 			return 1;
 		set_by_line(line, argc, argv);
 		if (line->ends)
@@ -365,7 +388,7 @@ static int do_listed(struct cmd_tbl *cmdtp, int flag, int argc, char *const argv
 	}
 	if (!known)
 		end_run("stop unknown ", argv[0]);
-	if (ask(argc, argv, steady, 0))
+	if (ask(argc, argv, steady, 0, 0))
 		return 1;
 	for (line = lines; line < end_of_lines; line++)
 		if (speaks(line, sub, argc, argv))
@@ -497,6 +520,12 @@ static const char *ending_of(const char *word)
 	return strcmp(word, "halt") ? NULL : "halted ";
 }
 
+/* Whether a word behind `needs NAME` is no word of the call that is needed. */
+static bool begins_clause(const char *word)
+{
+	return ending_of(word) || !strcmp(word, "steady") || !strcmp(word, "always") || strchr(word, '=');
+}
+
 /* Reads the words of a `call` line: its name and pattern, `:`, and what it says of these calls. */
 static void read_call(struct device_line *line, char **at)
 {
@@ -513,6 +542,11 @@ static void read_call(struct device_line *line, char **at)
 			line->steady = true;
 		else if (!strcmp(*at, "always"))
 			line->always = **++at;
+		else if (!strcmp(*at, "needs")) {
+			line->needs = *++at;
+			if (at[1] && !begins_clause(at[1]))
+				line->needs_word = *++at;
+		}
 		else
 			keep_setting(line, *at);
 	}

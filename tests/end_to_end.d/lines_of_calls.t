@@ -52,6 +52,62 @@ a call that always succeeds, and one that the name decides
   end 1
   done
 
+a boot that needs a load
+  $ runs 'load mmc 0; bootz' load 'call bootz ** : needs load final'
+  run 00
+  dev 0 load mmc 0
+  dev 0 bootz
+  unset fdtaddr
+  unset p
+  booted bootz
+  run 01
+  dev 0 load mmc 0
+  dev 1 bootz
+  unset fdtaddr
+  unset p
+  end 1
+  run 1
+  dev 1 load mmc 0
+  dev 1 bootz
+  unset fdtaddr
+  unset p
+  end 1
+  done
+
+one that needs a load from USB
+  $ runs 'load mmc 0; bootz' load 'call bootz ** : needs load usb final'
+  run 0
+  dev 0 load mmc 0
+  dev 1 bootz
+  unset fdtaddr
+  unset p
+  end 1
+  run 1
+  dev 1 load mmc 0
+  dev 1 bootz
+  unset fdtaddr
+  unset p
+  end 1
+  done
+
+a need that is not met is no failure
+  $ printf 'bootcmd=bootz || load a; bootz\n' >env.txt; printf '%s\n' load 'call bootz ** : needs load final' >list
+  $ ubtool rehearse --text env.txt -d list --failures 0
+  run 00
+  dev 1 bootz
+  dev 0 load a
+  dev 0 bootz
+  booted bootz
+  done
+
+states are told apart by it
+  $ printf 'bootcmd=load a || load b; bootz\n' >env.txt
+  $ ubtool endings --text env.txt -d list
+  ends 2 first 00 fewest 0 00 booted bootz
+  ends 3 first 01 fewest 1 01 end 1
+  fails bootz
+  all 5 states 3
+
 a command that the board does not have
   $ runs 'part list; echo $?' 'absent part'
   run .
@@ -159,9 +215,16 @@ values with blanks
 
 bad lines
   $ for line in 'mmc dev' ': final' 'm* : final' 'mmc ** dev : final' 'mmc : always 2' 'mmc : final final' "mmc : a='b" \
+  >     'mmc : needs' 'mmc : needs final' 'mmc : needs mmc 0 0' 'mmc : needs a*' 'mmc : needs echo' 'mmc : needs a needs a' \
   >     "'mmc' :" "mmc : 'a'=b"; do
   >     runs true "call $line"
   > done
+  ! ubtool: device list line 1: bad line
+  ! ubtool: device list line 1: bad line
+  ! ubtool: device list line 1: bad line
+  ! ubtool: device list line 1: bad line
+  ! ubtool: device list line 1: bad line
+  ! ubtool: device list line 1: bad line
   ! ubtool: device list line 1: bad line
   ! ubtool: device list line 1: bad line
   ! ubtool: device list line 1: bad line

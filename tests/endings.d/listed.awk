@@ -1,6 +1,6 @@
 # Of the listing on standard input, each run's word, device commands, variables and last line; the first file is the device list.
 # A command that this calls steady is here once a run: its answer is told again after that, which is no choice. Nor is a call that
-# always comes to the same, which is not here.
+# always comes to the same, which is not here, and one that fails since no call that it needs has succeeded.
 # fits: whether the words of a line `dev` are those of a pattern.
 function fits(pattern,   parts, count, i) {
     count = split(pattern, parts, " ")
@@ -16,9 +16,16 @@ function always(   i) {
     for (i = 1; i <= calls; i++) if (fits(pattern[i])) return constant[i]
     return 0
 }
+# lacks: whether the first line `call` that fits needs a call that has not succeeded.
+function lacks(   i) {
+    for (i = 1; i <= calls; i++) if (fits(pattern[i])) return need[i] != "" && !(need[i] in succeeded)
+    return 0
+}
 NR == FNR && $1 == "absent" { $0 = "call " $2 " ** : always 1" }
 NR == FNR && $1 == "call" {
     constant[++calls] = /: .*always [01]/
+    for (i = NF; i > 0 && $i != ":"; i--)
+        if ($i == "needs") need[calls] = $(i + 1) ($(i + 2) ~ /^$|^(final|restart|halt|steady|always)$|=/ ? "" : " " $(i + 2))
     sub(/^call /, "")
     sub(/ *: .*| *:$/, "")
     pattern[calls] = $0
@@ -30,7 +37,9 @@ NR == FNR {
     steady[call] = first == 2
 }
 NR == FNR { next }
-/^run / { split("", answered) }
+/^run / { split("", answered); split("", succeeded) }
+/^dev / && lacks() { next }
+/^dev 0 / { succeeded[$3] = succeeded[$3 " " $4] = 1 }
 /^dev / && always() { next }
 /^dev / && steady[$3 " " $4 in steady ? $3 " " $4 : $3] {
     call = substr($0, 7)

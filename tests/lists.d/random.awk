@@ -52,7 +52,8 @@ function pattern(    text, left) {
 
 function clauses(    text, left) {
     for (left = int(rand() * 3); left > 0; left--)
-        text = text " " (chance(50) ? setting(2) : one_of("final restart halt steady always always" (chance(2) ? " known" : "")))
+        text = text " " (chance(50) ? setting(2) : one_of("final restart halt steady always always needs needs needs" (chance(2) ? " known" : "")))
+    gsub(/needs/, "needs " (chance(97) ? one_of("load mmc") : "") (chance(60) ? " " one_of("0 1 ab abc" (chance(3) ? " a* :" : "")) : ""), text)
     gsub(/always/, "always " int(rand() * 2 + (chance(2) ? 1 : 0)), text)
     return text
 }

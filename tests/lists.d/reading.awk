@@ -57,8 +57,13 @@ function setting(word, called,    at, left, value) {
 
 # ---- the lines
 
+# whether a word may stand behind `needs`
+function is_plain(word) {
+    return word !~ /^(final|restart|halt|steady|always|needs|normal|:)$/ && word !~ /[*=]/ && !index(word, quote)
+}
+
 # the fault of a line of calls, or none; the line goes behind those of its name
-function read_call(words, from, many,    at, colon, fixed, name, word, set, waits, final, stays, always, sets) {
+function read_call(words, from, many,    at, colon, fixed, name, word, set, waits, final, stays, always, needs, needing, sets) {
     for (colon = from; colon <= many && words[colon] != ":"; colon++) { }
     if (colon > many || colon == from)
         return "bad line"
@@ -77,12 +82,29 @@ function read_call(words, from, many,    at, colon, fixed, name, word, set, wait
                 return "bad line"
             always = word
             waits = 0
-        } else if (word in finishes && final == "")
+            continue
+        }
+        if (needing == "name") {
+            if (!is_plain(word) || word in built_in)
+                return "bad line"
+            needs = word
+            needing = "word"
+            continue
+        }
+        if (needing == "word" && is_plain(word)) {
+            needs = needs " " word
+            needing = ""
+            continue
+        }
+        needing = ""
+        if (word in finishes && final == "")
             final = finishes[word]
         else if (word == "steady" && !stays)
             stays = 1
         else if (word == "always" && always == "")
             waits = 1
+        else if (word == "needs" && needs == "")
+            needing = "name"
         else {
             set = setting(word, 2)
             if (set == "")
@@ -90,12 +112,12 @@ function read_call(words, from, many,    at, colon, fixed, name, word, set, wait
             sets = sets set "\n"
         }
     }
-    if (waits || index(name, "*"))
+    if (waits || needing == "name" || index(name, "*"))
         return "bad line"
     if (name in built_in)
         return "built-in command"
     call_pattern[name, ++calls[name]] = fixed
-    call_effect[name, calls[name]] = final "\n" (stays + 0) "\n" always "\n" sets
+    call_effect[name, calls[name]] = final "\n" (stays + 0) "\n" always "\n" needs "\n" sets
     return ""
 }
 
@@ -220,7 +242,7 @@ function fits(pattern, words, many,    parts, count, at, part) {
     return many == count + 1
 }
 
-# what the list says of a call: how it ends the run, steady, always and the settings in lines; or none
+# what the list says of a call: how it ends the run, steady, always, needs and the settings in lines; or none
 function effect_of(words, many,    name, at, key) {
     name = words[1]
     for (at = 1; at <= calls[name]; at++)
@@ -229,7 +251,7 @@ function effect_of(words, many,    name, at, key) {
     key = name SUBSEP (many > 1 ? words[2] : "")
     if (!(key in is_there))
         key = name SUBSEP ""
-    return key in is_there ? is_final[key] "\n" is_steady[key] + 0 "\n\n" all_sets[key] : ""
+    return key in is_there ? is_final[key] "\n" is_steady[key] + 0 "\n\n\n" all_sets[key] : ""
 }
 
 # the word of a call that `@..` means, with an `=` in front; or none
@@ -253,7 +275,7 @@ function set_all(parts, from, count, words, many,    at, sides, name, value) {
 # ---- runs
 
 # does one command of the run
-function perform(command,    words, many, effect, parts, size, stays, answer, key) {
+function perform(command,    words, many, effect, parts, size, met, stays, answer, key) {
     many = cut(command, 0, words)
     if (!many)
         return
@@ -266,7 +288,7 @@ function perform(command,    words, many, effect, parts, size, stays, answer, ke
         status = 0
         return
     }
-    effect = words[1] == "test" ? "\n" test_stays + 0 "\n\n" : effect_of(words, many)
+    effect = words[1] == "test" ? "\n" test_stays + 0 "\n\n\n" : effect_of(words, many)
     if (effect == "") {
         ending = "stop unknown " words[1]
         return
@@ -275,8 +297,11 @@ function perform(command,    words, many, effect, parts, size, stays, answer, ke
     key = command
     gsub(/^[ \t]+|[ \t]+$/, "", key)
     gsub(/[ \t]+/, " ", key)
-    stays = (steady || parts[2]) && parts[3] == ""
-    if (parts[3] != "")
+    met = parts[4] == "" || parts[4] in succeeded
+    stays = (steady || parts[2]) && parts[3] == "" && met
+    if (!met)
+        answer = "1"
+    else if (parts[3] != "")
         answer = parts[3]
     else if (stays && key in answers)
         answer = answers[key]
@@ -290,7 +315,8 @@ function perform(command,    words, many, effect, parts, size, stays, answer, ke
     status = answer + 0
     text = text "dev " answer " " key "\n"
     if (answer == "0") {
-        set_all(parts, 4, size, words, many)
+        succeeded[words[1]] = succeeded[words[1] " " words[2]] = 1
+        set_all(parts, 5, size, words, many)
         if (parts[1] != "")
             ending = parts[1] " " words[1]
     }
@@ -311,6 +337,7 @@ function begin_with(place,    at, name) {
 function run(commands, count, place,    at, size, parts, part, first) {
     begin_with(place)
     split("", answers)
+    split("", succeeded)
     text = ""
     status = 0
     taken = 0
