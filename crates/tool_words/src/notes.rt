@@ -162,8 +162,8 @@ rehearse lists them. Runs that leave another value of a NAME of the call are
 another ending, and each NAME has a line var or unset, in the order of the call;
 with --flow a NAME has no effect. The lines fails are the commands that fail in
 the run of the second WORD, in its order, one for each failure. With --steady
-they are facts of the board, each once. A state is what variables, status,
-answers and script are when a device command asks; each is gone through once.
+they are facts of the board, each once. A state is where a device command asks,
+with what is read from there before it is set; each is gone through once.
 
 With --flow a line for each state and for each way to end is written instead.
 Numbers count from 1, where a run begins, and a word leads from line to line:
