@@ -2,7 +2,7 @@
 use Rattle.std.proofs.Common.{ℕ, Bool, true, false, [], ◌∷◌, List, Some, codes, refl, ◌≡◌, None}
 use Rattle.std.specs.Prelude.{option_map}
 use Rattle.std.specs.Fmt.{digits}
-use Rattle.device_list.specs.declared.finish.BoardEnd.TheVariants.{Boots, Restarts}
+use Rattle.device_list.specs.declared.finish.BoardEnd.TheVariants.{Boots, Restarts, Halts}
 use Rattle.hushlang.specs.Expansion.{fields, joined, atoms}
 use Rattle.hushlang.specs.Trees.{tree_of}
 use Rattle.device_list.specs.DeviceLaws.{quiet}
@@ -43,6 +43,14 @@ restarting = record (bootcmd (limits (only ((codes "load", quiet) ∷ (codes "re
 a_restart_is_no_boot : checked_of restarting ≡ (codes "cause 1 restarted reset\nfails boot\ncause 1 restarted reset\nfails load\n", false)
 unfolding tree_of fields joined atoms digits
 a_restart_is_no_boot = refl
+
+-- nor does one that halts
+abbrev halting : Task
+halting = record (bootcmd (limits (only ((codes "load", quiet) ∷ (codes "poweroff", record quiet { ends = Some Halts }) ∷ (codes "boot", record quiet { ends = Some Boots }) ∷ [])) 4 20) (codes "load && boot; poweroff")) { failures = Some 1 }
+
+a_halt_is_no_boot : checked_of halting ≡ (codes "cause 1 halted poweroff\nfails boot\ncause 1 halted poweroff\nfails load\n", false)
+unfolding tree_of fields joined atoms digits
+a_halt_is_no_boot = refl
 
 -- two ways to one ending
 two_ways : lines 2 (codes "load a || load b || exit 3; load c || exit 3; boot") ≡ codes "cause 0 booted boot\ncause 1 end 1\nfails boot\ncause 1 end 3\nfails load c\ncause 2 end 3\nfails load a\nfails load b\n"
