@@ -97,6 +97,7 @@ a need that is not met is no failure
   dev 1 bootz
   dev 0 load a
   dev 0 bootz
+  var bootcmd=bootz || load a; bootz
   booted bootz
   done
 
