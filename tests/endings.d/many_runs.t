@@ -43,9 +43,10 @@ more device commands than a run may have
   1
   cut devices
 
-States that do not merge: each of so many commands sets a variable to what it answered.
+States that do not merge: each of so many commands sets a variable to what it answered, and the last command reads them all.
 
-  $ spreading() { { printf 'bootcmd=' && for it in $(seq "$1"); do printf 'if load; then setenv v%d 0; else setenv v%d 1; fi;' $it $it; done && echo; } | lines_image spreading; }
+  $ each() { for it in $(seq "$2"); do printf "$1" "$it" "$it"; done; }
+  $ spreading() { { printf 'bootcmd=' && each 'if load; then setenv v%d 0; else setenv v%d 1; fi;' "$1" && printf 'test ' && each '$v%d%.0s' "$1" && echo ' = 1'; } | lines_image spreading; }
 
 as many states as runs
   $ spreading 14; ubtool endings -c spreading.config -d devices | tail -n 1
@@ -70,3 +71,19 @@ a million states in 32 MiB
   $ (ulimit -v 32768; ubtool endings -c spreading.config -d devices)
   ! ubtool: out of memory
   [1]
+
+The same variables, if nobody reads them, make no state.
+
+  $ { printf 'bootcmd=' && each 'if load; then setenv v%d 0; else setenv v%d 1; fi;' 14 && echo; } | lines_image unread
+  $ ubtool endings -c unread.config -d devices | sed 's/ first .* / /'
+  ends 16384 0
+  all 16384 states 14
+
+a variable that is asked for is read at the end
+  $ ubtool endings -c unread.config -d devices v14 | sed 's/ first .* / /'
+  ends 8192 0
+  var v14=0
+  ends 8192 0
+  var v14=1
+  fails load
+  all 16384 states 14
