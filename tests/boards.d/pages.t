@@ -63,11 +63,12 @@ of what the board sets
   3
   $ cmp found shown
 
-the states with steady test
+the states with steady test, and with one answer for each question
   $ { cat devices.txt && echo 'steady test'; } >steady_test.txt
-  $ ubtool endings -c rpi_4.config -d steady_test.txt --states 20000
-  ! ubtool: more states than allowed
-  [1]
+  $ ubtool endings -c rpi_4.config -d steady_test.txt | tail -n 1
+  all 368690717019746585773812990 states 142
+  $ ubtool endings -c rpi_4.config -d devices.txt --steady | tail -n 1
+  all 796310595593939263870 states 1230
 
 the call by a shell
   $ cp rpi_4.config fw_env.config

@@ -32,7 +32,7 @@ endings in the order of their first runs
   ends 4 first 0011 fewest 2 0011 end 0
   fails bootm 20
   fails sleep 1
-  all 12 states 9
+  all 12 states 6
 
 endings of runs that meet the device bound
   $ ubtool endings -c flow.config -d devices -b q --devices 2
@@ -52,14 +52,14 @@ a variable that is not set has no endings
   [1]
 
 as many states as are allowed
-  $ ubtool endings -c flow.config -d devices -b load --states 3
+  $ ubtool endings -c flow.config -d devices -b load --states 2
   ends 2 first 00 fewest 0 00 end 0
   ends 2 first 01 fewest 1 01 end 1
   fails test -e mmc 0:1 /x
-  all 4 states 3
+  all 4 states 2
 
 one state more than allowed
-  $ ubtool endings -c flow.config -d devices -b load --states 2
+  $ ubtool endings -c flow.config -d devices -b load --states 1
   ! ubtool: more states than allowed
   [1]
 
@@ -107,7 +107,7 @@ the values that are left
   fails load mmc
   fails bootm
   fails sleep 1
-  all 12 states 9
+  all 12 states 7
 
 another value
   $ script values 'bootcmd=load a && setenv v "x  y"; load b; true' 'two=if load a; then setenv v 1; else setenv v; fi; true' v=0
@@ -122,7 +122,7 @@ another value
 one ending, in which nothing has to fail
   $ ubtool endings -c values.config -d devices
   ends 4 first 00 fewest 0 00 end 0
-  all 4 states 3
+  all 4 states 2
 
 a value that is no value
   $ ubtool endings -c values.config -d devices -b two v v

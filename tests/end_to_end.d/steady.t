@@ -34,7 +34,7 @@ the same without it
   ends 4 first 000 fewest 0 000 end 0
   ends 4 first 001 fewest 1 001 end 1
   fails load a
-  all 8 states 5
+  all 8 states 3
 
 its pages
   $ ubtool rehearse -c steady.config -d devices --steady --limit 1 z

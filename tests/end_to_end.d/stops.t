@@ -108,7 +108,7 @@ the calls with a first word alone, and lines of calls
   ends 2 first 011 fewest 2 011 end 1
   fails mmc boot
   fails usb reset
-  all 6 states 4
+  all 6 states 3
 
 of two lines the first that says how
   $ printf 'reset\nhalt reset\nrestart reset\n' >twice
