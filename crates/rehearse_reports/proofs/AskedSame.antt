@@ -1,5 +1,5 @@
 -- With the same frames, and the same words, the same device command asks.
-use Rattle.std.proofs.Common.{◌≡◌, ◌∙◌, refl, sym, ap, subst, ℕ, Bool, true, false, List, [], ◌∷◌, length, Option, Some, None, nat_lt, nat_le, if◌then◌else◌}
+use Rattle.std.proofs.Common.{◌≡◌, ◌∙◌, refl, sym, ap, subst, ℕ, Bool, true, false, List, [], ◌∷◌, length, Option, Some, None, nat_eq, nat_lt, nat_le, if◌then◌else◌}
 use Rattle.device_list.specs.declared.finish.BoardEnd.{BoardEnd}
 use Rattle.device_list.specs.Called.{Called, BuiltIn, NoCommand, Device, called_by, sets_in}
 use Rattle.commands.specs.BuiltInCommands.{ChangesVariables, WritesText, RunsTexts, Tests, Exits}
@@ -38,9 +38,13 @@ AskSame (GoOn ps s) b = Unit {0}
 AskSame (AskOn r ps s) b = AsksFor r b
 AskSame (StopOn ending s) b = Unit {0}
 
+gone_on : (zero : Bool) (run below : List RunningFrame) (s : State) (b : PlaceNext) → AskSame (elim zero [ true ↦ GoOn run s | false ↦ GoOn below s ]) b
+gone_on true run below s b = tt
+gone_on false run below s b = tt
+
 left_same : (ps : List RunningFrame) (s : State) (b : PlaceNext) → AskSame (left ps s) b
 left_same [] s b = tt
-left_same (p ∷ ps) s b = tt
+left_same (p ∷ ps) s b = gone_on (nat_eq s.memory.status 0) (p ∷ ps) ps s b
 
 exit_same : (o : Option ℕ) (other : ℕ) (ps : List RunningFrame) (s : State) (b : PlaceNext) → AskSame (place_exit o other ps s) b
 exit_same None other ps s b = tt
