@@ -11,16 +11,17 @@ More runs than can be listed: so many commands in a row, which end with the stat
   ends 633825300114114700748351602688 first ZEROS0 fewest 0 ZEROS0 end 0
   ends 633825300114114700748351602688 first ZEROS1 fewest 1 ZEROS1 end 1
   fails load
-  all 1267650600228229401496703205376 states 199
+  all 1267650600228229401496703205376 states 100
 
 the flow of 2^100 runs
   $ ubtool endings -c row.config -d devices --flow >flow
-  $ sed -n '1,3p; 200,$p' flow
-  1 ask load success 3 failure 2
-  2 ask load success 5 failure 4
-  3 ask load success 5 failure 4
-  200 ends end 1
-  201 ends end 0
+  $ sed -n '1,3p; 100,$p' flow
+  1 ask load success 2 failure 2
+  2 ask load success 3 failure 3
+  3 ask load success 4 failure 4
+  100 ask load success 102 failure 101
+  101 ends end 1
+  102 ends end 0
 
 2^128 runs
   $ row 128; ubtool endings -c row.config -d devices | sed 's/ first .*/ first/; s/ states .*//'
@@ -34,7 +35,7 @@ the flow of 2^100 runs
   ends >=340282366920938463463374607431768211455 first 0 fewest 0 0 end 0
   ends >=340282366920938463463374607431768211455 first 1 fewest 1 1 end 1
   fails load
-  all >=340282366920938463463374607431768211455 states 1999
+  all >=340282366920938463463374607431768211455 states 1000
 
 more device commands than a run may have
   $ row 1001; ubtool endings -c row.config -d devices >told
@@ -49,26 +50,26 @@ States that do not merge: each of so many commands sets a variable to what it an
   $ spreading() { { printf 'bootcmd=' && each 'if load; then setenv v%d 0; else setenv v%d 1; fi;' "$1" && printf 'test ' && each '$v%d%.0s' "$1" && echo ' = 1'; } | lines_image spreading; }
 
 as many states as runs
-  $ spreading 14; ubtool endings -c spreading.config -d devices | tail -n 1
-  all 16384 states 16383
+  $ spreading 11; ubtool endings -c spreading.config -d devices | tail -n 1
+  all 2048 states 2047
 
 as many states as allowed
-  $ ubtool endings -c spreading.config -d devices --states 16383 | tail -n 1
-  all 16384 states 16383
+  $ ubtool endings -c spreading.config -d devices --states 2047 | tail -n 1
+  all 2048 states 2047
 
 one state more than allowed
-  $ ubtool endings -c spreading.config -d devices --states 16382
+  $ ubtool endings -c spreading.config -d devices --states 2046
   ! ubtool: more states than allowed
   [1]
 
-a million states, of which 10,000 are allowed, in 64 MiB
+a million states, of which 1,000 are allowed, in 16 MiB
   $ spreading 20
-  $ (ulimit -v 65536; ubtool endings -c spreading.config -d devices --states 10000)
+  $ (ulimit -v 16384; ubtool endings -c spreading.config -d devices --states 1000)
   ! ubtool: more states than allowed
   [1]
 
-a million states in 32 MiB
-  $ (ulimit -v 32768; ubtool endings -c spreading.config -d devices)
+a million states in 8 MiB
+  $ (ulimit -v 8192; ubtool endings -c spreading.config -d devices)
   ! ubtool: out of memory
   [1]
 
