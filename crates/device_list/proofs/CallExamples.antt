@@ -84,7 +84,7 @@ after_the_status = refl
 
 -- a list of one line, which needs a call that begins so
 abbrev needing : Effect → List Text → Devices
-needing effect needs = record (one (codes "boot") any (record effect { needs = needs })) { needed = needs ∷ [] }
+needing effect needs = one (codes "boot") any (record effect { needs = needs })
 
 needs_a_name : listed (codes "call boot ** : needs load") ≡ Ok (needing quiet (codes "load" ∷ []))
 needs_a_name = refl
@@ -117,10 +117,10 @@ odd_needs : map (λ line. listed line) (codes "call boot : needs lo*" ∷ codes 
     ≡ Err (BadLine 1) ∷ Err (BadLine 1) ∷ Err (BadLine 1) ∷ Err (BadLine 1) ∷ Err (BadLine 1) ∷ Err (BadLine 1) ∷ Err (BadLine 1) ∷ []
 odd_needs = refl
 
--- each call that is needed is kept once
-needed_calls : elim (listed (codes "call a : needs load\ncall b : needs load mmc\ncall c :\ncall a x : needs load")) [ Ok devices ↦ devices.needed | Err fault ↦ [] ]
-    ≡ (codes "load" ∷ []) ∷ (codes "load" ∷ codes "mmc" ∷ []) ∷ []
-needed_calls = refl
+-- each line has its own
+own_needs : elim (listed (codes "call a : needs load\ncall b : needs load mmc\ncall c :\ncall a x : needs load")) [ Ok devices ↦ map (λ table. map (λ line. line.1.needs) table.1) devices.calls | Err fault ↦ [] ]
+    ≡ ((codes "load" ∷ []) ∷ (codes "load" ∷ []) ∷ []) ∷ ((codes "load" ∷ codes "mmc" ∷ []) ∷ []) ∷ ([] ∷ []) ∷ []
+own_needs = refl
 
 -- in the other lines it is a name, or no setting
 needs_elsewhere : map (λ line. listed line) (codes "needs" ∷ codes "load needs" ∷ [])
@@ -242,7 +242,6 @@ rescan = record {
   commands = (codes "mmc", quiet) ∷ [];
   subs = (codes "mmc", (codes "dev", record quiet { stays = true }) ∷ []) ∷ [];
   calls = (codes "mmc", (record { words = Exactly (codes "dev") ∷ Exactly (codes "0") ∷ []; more = false }, record quiet { always = Some true }) ∷ (record { words = Exactly (codes "dev") ∷ []; more = true }, record quiet { ends = Some Boots }) ∷ (record { words = Exactly (codes "dev") ∷ Exactly (codes "1") ∷ []; more = false }, quiet) ∷ []) ∷ [];
-  needed = [];
   known = [];
   test_stays = false;
 }
@@ -284,7 +283,6 @@ steady_lines : all_steady rescan ≡ record {
   commands = (codes "mmc", record quiet { stays = true }) ∷ [];
   subs = (codes "mmc", (codes "dev", record quiet { stays = true }) ∷ []) ∷ [];
   calls = (codes "mmc", (record { words = Exactly (codes "dev") ∷ Exactly (codes "0") ∷ []; more = false }, record quiet { always = Some true }) ∷ (record { words = Exactly (codes "dev") ∷ []; more = true }, record quiet { ends = Some Boots; stays = true }) ∷ (record { words = Exactly (codes "dev") ∷ Exactly (codes "1") ∷ []; more = false }, record quiet { stays = true }) ∷ []) ∷ [];
-  needed = [];
   known = [];
   test_stays = true;
 }

@@ -262,7 +262,7 @@ first_fault = refl
 -- ---- the calls of a command
 
 abbrev sub_list : Text → Text → Effect → Devices
-sub_list name word effect = record { commands = []; subs = (name, (word, effect) ∷ []) ∷ []; calls = []; needed = []; known = []; test_stays = false }
+sub_list name word effect = record { commands = []; subs = (name, (word, effect) ∷ []) ∷ []; calls = []; known = []; test_stays = false }
 
 sub_line : listed (codes "sub part list") ≡ Ok (sub_list (codes "part") (codes "list") quiet)
 sub_line = refl
@@ -320,7 +320,6 @@ sub_lines_joined : listed (codes "sub part list a=1\npart\nfinal sub part list b
       commands = (codes "part", quiet) ∷ [];
       subs = (codes "part", (codes "list", record { ends = Some Boots; stays = false; always = None; needs = []; sets = (Variable (codes "a"), Literal (codes "1")) ∷ (Variable (codes "b"), Literal (codes "2")) ∷ [] }) ∷ (codes "uuid", quiet) ∷ []) ∷ [];
       calls = [];
-      needed = [];
       known = [];
       test_stays = false;
     })
@@ -341,7 +340,7 @@ known_once = refl
 known_line : listed (codes "known env\nknown itest\nknown setexpr") ≡ Ok (record (only []) { known = codes "env" ∷ codes "itest" ∷ codes "setexpr" ∷ [] })
 known_line = refl
 
-known_beside_its_lines : listed (codes "env\nknown env\nsub env default") ≡ Ok (record { commands = (codes "env", quiet) ∷ []; subs = (codes "env", (codes "default", quiet) ∷ []) ∷ []; calls = []; needed = []; known = codes "env" ∷ []; test_stays = false })
+known_beside_its_lines : listed (codes "env\nknown env\nsub env default") ≡ Ok (record { commands = (codes "env", quiet) ∷ []; subs = (codes "env", (codes "default", quiet) ∷ []) ∷ []; calls = []; known = codes "env" ∷ []; test_stays = false })
 known_beside_its_lines = refl
 
 -- no other command is computed, and a `known` line has nothing behind the name
@@ -367,7 +366,7 @@ command_known_sets = refl
 -- ---- which lines decide for a call
 
 abbrev parts : Devices
-parts = record { commands = (codes "part", quiet) ∷ []; subs = (codes "part", (codes "list", final) ∷ []) ∷ (codes "mmc", (codes "dev", final) ∷ []) ∷ []; calls = []; needed = []; known = []; test_stays = false }
+parts = record { commands = (codes "part", quiet) ∷ []; subs = (codes "part", (codes "list", final) ∷ []) ∷ (codes "mmc", (codes "dev", final) ∷ []) ∷ []; calls = []; known = []; test_stays = false }
 
 by_its_sub_line : effect_of parts (codes "part") (codes "list" ∷ codes "mmc" ∷ []) ≡ Some final
 by_its_sub_line = refl

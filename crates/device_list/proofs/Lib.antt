@@ -13,6 +13,5 @@ pub mod PlaceLemmas
 pub mod QuietNames
 pub mod PlainLists
 pub mod SteadyLemmas
-pub mod NeedsLemmas
 pub mod WordLemmas
 pub mod QuoteLemmas

@@ -33,9 +33,6 @@ table_shown table = commands_shown table.entries
 abbrev pub subs_shown : {S : Type 0} → List (Bytes × IndexMap Bytes Listed S) → List (Text × Effects)
 subs_shown = map (λ c. (c.0.items, table_shown c.1))
 
-abbrev pub calls_needed : List (Vec Bytes Global) → List (List Text)
-calls_needed = map (λ n. texts n.items)
-
 -- ---- lines of calls
 
 abbrev pub clauses_shown : Clauses → calls.Clauses

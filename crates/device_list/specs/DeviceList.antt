@@ -7,7 +7,6 @@ use Rattle.text.specs.Bytes as ascii
 use Rattle.text.specs.Lines.{numbered_lines}
 use Rattle.text.specs.Words.{has_nul, is_equals, is_space, trimmed}
 use Rattle.text.specs.Lines.{Text}
-use Rattle.rehearse_terms.specs.State.{same_words}
 use Rattle.builtins.specs.Builtins.{is_built_in}
 use Rattle.commands.specs.KnownCommands.{known_of}
 use Rattle.commands.specs.Computed.{Computed, computes}
@@ -26,13 +25,11 @@ abbrev pub effect_in : Effects → Text → Option Effect
 effect_in effects name = lookup (bytes_eq name) effects
 
 -- what a list says of commands by their names, what its `sub` lines say of the calls of a name, and what its lines of calls
--- say of those that fit a pattern; how the calls begin that other calls need, each once; which commands are computed, each
--- once, and whether the answers of `test -e` stay
+-- say of those that fit a pattern; which commands are computed, each once, and whether the answers of `test -e` stay
 pub record Devices : Type 0 where
   pub commands : Effects
   pub subs : List (Text × Effects)
   pub calls : List (Text × List (Pattern × Effect))
-  pub needed : List (List Text)
   pub known : List Text
   pub test_stays : Bool
 
@@ -194,20 +191,8 @@ abbrev pub with_fitting : Call → Option (List (Pattern × Effect)) → List (P
 with_fitting call None = (call.pattern, call.effect) ∷ []
 with_fitting call (Some lines) = lines ++ (call.pattern, call.effect) ∷ []
 
--- whether a call that is needed is among these, or none is needed
-abbrev pub has_needed : (needed : List (List Text)) → (needs : List Text) → Bool
-has_needed needed [] = true
-has_needed needed (name ∷ words) = list_any (same_words (name ∷ words)) needed
-
--- it is kept once
-abbrev pub with_needs : (needed : List (List Text)) → (needs : List Text) → List (List Text)
-with_needs needed needs = if has_needed needed needs then needed else needed ++ needs ∷ []
-
 abbrev pub with_call : Devices → Call → Devices
-with_call devices call = record devices {
-  calls = changed_at (with_fitting call) devices.calls call.name;
-  needed = with_needs devices.needed call.effect.needs;
-}
+with_call devices call = record devices { calls = changed_at (with_fitting call) devices.calls call.name }
 
 abbrev pub after_call : Devices → Result Call DevicesError → Result Devices DevicesError
 after_call devices (Ok call) = Ok (with_call devices call)
@@ -263,7 +248,7 @@ listed_lines devices (l ∷ lines) =
 
 -- only commands by their names
 abbrev pub only : Effects → Devices
-only commands = record { commands = commands; subs = []; calls = []; needed = []; known = []; test_stays = false }
+only commands = record { commands = commands; subs = []; calls = []; known = []; test_stays = false }
 
 -- UTF-8's byte order mark, which some editors write in front of a text
 abbrev pub byte_order_mark : Text

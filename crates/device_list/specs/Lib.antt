@@ -11,4 +11,3 @@ pub mod PlainList
 pub mod Kinds
 pub mod DeviceListAnswers
 pub mod NamedPlaces
-pub mod NeededCalls

@@ -1,9 +1,8 @@
 //! What the lines of a device list say, by the names of the commands.
 ghost use Rattle.std.specs.Prelude.{◌≡◌, [], map, OnOk, IfOk, Some, is_some, option_map, ◌||◌};
-ghost use Rattle.device_list.specs.DeviceList.{only, changed_at, with_fitting, has_needed, with_needs, joined_in, joined_behind, joined_by, effect_at, sub_effect, call_effect, line_effect, effect_of, computed_by, with_known, is_listed, after_known, known_named, is_steady_test, line_of, heading_of};
-ghost use Rattle.device_list.specs.CommandsShown.{commands_shown, subs_shown, calls_shown, calls_needed, said_shown, listed_shown, found_shown};
+ghost use Rattle.device_list.specs.DeviceList.{only, changed_at, with_fitting, joined_in, joined_behind, joined_by, effect_at, sub_effect, call_effect, line_effect, effect_of, computed_by, with_known, is_listed, after_known, known_named, is_steady_test, line_of, heading_of};
+ghost use Rattle.device_list.specs.CommandsShown.{commands_shown, subs_shown, calls_shown, said_shown, listed_shown, found_shown};
 ghost use Rattle.std.specs.List.{list_any};
-ghost use Rattle.rehearse_terms.specs.State.{same_words};
 ghost use Rattle.std.specs.Map.{lookup};
 ghost use Rattle.std.specs.Str.{bytes_eq};
 ghost use Rattle.commands.specs.TextsShown.{texts};
@@ -20,7 +19,7 @@ use commands::{Computed, computes, known_of};
 use indexmap::IndexMap;
 use std::alloc::{AllocError, Global};
 use std::marker::Model;
-use text::{Lines, copied_words, has_nul};
+use text::{Lines, has_nul};
 
 /// Where the tables have a name, if they have it.
 #[derive(Clone, Copy)]
@@ -73,8 +72,6 @@ pub struct DeviceTables {
     subs: IndexMap<Vec<u8>, Table>,
     /// The lines of calls, by the name.
     calls: IndexMap<Vec<u8>, Vec<CallLine>>,
-    /// How the calls begin that other calls need, each once.
-    needed: Vec<Vec<Vec<u8>>>,
     /// The names of the commands that are computed, each once.
     known: Vec<Vec<u8>>,
     /// Whether the answers of `test -e` stay.
@@ -100,52 +97,6 @@ fn add_call(
     lines.push(line)?;
     let name = Vec::from_slice(alloc, name)?;
     calls.insert(name, lines)?;
-    Ok(())
-}
-
-/// Whether both are the same words.
-fn same_words(words: &[Vec<u8>], others: &[Vec<u8>]) -> bool
-    ensures { result ≡ same_words (texts words.now) (texts others.now) }
-{
-    words == others
-}
-
-/// Whether a call is among these.
-fn is_call_among(needed: &[Vec<Vec<u8>>], call: &[Vec<u8>]) -> bool
-    ensures { result ≡ list_any (same_words (texts call.now)) (calls_needed needed.now) }
-{
-    for one in needed {
-        if same_words(call, one) {
-            return true;
-        }
-    }
-    false
-}
-
-/// Whether a call that is needed is among these, or none is needed.
-fn has_needed(needed: &[Vec<Vec<u8>>], needs: &[Vec<u8>]) -> bool
-    ensures { result ≡ has_needed (calls_needed needed.now) (texts needs.now) }
-{
-    match needs {
-        [] => true,
-        [_, ..] => is_call_among(needed, needs),
-    }
-}
-
-/// Keeps a call that is needed, once. Errors: memory ran out.
-fn add_needs(
-    alloc: Global,
-    needed: &mut Vec<Vec<Vec<u8>>>,
-    needs: &[Vec<u8>],
-) -> Result<(), AllocError>
-    ensures { OnOk result (calls_needed needed.new.items
-        ≡ with_needs (calls_needed needed.old.items) (texts needs.now)) }
-{
-    if has_needed(needed, needs) {
-        return Ok(());
-    }
-    let copy = copied_words(alloc, needs)?;
-    needed.push(copy)?;
     Ok(())
 }
 
@@ -182,7 +133,7 @@ fn is_among(names: &[Vec<u8>], name: &[u8]) -> bool
 
 impl Model for DeviceTables {
     ghost use Rattle.device_list.specs.DeviceList as spec;
-    ghost use Rattle.device_list.specs.CommandsShown.{commands_shown, subs_shown, calls_shown, calls_needed};
+    ghost use Rattle.device_list.specs.CommandsShown.{commands_shown, subs_shown, calls_shown};
     ghost use Rattle.commands.specs.TextsShown.{texts};
 
     ghost Value = { spec.Devices };
@@ -191,7 +142,6 @@ impl Model for DeviceTables {
       commands = commands_shown d.commands.entries;
       subs = subs_shown d.subs.entries;
       calls = calls_shown d.calls.entries;
-      needed = calls_needed d.needed.items;
       known = texts d.known.items;
       test_stays = d.test_stays;
     } };
@@ -212,7 +162,6 @@ impl DeviceTables {
             commands: IndexMap::new(alloc),
             subs: IndexMap::new(alloc),
             calls: IndexMap::new(alloc),
-            needed: Vec::new(alloc),
             known: Vec::new(alloc),
             test_stays: false,
         }
@@ -291,13 +240,6 @@ impl DeviceTables {
             return None;
         }
         computes(known, words)
-    }
-
-    /// How the calls begin that other calls need, each once.
-    pub fn needed(&self) -> &[Vec<Vec<u8>>]
-        ensures { calls_needed result.now ≡ (self.now).needed }
-    {
-        &self.needed
     }
 
     /// Whether the answers of `test -e` stay.
@@ -422,7 +364,6 @@ impl DeviceTables {
         }
         if is_call(first, behind) {
             let call = call_said(self.alloc, number, line, first, behind)?;
-            add_needs(self.alloc, &mut self.needed, &call.line.listed.needs)?;
             add_call(self.alloc, &mut self.calls, call)?;
             return Ok(());
         }

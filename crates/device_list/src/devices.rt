@@ -4,11 +4,10 @@ ghost use Rattle.std.specs.List.{list_any};
 ghost use Rattle.std.specs.Str.{bytes_eq};
 ghost use Rattle.device_list.specs.DeviceList.{effect_of, computed_by, is_listed, all_steady};
 ghost use Rattle.device_list.specs.DeviceListAnswers.{IsListed};
-ghost use Rattle.device_list.specs.CommandsShown.{lent_effect, calls_needed};
+ghost use Rattle.device_list.specs.CommandsShown.{lent_effect};
 ghost use Rattle.commands.specs.ComputedShown.{call_shown};
 ghost use Rattle.device_list.specs.DeviceList as spec;
 ghost use Rattle.device_list.specs.NamedPlaces.{ArePlaced, IsPlaced};
-ghost use Rattle.device_list.specs.NeededCalls.{KeepsNeeds};
 ghost use Rattle.commands.specs.TextsShown.{texts};
 
 use crate::device_tables::{DeviceTables, Places};
@@ -32,13 +31,12 @@ pub struct Devices {
 impl Model for Devices {
     ghost use Rattle.device_list.specs.DeviceList as spec;
     ghost use Rattle.device_list.specs.NamedPlaces.{ArePlaced};
-    ghost use Rattle.device_list.specs.NeededCalls.{KeepsNeeds};
 
     ghost Value = { spec.Devices };
 
     ghost view = { λ d. spec.steady_if d.all_steady d.tables };
 
-    ghost invariant = { λ d. ArePlaced d.tables d.names.entries × KeepsNeeds d.tables };
+    ghost invariant = { λ d. ArePlaced d.tables d.names.entries };
 }
 
 /// Where the tables have the name at a place, if it is this name.
@@ -148,14 +146,6 @@ impl Devices {
         ensures { call_shown result ≡ computed_by self.now name.now (texts words.now) }
     {
         self.tables.computed(name, words)
-    }
-
-    /// How the calls begin that other calls of the list need, each once: the words, the name first.
-    pub fn needed(&self) -> &[Vec<Vec<u8>>]
-        ensures needed { calls_needed result.now ≡ (self.now).needed }
-        ensures kept { KeepsNeeds self.now }
-    {
-        self.tables.needed()
     }
 
     /// Whether the answers of `test -e` stay.

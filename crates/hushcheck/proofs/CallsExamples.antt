@@ -76,7 +76,6 @@ list = record {
   commands = (codes "load", quiet) ∷ [];
   subs = (codes "mmc", (codes "dev", quiet) ∷ []) ∷ [];
   calls = [];
-  needed = [];
   known = codes "itest" ∷ [];
   test_stays = false;
 }

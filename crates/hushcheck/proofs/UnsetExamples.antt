@@ -66,7 +66,6 @@ list = record {
   commands = (codes "load", effect ((Variable (codes "filesize"), Literal (codes "1")) ∷ [])) ∷ [];
   subs = (codes "part", (codes "uuid", effect ((WordAt 1, Literal (codes "1")) ∷ (LastWord, Literal (codes "1")) ∷ [])) ∷ []) ∷ [];
   calls = [];
-  needed = [];
   known = [];
   test_stays = false;
 }

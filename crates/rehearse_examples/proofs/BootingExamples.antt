@@ -51,7 +51,7 @@ test_has_no_effect = along 1 _ _ _ _ refl refl
 -- the device list `sub part list @last=1`, `part`: on success the last word of the call is set; the line of the name is
 -- for the other calls
 abbrev part_list : Devices
-part_list = record { commands = (codes "part", record { ends = None; stays = false; always = None; needs = []; sets = [] }) ∷ []; subs = (codes "part", (codes "list", record { ends = None; stays = false; always = None; needs = []; sets = (LastWord, Literal (codes "1")) ∷ [] }) ∷ []) ∷ []; calls = []; needed = []; known = []; test_stays = false }
+part_list = record { commands = (codes "part", record { ends = None; stays = false; always = None; needs = []; sets = [] }) ∷ []; subs = (codes "part", (codes "list", record { ends = None; stays = false; always = None; needs = []; sets = (LastWord, Literal (codes "1")) ∷ [] }) ∷ []) ∷ []; calls = []; known = []; test_stays = false }
 
 sets_by_the_call : listed (bootcmd (limits part_list 16 10000) (codes "part list mmc 0 v || part uuid mmc w")) (codes "v" ∷ codes "w" ∷ []) None ≡ codes "run 0\ndev 0 part list mmc 0 v\nvar v=1\nunset w\nend 0\nrun 10\ndev 1 part list mmc 0 v\ndev 0 part uuid mmc w\nunset v\nunset w\nend 0\nrun 11\ndev 1 part list mmc 0 v\ndev 1 part uuid mmc w\nunset v\nunset w\nend 1\ndone\n"
 unfolding listed_along ends_along

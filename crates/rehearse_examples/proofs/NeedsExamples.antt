@@ -15,10 +15,7 @@ any = record { words = []; more = true }
 
 -- the device list `load`, and a line `call NAME ** : needs ..`
 abbrev needing : (name : Text) → Effect → (needs : List Text) → Devices
-needing name effect needs = record (only ((codes "load", quiet) ∷ [])) {
-  calls = (name, (any, record effect { needs = needs }) ∷ []) ∷ [];
-  needed = needs ∷ [];
-}
+needing name effect needs = record (only ((codes "load", quiet) ∷ [])) { calls = (name, (any, record effect { needs = needs }) ∷ []) ∷ [] }
 
 -- ---- `call bootz ** : needs load final`
 

@@ -23,7 +23,6 @@ abbrev devices : Devices
 devices = record (only ((codes "load", quiet) ∷ (codes "stay", record quiet { stays = true })
     ∷ (codes "set", record quiet { sets = (Variable (codes "b"), Literal (codes "1")) ∷ [] }) ∷ [])) {
       calls = (codes "boot", (record { words = []; more = true }, record quiet { needs = codes "load" ∷ [] }) ∷ []) ∷ [];
-      needed = (codes "load" ∷ []) ∷ [];
       known = codes "env" ∷ [];
     }
 

@@ -1,7 +1,7 @@
 -- Calls of a device list that need another one to have succeeded before in the run. Ours.
-use Rattle.std.specs.Prelude.{◌≡◌, Bool, true, false, ◌&&◌, List, [], ◌∷◌, length, take, Option, Some, if◌then◌else◌}
+use Rattle.std.specs.Prelude.{◌≡◌, Bool, true, false, ◌&&◌, List, [], ◌∷◌, length, take, Some, if◌then◌else◌}
 use Rattle.std.specs.List.{list_any}
-use Rattle.device_list.specs.DeviceList.{Effect, Devices, effect_of}
+use Rattle.device_list.specs.DeviceList.{Effect}
 use Rattle.rehearse_terms.specs.State.{Text, LoggedCommand, same_words}
 
 -- whether a device command has succeeded whose words, its name first, begin so; also one that was told its answer
@@ -17,16 +17,3 @@ is_met (name ∷ words) log = has_succeeded log (name ∷ words)
 abbrev pub effect_now : List LoggedCommand → Effect → Effect
 effect_now log effect =
     if is_met effect.needs log then effect else record effect { stays = false; always = Some false }
-
--- a call of the list needs this one
-pub record IsNeeded (devices : Devices) (needs : List Text) : Type 0 where
-  pub name : Text
-  pub words : List Text
-  pub effect : Effect
-  pub listed : effect_of devices name words ≡ Some effect
-  pub needed : effect.needs ≡ needs
-
--- in two logs, the same of the calls that the list needs have succeeded
-abbrev pub MeetTheSame : Devices → (log_here log_there : List LoggedCommand) → Type 0
-MeetTheSame devices log_here log_there =
-    (needs : List Text) → IsNeeded devices needs → is_met needs log_there ≡ is_met needs log_here

@@ -14,7 +14,7 @@ returns c =
     let steady = c.self.inside.all_steady in
     let found : Some (lent_effect c.in_ok-effect.effect) ≡ effect_of list name words =
     ap (option_map lent_effect) (sym c.in_ok-effect.was) ∙ c.placed_effect.ensures
-    ∙ placed-effect list name c.in-Some.places words (c.in-Some.ensures list c.self.invariant.0) in
+    ∙ placed-effect list name c.in-Some.places words (c.in-Some.ensures list c.self.invariant) in
     ap Some c.steady_if.ensures
     ∙ ap (option_map (steady_effect_if steady)) found
     ∙ sym (effect-steady list name steady words)
@@ -27,6 +27,6 @@ returns-in_err-effect c =
     let list = c.self.inside.tables in
     let steady = c.self.inside.all_steady in
     ap (option_map lent_effect) c.from_residual.ensures
-    ∙ ap (option_map (steady_effect_if steady)) (c.in_err-effect.ensures ∙ placed-effect list name c.in-Some.places words (c.in-Some.ensures list c.self.invariant.0))
+    ∙ ap (option_map (steady_effect_if steady)) (c.in_err-effect.ensures ∙ placed-effect list name c.in-Some.places words (c.in-Some.ensures list c.self.invariant))
     ∙ sym (effect-steady list name steady words)
     ∙ ap (λ (d : Devices). effect_of d name words) c.self.view_is
