@@ -4,6 +4,7 @@
 
 mod keys;
 pub mod laws;
+mod numbers;
 mod searching;
 mod sum_error;
 mod table;

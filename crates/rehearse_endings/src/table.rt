@@ -1,5 +1,5 @@
 //! The table of the states in which device commands asked.
-ghost use Rattle.std.specs.Prelude.{◌≡◌, ◌≢◌, ◌≤◌, ◌<◌, ◌^◌, IfOk, OnOk, MatchOption, IsTrue, length, map, reverse, [], ⊤};
+ghost use Rattle.std.specs.Prelude.{◌≡◌, ◌≢◌, ◌≤◌, ◌<◌, ◌^◌, IfOk, IfErr, OnOk, MatchOption, IsTrue, length, map, reverse, [], ⊤};
 ghost use Rattle.rehearse_machine.specs.Machine.{IsAsking, asked_at};
 ghost use Rattle.rehearse_machine.specs.MovesShown.{limits_of};
 ghost use Rattle.rehearse_reuse.specs.SummedRuns.{Summed, FitsIf, moved_by};
@@ -10,7 +10,9 @@ ghost use Rattle.rehearse_reports.specs.Known.{AllHold, keys_of};
 ghost use Rattle.rehearse_reports.specs.ReportsShown.{keys_shown};
 ghost use Rattle.rehearse_reuse.specs.DrawnRuns.{Draws, seen_at};
 ghost use Rattle.rehearse_states.specs.Drawing.{nodes_shown};
+ghost use Rattle.rehearse_endings.specs.declared.sum_error.SumError.TheVariants.{Memory};
 
+use crate::numbers::mix_known;
 use crate::sum_error::SumError;
 use bootstore_state::{Frame, Store, StoreError};
 use device_list::Devices;
@@ -45,8 +47,13 @@ pub struct Entry {
 pub(crate) struct Table {
     /// The states whose runs are all counted.
     pub(crate) entries: Vec<Entry>,
-    /// The places of the entries of each number.
-    pub(crate) places: HashMap<u64, Vec<usize>>,
+    /// By the number of a place and of the first things that are known there, where an entry is that knows more. What
+    /// a state reads goes by what it has read before: of states that know the same so far, the next key is the same.
+    pub(crate) onward: HashMap<u64, usize>,
+    /// By the number of a place and of all that is known there, where the entries are.
+    pub(crate) alike: HashMap<u64, Vec<usize>>,
+    /// How many keys an entry has at most.
+    pub(crate) longest: usize,
     /// The nodes of the states, and of the ways to end.
     pub(crate) flow: Flow,
     /// How many states were entered.
@@ -56,8 +63,8 @@ pub(crate) struct Table {
 }
 
 impl Table {
-    ghost use Rattle.std.specs.Prelude.{IfErr, ◌+◌, Err};
-    ghost use Rattle.rehearse_endings.specs.declared.sum_error.SumError.TheVariants.{Memory, States};
+    ghost use Rattle.std.specs.Prelude.{◌+◌, Err};
+    ghost use Rattle.rehearse_endings.specs.declared.sum_error.SumError.TheVariants.{States};
 
     /// A table without entries. Takes no memory.
     pub(crate) fn new(alloc: Global, most: u32) -> Table
@@ -68,7 +75,9 @@ impl Table {
     {
         Table {
             entries: Vec::new(alloc),
-            places: HashMap::new(alloc),
+            onward: HashMap::new(alloc),
+            alike: HashMap::new(alloc),
+            longest: 0,
             flow: Flow::new(alloc),
             visited: 0,
             most,
@@ -92,8 +101,8 @@ impl Table {
         Ok(())
     }
 
-    /// What is to come after the present state, with the values of variables, if an entry under this
-    /// number fits. Errors: `Memory`.
+    /// What is to come after the present state, with the values of variables, if an entry fits whose
+    /// place has this number. Errors: `Memory`.
     pub(crate) fn find<S: Store>(
         &self,
         alloc: Global,
@@ -101,7 +110,61 @@ impl Table {
         devices: &Devices,
         bounds: RunBounds,
         names: &[&[u8]],
-        hash: u64,
+        place: u64,
+        depth: u32,
+    ) -> Result<Option<Future>, StoreError>
+        requires asks { IsAsking (limits_of devices.now bounds) (S.record_of store.now).present }
+        requires depth { length (S.record_of store.now).present.log ≡ depth }
+        requires table { AreEntries (map (λ n. n.now) names.now) (limits_of devices.now bounds) (nodes_shown self.now.flow.nodes)
+            self.now.entries.items }
+        ensures sums { IfOk result
+            (λ found. MatchOption found ⊤
+            (λ f. Summed (map (λ n. n.now) names.now) (asked_at (limits_of devices.now bounds) (S.record_of store.now).present)
+            (summary_shown f.summary))) }
+        ensures draws { IfOk result
+            (λ found. MatchOption found ⊤
+            (λ f. Draws (nodes_shown self.now.flow.nodes) f.summary.place
+            (seen_at (limits_of devices.now bounds) (S.record_of store.now).present))) }
+        ensures keys { IfOk result
+            (λ found. MatchOption found ⊤
+            (λ f. AreEnoughAt (limits_of devices.now bounds) (map (λ n. n.now) names.now) (S.record_of store.now).present
+            (keys_shown f.keys.items))) }
+        ensures some { IfOk result
+            (λ found. MatchOption found ⊤ (λ f. self.now.entries.items ≢ [])) }
+    {
+        let mut number = place;
+        for at in 0..self.longest {
+            let found = self.find_alike(alloc, store, devices, bounds, names, number, depth)?;
+            if found.is_some() {
+                return Ok(found);
+            }
+            let Some(next) = self.next_known(number, at) else {
+                return Ok(None);
+            };
+            let key = next.key(alloc)?;
+            let here = Known::at(alloc, store, key)?;
+            number = mix_known(number, &here);
+        }
+        self.find_alike(alloc, store, devices, bounds, names, number, depth)
+    }
+
+    /// What an entry knows next that has so many keys in front, and this number with them.
+    fn next_known(&self, number: u64, at: usize) -> Option<&Known> {
+        let place = self.onward.get(&number)?;
+        let entry = self.entries.get(*place)?;
+        entry.known.get(at)
+    }
+
+    /// What is to come after the present state, if an entry under this number, of a place and of what is
+    /// known there, fits. Errors: `Memory`.
+    fn find_alike<S: Store>(
+        &self,
+        alloc: Global,
+        store: &S,
+        devices: &Devices,
+        bounds: RunBounds,
+        names: &[&[u8]],
+        number: u64,
         depth: u32,
     ) -> Result<Option<Future>, StoreError>
         requires asks { IsAsking (limits_of devices.now bounds) (S.record_of store.now).present }
@@ -124,7 +187,7 @@ impl Table {
             (λ found. MatchOption found ⊤ (λ f. self.now.entries.items ≢ [])) }
     {
         let (_devices, _names) = (devices, names);
-        let Some(places) = self.places.get(&hash) else {
+        let Some(places) = self.alike.get(&number) else {
             return Ok(None);
         };
         for place in places {
@@ -138,12 +201,12 @@ impl Table {
         Ok(None)
     }
 
-    /// Keeps the summary of a state in which a device command asked, under a number. Errors:
+    /// Keeps the summary of a state in which a device command asked, whose place has this number. Errors:
     /// `Memory`.
     pub(crate) fn keep(
         &mut self,
         alloc: Global,
-        hash: u64,
+        place: u64,
         frames: Vec<Frame>,
         known: Vec<Known>,
         steps: u32,
@@ -158,8 +221,8 @@ impl Table {
         ensures visited { self.new.visited ≡ self.old.visited }
         ensures most { self.new.most ≡ self.old.most }
     {
-        let place = self.entries.len();
         let copy = copy_summary(alloc, summary)?;
+        self.note_next(alloc, place, &known)?;
         self.entries.push(Entry {
             frames,
             known,
@@ -167,27 +230,63 @@ impl Table {
             devices,
             summary: copy,
         })?;
-        self.note(alloc, hash, place)?;
         Ok(())
     }
 
-    /// Notes that an entry of a number is at this place. Errors: `Memory`.
-    fn note(&mut self, alloc: Global, hash: u64, place: usize) -> Result<(), SumError>
+    /// Notes where the next entry is, which is at a place of this number, with what is known there. Errors:
+    /// `Memory`.
+    fn note_next(&mut self, alloc: Global, place: u64, known: &[Known]) -> Result<(), SumError>
         ensures err { IfErr result (λ e. e ≡ Memory) }
         ensures entries { self.new.entries.items ≡ self.old.entries.items }
         ensures flow { self.new.flow ≡ self.old.flow }
         ensures visited { self.new.visited ≡ self.old.visited }
         ensures most { self.new.most ≡ self.old.most }
     {
-        if let Some(places) = self.places.get_mut(&hash) {
-            places.push(place)?;
-            return Ok(());
-        }
-        let mut places = Vec::new(alloc);
-        places.push(place)?;
-        self.places.insert(hash, places)?;
+        let at = self.entries.len();
+        let number = note_keys(&mut self.onward, place, known, at)?;
+        note(alloc, &mut self.alike, number, at)?;
+        self.longest = self.longest.max(known.len());
         Ok(())
     }
+}
+
+/// Notes of each key of an entry what is known in front of it. Returns the number of the place and of all that is known.
+/// Errors: `Memory`.
+fn note_keys(
+    onward: &mut HashMap<u64, usize>,
+    place: u64,
+    known: &[Known],
+    at: usize,
+) -> Result<u64, SumError>
+    ensures { IfErr result (λ e. e ≡ Memory) }
+{
+    let mut number = place;
+    for one in known {
+        if !onward.contains_key(&number) {
+            onward.insert(number, at)?;
+        }
+        number = mix_known(number, one);
+    }
+    Ok(number)
+}
+
+/// Notes that an entry of a number is at this place of the entries. Errors: `Memory`.
+fn note(
+    alloc: Global,
+    places: &mut HashMap<u64, Vec<usize>>,
+    number: u64,
+    at: usize,
+) -> Result<(), SumError>
+    ensures { IfErr result (λ e. e ≡ Memory) }
+{
+    if let Some(noted) = places.get_mut(&number) {
+        noted.push(at)?;
+        return Ok(());
+    }
+    let mut noted = Vec::new(alloc);
+    noted.push(at)?;
+    places.insert(number, noted)?;
+    Ok(())
 }
 
 /// A copy of a summary.

@@ -7,12 +7,12 @@ use bootstore_state::{Frame, Store};
 const SEED: u64 = 0xcbf2_9ce4_8422_2325;
 
 /// Adds one more part to a number.
-fn mix(hash: u64, part: u64) -> u64 {
+pub fn mix(hash: u64, part: u64) -> u64 {
     (hash ^ part).wrapping_mul(0x0000_0100_0000_01b3)
 }
 
 /// Adds a text.
-fn mix_text(hash: u64, text: &[u8]) -> u64 {
+pub fn mix_text(hash: u64, text: &[u8]) -> u64 {
     let mut mixed = mix(hash, text.len() as u64);
     for byte in text {
         mixed = mix(mixed, u64::from(*byte));
@@ -20,8 +20,8 @@ fn mix_text(hash: u64, text: &[u8]) -> u64 {
     mixed
 }
 
-/// Adds the words that a frame has left: the fields of a `for`, or the names of a `run`.
-fn mix_words(hash: u64, words: &[Vec<u8>]) -> u64 {
+/// Adds words.
+pub fn mix_words(hash: u64, words: &[Vec<u8>]) -> u64 {
     let mut mixed = mix(hash, words.len() as u64);
     for word in words {
         mixed = mix_text(mixed, word);

@@ -3,7 +3,7 @@ use Rattle.rehearse_machine.specs.MovesShown.{limits_of}
 use Rattle.rehearse_states.specs.Drawing.{nodes_shown}
 use Rattle.rehearse_endings.specs.declared.table.Entry.{Entry}
 use Rattle.rehearse_endings.proofs.SearchLemmas.{entry_in, look_there, place_there, keys_there, some_there}
-use Rattle.rehearse_endings.proofs.table.Table.find.Goals as goal
+use Rattle.rehearse_endings.proofs.table.Table.find_alike.Goals as goal
 
 pub returns-then-fits : goal.returns-then-fits
 returns-then-fits g c =
