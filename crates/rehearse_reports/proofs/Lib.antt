@@ -16,3 +16,4 @@ pub mod AskedLemmas
 pub mod FollowingLemmas
 pub mod AskedSame
 pub mod OutcomeLemmas
+mod ReportExamples
