@@ -1,11 +1,10 @@
 -- The lines of endings: counts that are too large, and the number of all runs.
-use Rattle.std.proofs.Common.{ℕ, ◌+◌, ◌<◌, min, Bool, true, false, List, [], ◌∷◌, ◌++◌, map, flat_map, length, reverse, refl, sym, ap, ◌∙◌, ◌≡◌, nat_lt, codes, decimal, if◌then◌else◌, append_assoc, arith}
+use Rattle.std.proofs.Common.{ℕ, ◌+◌, min, Bool, true, false, List, [], ◌∷◌, ◌++◌, map, flat_map, length, refl, sym, ap, ◌∙◌, ◌≡◌, nat_lt, codes, decimal, if◌then◌else◌, append_assoc, arith}
 use Rattle.std.proofs.lemmas.Bool.{ltb-true, ltb-false}
-use Rattle.std.proofs.lemmas.List.{length-map, length-reverse, map-append, reverse-append}
+use Rattle.std.proofs.lemmas.List.{length-map}
 use Rattle.rehearse_terms.specs.State.{Text}
-use Rattle.rehearse_rules.specs.Listing.{digit_when, outcome_digit, spelled, line, last_line}
-use Rattle.rehearse_terms.specs.Outcomes.{OutcomeWord, Outcome, failures}
-use Rattle.rehearse_rules.specs.Execution.{outcome_when}
+use Rattle.rehearse_rules.specs.Listing.{spelled, line, last_line}
+use Rattle.rehearse_terms.specs.Outcomes.{OutcomeWord, failures}
 use Rattle.rehearse_rules.specs.Runs.{Task, all_runs}
 use Rattle.rehearse_states.specs.Endings.{RunEnd, Row, end_eq, joined, with_row, merge, one_run, end_of, endings}
 use Rattle.rehearse_states.specs.RowsShown.{most_runs, saturated}
@@ -100,34 +99,6 @@ three_pieces old a b c new values fails h k l =
     l
     ∙ ap (λ (t : Text). t ++ c) (k ∙ ap (λ (t : Text). t ++ b) h ∙ append_assoc old a b)
     ∙ append_assoc old (a ++ b) c
-
--- ---- digits
-
-long_spelled : (w : OutcomeWord) → 0 < length w → spelled w ≡ map outcome_digit w
-long_spelled [] l = absurd (omega arith)
-long_spelled (d ∷ w) l = refl
-
-reverse_shown : (f : Outcome → ℕ) (w : OutcomeWord) → map f (reverse w) ≡ reverse (map f w)
-reverse_shown f [] = refl
-reverse_shown f (d ∷ w) =
-    ap (map f) (reverse-append (d ∷ []) w)
-    ∙ map-append f (reverse w) (d ∷ [])
-    ∙ ap (λ (l : List ℕ). l ++ f d ∷ []) (reverse_shown f w)
-    ∙ sym (reverse-append (f d ∷ []) (map f w))
-
-digits_shown : (word : List Bool) → map outcome_digit (map outcome_when word) ≡ map digit_when word
-digits_shown [] = refl
-digits_shown (true ∷ word) = ap (λ (l : List ℕ). digit_when true ∷ l) (digits_shown word)
-digits_shown (false ∷ word) = ap (λ (l : List ℕ). digit_when false ∷ l) (digits_shown word)
-
--- a word, whose last outcome the code holds first
-pub spelled_shown : (word : List Bool) → 0 < length word → spelled (reverse (map outcome_when word)) ≡ reverse (map digit_when word)
-spelled_shown word l =
-    let a = length-reverse (map outcome_when word) in
-    let b = length-map word outcome_when in
-    long_spelled (reverse (map outcome_when word)) (omega (arith, a, b, l))
-    ∙ reverse_shown outcome_digit (map outcome_when word)
-    ∙ ap reverse (digits_shown word)
 
 -- ---- one more row
 

@@ -1,9 +1,8 @@
 -- What contracts see of rows and summaries. Ours.
-use Rattle.std.specs.Prelude.{ℕ, ◌+◌, min, List, [], ◌∷◌, map, reverse, Bool, true, false, Option, option_map, Vec}
+use Rattle.std.specs.Prelude.{ℕ, ◌+◌, min, List, [], ◌∷◌, map, true, false, Option, option_map, Vec}
 use Rattle.std.specs.declared.alloc.Global.{Global}
-use Rattle.rehearse_terms.specs.Outcomes.{OutcomeWord, Success, Failure}
+use Rattle.rehearse_terms.specs.Outcomes.{Success, Failure}
 use Rattle.rehearse_rules.specs.EndingsShown.{halt_shown}
-use Rattle.rehearse_rules.specs.Execution.{outcome_when}
 use Rattle.rehearse_states.specs.Endings.{RunEnd, Row, end_eq, fewer, in_front}
 use Rattle.rehearse_states.specs.Summaries.{Summary}
 use Rattle.rehearse_terms.specs.State.{Text}
@@ -37,10 +36,6 @@ merge_up rows (r ∷ rs) = merge_up (with_row_up rows r) rs
 abbrev pub of_both_up : (won lost : List Row) → List Row
 of_both_up won lost = merge_up (map (in_front Success) won) (map (in_front Failure) lost)
 
--- the outcomes of a word, which the code holds with the last one first
-abbrev pub word_shown : Vec Bool Global → OutcomeWord
-word_shown v = reverse (map outcome_when v.items)
-
 abbrev pub value_shown : Option (Vec ℕ Global) → Option Text
 value_shown value = option_map (λ v. v.items) value
 
@@ -51,8 +46,8 @@ abbrev pub row_shown : rt.Row → Row
 row_shown r = record {
   run_end = run_end_shown r.run_end.value;
   count = r.count;
-  word = word_shown r.word;
-  fewest = word_shown r.fewest;
+  word = r.word;
+  fewest = r.fewest;
 }
 
 abbrev pub rows_shown : Vec rt.Row Global → List Row

@@ -1,18 +1,17 @@
 //! The lines that say how runs end.
-ghost use Rattle.std.specs.Prelude.{◌≡◌, ◌++◌, map, min, reverse, codes, decimal, IfOk, OnOk};
+ghost use Rattle.std.specs.Prelude.{◌≡◌, ◌++◌, map, min, codes, decimal, IfOk, OnOk};
 ghost use Rattle.std.specs.List.{flat_map};
 ghost use Rattle.text.specs.Escapes.{word_escaped, word_form};
-ghost use Rattle.rehearse_rules.specs.Listing.{digit_when, line, last_line, spelled};
+ghost use Rattle.rehearse_rules.specs.Listing.{line, last_line, outcome_digit, spelled};
 ghost use Rattle.rehearse_rules.specs.EndingsShown.{halt_shown};
-ghost use Rattle.rehearse_rules.specs.Execution.{outcome_when};
-ghost use Rattle.rehearse_terms.specs.Outcomes.{failures};
 ghost use Rattle.rehearse_states.specs.EndingLines.{count_text, row_lines, row_text, endings_text, counted};
 ghost use Rattle.rehearse_states.specs.Drawing.{failing_on, nodes_shown};
 ghost use Rattle.rehearse_states.specs.RowsShown.{most_runs, row_shown, rows_shown};
 
 use crate::fail_lines::put_fails;
 use crate::flow::Node;
-use crate::rows::{Row, failures};
+use crate::rows::Row;
+use crate::run_word::RunWord;
 use crate::value_lines::put_values;
 use bootstore_state::StoreError;
 use rehearse_rules::{Halt, finish_word};
@@ -45,29 +44,26 @@ fn put_count(text: &mut Vec<u8>, count: u128) -> Result<(), StoreError>
     put_number(text, count)
 }
 
-/// The digits of a word, whose last outcome comes first in `word`.
-fn digits_of(alloc: Global, word: &[bool]) -> Result<Vec<u8>, StoreError>
-    ensures { IfOk result (λ digits. digits.items ≡ reverse (map digit_when word.now)) }
+/// Adds the digit of each outcome of a word.
+fn put_outcomes(text: &mut Vec<u8>, word: &RunWord) -> Result<(), StoreError>
+    ensures { OnOk result (text.new.items ≡ text.old.items ++ map outcome_digit word.now) }
 {
-    let mut digits = Vec::new(alloc);
-    for success in word {
-        digits.push(if *success { b'0' } else { b'1' })?;
+    let mut rest = word;
+    while let Some((success, behind)) = rest.split_first() {
+        text.push(if success { b'0' } else { b'1' })?;
+        rest = behind;
     }
-    digits.reverse();
-    Ok(digits)
+    Ok(())
 }
 
 /// Adds the digits of a word, or a dot for the empty word.
-fn put_digits(alloc: Global, text: &mut Vec<u8>, word: &[bool]) -> Result<(), StoreError>
-    ensures { OnOk result (text.new.items ≡ text.old.items
-        ++ spelled (reverse (map outcome_when word.now))) }
+fn put_digits(text: &mut Vec<u8>, word: &RunWord) -> Result<(), StoreError>
+    ensures { OnOk result (text.new.items ≡ text.old.items ++ spelled word.now) }
 {
     if word.is_empty() {
         return put(text, b".");
     }
-    let digits = digits_of(alloc, word)?;
-    put(text, &digits)?;
-    Ok(())
+    put_outcomes(text, word)
 }
 
 /// Adds bytes in word form.
@@ -115,17 +111,17 @@ pub fn put_ending(text: &mut Vec<u8>, halt: &Halt) -> Result<(), StoreError>
 }
 
 /// Adds the line of an ending, without what fails.
-fn put_row(alloc: Global, text: &mut Vec<u8>, row: &Row) -> Result<(), StoreError>
+fn put_row(text: &mut Vec<u8>, row: &Row) -> Result<(), StoreError>
     ensures { OnOk result (text.new.items ≡ text.old.items ++ line (row_text (row_shown row.now))) }
 {
     put(text, b"ends ")?;
     put_count(text, row.count)?;
     put(text, b" first ")?;
-    put_digits(alloc, text, &row.word)?;
+    put_digits(text, &row.word)?;
     put(text, b" fewest ")?;
-    put_number(text, failures(&row.fewest) as u128)?;
+    put_number(text, row.fewest.failures() as u128)?;
     put(text, b" ")?;
-    put_digits(alloc, text, &row.fewest)?;
+    put_digits(text, &row.fewest)?;
     put(text, b" ")?;
     put_ending(text, &row.run_end.halt)?;
     put(text, b"\n")
@@ -134,7 +130,6 @@ fn put_row(alloc: Global, text: &mut Vec<u8>, row: &Row) -> Result<(), StoreErro
 /// Adds the lines of an ending: how many runs have it, the values that they leave, and what fails in
 /// the run with the fewest failures.
 fn put_lines(
-    alloc: Global,
     text: &mut Vec<u8>,
     names: &[&[u8]],
     nodes: &Vec<Node>,
@@ -143,7 +138,7 @@ fn put_lines(
     ensures { OnOk result (text.new.items ≡ text.old.items ++ row_lines (map (λ n. n.now) names.now)
         (failing_on (nodes_shown nodes.now)) (row_shown row.now)) }
 {
-    put_row(alloc, text, row)?;
+    put_row(text, row)?;
     put_values(text, names, &row.run_end.values)?;
     put_fails(text, nodes, &row.fewest, 1)?;
     Ok(())
@@ -174,7 +169,7 @@ pub fn text_of(
 {
     let mut text = Vec::new(alloc);
     for row in rows {
-        put_lines(alloc, &mut text, names, nodes, row)?;
+        put_lines(&mut text, names, nodes, row)?;
     }
     put(&mut text, b"all ")?;
     put_count(&mut text, total(rows))?;

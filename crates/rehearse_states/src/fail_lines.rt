@@ -1,5 +1,5 @@
 //! The lines of the device commands that fail on the way through a flow.
-ghost use Rattle.std.specs.Prelude.{◌≡◌, ◌∷◌, ◌++◌, [], OnOk, map, option_map, reverse};
+ghost use Rattle.std.specs.Prelude.{◌≡◌, ◌∷◌, ◌++◌, [], OnOk, map, option_map};
 ghost use Rattle.text.specs.TextsShown.{bytes_of_words};
 ghost use Rattle.rehearse_rules.specs.Execution.{outcome_when};
 ghost use Rattle.rehearse_states.specs.Flow.{next, numbered, walk};
@@ -10,6 +10,7 @@ ghost use Rattle.rehearse_states.specs.EndingLines.{failed, fails_lines, fails_t
 use crate::ending_lines::put;
 use crate::flow::Node;
 use crate::flow_lines::put_words;
+use crate::run_word::RunWord;
 use bootstore_state::StoreError;
 
 /// The node of a line; lines count from 1.
@@ -51,18 +52,18 @@ fn put_if_failed(text: &mut Vec<u8>, words: &[Vec<u8>], success: bool) -> Result
 }
 
 /// Adds a line for each device command that fails on the way from a line of a flow by the outcomes
-/// of a word, whose last outcome comes first in `word`.
+/// of a word.
 pub(crate) fn put_fails(
     text: &mut Vec<u8>,
     nodes: &[Node],
-    word: &[bool],
+    word: &RunWord,
     number: usize,
 ) -> Result<(), StoreError>
     ensures { OnOk result (text.new.items ≡ text.old.items
         ++ fails_lines (failed (walk (numbered (map node_shown nodes.now))
-        (reverse (map outcome_when word.now)) number).log)) }
+        word.now number).log)) }
 {
-    let Some((success, rest)) = word.split_last() else {
+    let Some((success, rest)) = word.split_first() else {
         return Ok(());
     };
     let Some(
@@ -75,6 +76,6 @@ pub(crate) fn put_fails(
     else {
         return Ok(());
     };
-    put_if_failed(text, words, *success)?;
-    put_fails(text, nodes, rest, next_of(*success, *won, *lost))
+    put_if_failed(text, words, success)?;
+    put_fails(text, nodes, rest, next_of(success, *won, *lost))
 }

@@ -1,17 +1,16 @@
 //! Rows: how runs end, how many do, and which is the first.
-ghost use Rattle.std.specs.Prelude.{◌≡◌, ◌≤◌, ◌∷◌, [], map, reverse, IfOk};
+ghost use Rattle.std.specs.Prelude.{◌≡◌, ◌≤◌, ◌∷◌, [], map, IfOk};
 ghost use Rattle.rehearse_rules.specs.Execution.{outcome_when};
-ghost use Rattle.rehearse_states.specs.RowsShown.{row_shown, run_end_shown, rows_shown, word_shown, joined_up, with_row_up, merge_up};
-ghost use Rattle.rehearse_terms.specs.Outcomes.{failures};
+ghost use Rattle.rehearse_states.specs.RowsShown.{row_shown, run_end_shown, rows_shown, joined_up, with_row_up, merge_up};
 ghost use Rattle.rehearse_states.specs.Endings.{fewer, one_run, in_front};
 
 use crate::run_end::{RunEnd, same_end};
+use crate::run_word::RunWord;
 use bootstore_state::StoreError;
 use std::alloc::Global;
 use std::rc::Rc;
 
-/// An ending, and the runs that have it. A word holds whether each of its device commands
-/// succeeded, the last one first.
+/// An ending, and the runs that have it.
 #[derive(Drop)]
 pub struct Row {
     /// How these runs end, shared by the rows that have it.
@@ -19,9 +18,9 @@ pub struct Row {
     /// How many runs there are, or 2^128 - 1 if there are more.
     pub count: u128,
     /// The word of the first of these runs.
-    pub word: Vec<bool>,
+    pub word: RunWord,
     /// The word of the first of these runs with the fewest failures.
-    pub fewest: Vec<bool>,
+    pub fewest: RunWord,
 }
 
 /// The row of one run that is over.
@@ -33,21 +32,21 @@ pub(crate) fn one_row(alloc: Global, run_end: RunEnd) -> Result<Vec<Row>, StoreE
     rows.push(Row {
         run_end,
         count: 1,
-        word: Vec::new(alloc),
-        fewest: Vec::new(alloc),
+        word: RunWord::new(),
+        fewest: RunWord::new(),
     })?;
     Ok(rows)
 }
 
-/// A copy of rows.
+/// A copy of rows, which shares their endings and words.
 pub fn copy_rows(alloc: Global, rows: &Vec<Row>) -> Result<Vec<Row>, StoreError>
     ensures { IfOk result (λ copy. rows_shown copy ≡ rows_shown rows.now) }
 {
     let mut copies = Vec::new(alloc);
     for row in rows {
         let run_end = row.run_end.clone()?;
-        let word = Vec::from_slice(alloc, &row.word)?;
-        let fewest = Vec::from_slice(alloc, &row.fewest)?;
+        let word = row.word.clone()?;
+        let fewest = row.fewest.clone()?;
         copies.push(Row {
             run_end,
             count: row.count,
@@ -69,10 +68,8 @@ pub(crate) fn put_in_front(
 {
     let mut made = Vec::new(alloc);
     for row in rows {
-        let mut word = row.word;
-        word.push(success)?;
-        let mut fewest = row.fewest;
-        fewest.push(success)?;
+        let word = row.word.with_first(alloc, success)?;
+        let fewest = row.fewest.with_first(alloc, success)?;
         made.push(Row {
             run_end: row.run_end,
             count: row.count,
@@ -83,43 +80,23 @@ pub(crate) fn put_in_front(
     Ok(made)
 }
 
-/// 1 if a device command failed, else 0.
-fn failed(success: bool) -> usize
-    ensures count { result ≡ failures (outcome_when success ∷ []) }
-    ensures within { result ≤ 1 }
-{
-    if success { 0 } else { 1 }
-}
-
-/// How many device commands of a word failed.
-pub(crate) fn failures(word: &[bool]) -> usize
-    ensures { result ≡ failures (reverse (map outcome_when word.now)) }
-{
-    let mut count = 0;
-    for success in word {
-        count += failed(*success);
-    }
-    count
-}
-
 /// The word with fewer failures; if they have equally many, the first.
-fn fewer(alloc: Global, first: Vec<bool>, second: &Vec<bool>) -> Result<Vec<bool>, StoreError>
-    ensures { IfOk result (λ word. word_shown word ≡ fewer (word_shown first)
-        (word_shown second.now)) }
+fn fewer(first: RunWord, second: &RunWord) -> Result<RunWord, StoreError>
+    ensures { IfOk result (λ word. word ≡ fewer first second.now) }
 {
-    if failures(&first) <= failures(second) {
+    if first.failures() <= second.failures() {
         return Ok(first);
     }
-    let copy = Vec::from_slice(alloc, second)?;
+    let copy = second.clone()?;
     Ok(copy)
 }
 
 /// The row of the runs of both rows, which end alike.
-fn join(alloc: Global, row: Row, further: &Row) -> Result<Row, StoreError>
+fn join(row: Row, further: &Row) -> Result<Row, StoreError>
     ensures { IfOk result (λ made. row_shown made ≡ joined_up (row_shown row)
         (row_shown further.now)) }
 {
-    let fewest = fewer(alloc, row.fewest, &further.fewest)?;
+    let fewest = fewer(row.fewest, &further.fewest)?;
     Ok(Row {
         run_end: row.run_end,
         count: row.count.saturating_add(further.count),
@@ -138,7 +115,7 @@ fn put_row(alloc: Global, rows: Vec<Row>, row: Row) -> Result<Vec<Row>, StoreErr
     for old in rows {
         if !is_there && same_end(&old.run_end, &row.run_end) {
             is_there = true;
-            let both = join(alloc, old, &row)?;
+            let both = join(old, &row)?;
             made.push(both)?;
         } else {
             made.push(old)?;

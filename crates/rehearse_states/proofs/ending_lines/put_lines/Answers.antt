@@ -1,6 +1,5 @@
-use Rattle.std.proofs.Common.{◌≡◌, ◌∙◌, ap, map, reverse, List, Bool, Option, Vec, ℕ, ◌++◌, rules}
+use Rattle.std.proofs.Common.{◌≡◌, ◌∙◌, ap, map, List, Option, Vec, ℕ, ◌++◌, rules}
 use Rattle.std.specs.declared.alloc.Global.{Global}
-use Rattle.rehearse_rules.specs.Execution.{outcome_when}
 use Rattle.rehearse_rules.specs.Listing.{line}
 use Rattle.rehearse_states.specs.Flow.{numbered, walk}
 use Rattle.rehearse_states.specs.Drawing.{failing_on, node_shown, nodes_shown}
@@ -16,9 +15,7 @@ returns c =
     let names = map (λ n. n.now) c.args.names.now in
     let values : c.deref-2.result.now ≡ c.args.row.now.run_end.value.values.items = search rules in
     let nodes : c.deref-3.result.now ≡ c.args.nodes.now.items = search rules in
-    let word : c.deref-4.result.now ≡ c.args.row.now.fewest.items = search rules in
     three_pieces c.args.text.now.items (line (row_text row)) (value_lines names row.run_end.values) (fails_lines (failing_on (nodes_shown c.args.nodes.now) row.fewest)) _ _ _ c.in_ok-put_row.ensures
     (c.in_ok-put_values.ensures ∙ ap (λ (vs : List (Option (Vec ℕ Global))). c.put_row.new.text.items ++ value_lines names (map value_shown vs)) values)
     (c.in_ok-put_fails.ensures
-    ∙ ap (λ (ns : List rt.Node). c.put_values.new.text.items ++ fails_lines (failed (walk (numbered (map node_shown ns)) (reverse (map outcome_when c.deref-4.result.now)) 1).log)) nodes
-    ∙ ap (λ (w : List Bool). c.put_values.new.text.items ++ fails_lines (failed (walk (numbered (map node_shown c.args.nodes.now.items)) (reverse (map outcome_when w)) 1).log)) word)
+    ∙ ap (λ (ns : List rt.Node). c.put_values.new.text.items ++ fails_lines (failed (walk (numbered (map node_shown ns)) row.fewest 1).log)) nodes)

@@ -1,0 +1,12 @@
+-- What contracts see of the words of runs. Ours.
+use Rattle.std.specs.Prelude.{[], ◌∷◌, Option, Some, None}
+use Rattle.std.specs.declared.alloc.Global.{Global}
+use Rattle.std.specs.declared.rc.Rc.{Rc}
+use Rattle.rehearse_terms.specs.Outcomes.{OutcomeWord}
+use Rattle.rehearse_rules.specs.Execution.{outcome_when}
+use Rattle.rehearse_states.specs.declared.run_word.Step.{Step}
+
+-- the first outcome, and the word of those behind it
+abbrev pub outcomes : Option (Rc Step Global) → OutcomeWord
+outcomes None = []
+outcomes (Some step) = outcome_when step.value.success ∷ step.value.rest
