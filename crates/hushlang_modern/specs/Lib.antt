@@ -1,0 +1,2 @@
+pub mod ModernTokens
+pub mod ModernTokensShown

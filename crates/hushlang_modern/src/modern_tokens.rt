@@ -1,0 +1,649 @@
+//! The tokens of a text, byte by byte (`parse_stream`).
+ghost use Rattle.std.specs.Prelude.{◌≡◌, IfOk, OnOk};
+ghost use Rattle.hushlang.specs.TreesShown as view;
+ghost use Rattle.hushlang_old.specs.OldTokens as old;
+ghost use Rattle.hushlang_modern.specs.ModernTokens as says;
+ghost use Rattle.hushlang_modern.specs.ModernTokensShown as shown;
+
+use crate::byte_classes::{
+    begins_name, begins_with_name, is_digit, is_escapable, is_foreign, is_guarded, is_name,
+    is_name_byte, is_operator, is_parameter,
+};
+use crate::stop::Stop;
+use hushlang::{Op, Piece};
+use std::alloc::{AllocError, Global};
+use std::mem;
+
+/// A word: its pieces; whether it has quotes or a backslash; and whether it is an assignment where one
+/// may stand.
+#[derive(Drop)]
+pub(crate) struct FoundWord {
+    pub(crate) pieces: Vec<Piece>,
+    pub(crate) quoted: bool,
+    pub(crate) assigns: bool,
+}
+
+/// A token.
+#[derive(Drop)]
+pub(crate) enum Token {
+    /// A word.
+    Word(FoundWord),
+    /// A newline.
+    NewLine,
+    /// `;`
+    Semicolon,
+    /// `&&` or `||`.
+    Joins(Op),
+}
+
+/// What the next byte is. The bytes of a name stand in the reading.
+#[derive(Clone, Copy)]
+enum Place {
+    /// A byte that may act.
+    Open,
+    /// The byte behind a backslash, and whether a newline is not followed there.
+    Behind(bool),
+    /// A byte in single quotes.
+    Single,
+    /// The byte behind an opening `"`.
+    Opened,
+    /// The byte behind `$`.
+    Dollar,
+    /// The byte behind `$` and the first bytes of a name.
+    Name,
+    /// The byte behind `${` and some bytes.
+    Brace,
+    /// The first byte of a comment.
+    Hash,
+    /// A further byte of a comment.
+    Comment,
+    /// The byte behind the first `&` or `|`.
+    Joint(Op),
+    /// A byte behind the place at which the reading stops.
+    Stopped(Stop),
+}
+
+/// A text that is being read: the tokens that are whole; of the word on the way its whole pieces, the
+/// bytes behind them, whether it has quotes or a backslash, whether double quotes, and whether it is an
+/// assignment; whether double quotes are open; what the next byte is; and the bytes of a name.
+#[derive(Drop)]
+struct TextReading {
+    alloc: Global,
+    tokens: Vec<Token>,
+    pieces: Vec<Piece>,
+    bytes: Vec<u8>,
+    quoted: bool,
+    doubled: bool,
+    assigns: bool,
+    double: bool,
+    place: Place,
+    name: Vec<u8>,
+}
+
+/// The tokens that are whole, and how the reading stops behind them, if it does.
+#[derive(Drop)]
+pub(crate) struct FoundTokens {
+    pub(crate) tokens: Vec<Token>,
+    pub(crate) stop: Option<Stop>,
+}
+
+fn sign_of(op: Op) -> u8
+    ensures { result ≡ old.sign_of op }
+{
+    match op {
+        Op::And => b'&',
+        Op::Or => b'|',
+    }
+}
+
+impl TextReading {
+    fn new(alloc: Global) -> TextReading
+        ensures { shown.reading result ≡ says.nothing_read }
+    {
+        TextReading {
+            alloc,
+            tokens: Vec::new(alloc),
+            pieces: Vec::new(alloc),
+            bytes: Vec::new(alloc),
+            quoted: false,
+            doubled: false,
+            assigns: false,
+            double: false,
+            place: Place::Open,
+            name: Vec::new(alloc),
+        }
+    }
+
+    /// Whether a byte or a variable has been read of the word on the way.
+    fn has_read(&self) -> bool
+        ensures { result ≡ says.has_read (shown.reading self.now) }
+    {
+        !self.bytes.is_empty() || !self.pieces.is_empty()
+    }
+
+    /// Whether a word is on the way.
+    fn has_begun(&self) -> bool
+        ensures { result ≡ says.has_begun (shown.reading self.now) }
+    {
+        self.quoted || self.has_read()
+    }
+
+    /// Makes a piece of the bytes behind the pieces, if there are any.
+    fn close_bytes(&mut self) -> Result<(), AllocError>
+        ensures { OnOk result
+            (shown.reading self.new ≡ shown.bytes_closed (shown.reading self.old)) }
+    {
+        if self.bytes.is_empty() {
+            return Ok(());
+        }
+        let bytes = mem::replace(&mut self.bytes, Vec::new(self.alloc));
+        self.pieces.push(Piece::Bytes(bytes))?;
+        Ok(())
+    }
+
+    fn push_piece(&mut self, piece: Piece) -> Result<(), AllocError>
+        ensures { OnOk result (shown.reading self.new
+            ≡ says.with_piece (view.piece piece) (shown.reading self.old)) }
+    {
+        self.close_bytes()?;
+        self.pieces.push(piece)?;
+        Ok(())
+    }
+
+    /// Ends the word on the way (`done_word`).
+    fn end_word(&mut self) -> Result<(), AllocError>
+        ensures { OnOk result
+            (shown.reading self.new ≡ says.word_ended (shown.reading self.old)) }
+    {
+        let found = self.has_begun();
+        self.close_bytes()?;
+        let pieces = mem::replace(&mut self.pieces, Vec::new(self.alloc));
+        if found {
+            self.tokens.push(Token::Word(FoundWord {
+                pieces,
+                quoted: self.quoted,
+                assigns: self.assigns,
+            }))?;
+        }
+        self.quoted = false;
+        self.doubled = false;
+        self.assigns = false;
+        Ok(())
+    }
+
+    /// Ends the word on the way, and adds a token that is no word.
+    fn push_token(&mut self, token: Token) -> Result<(), AllocError>
+        ensures { OnOk result (shown.reading self.new
+            ≡ says.with_token (shown.token token) (shown.reading self.old)) }
+    {
+        self.end_word()?;
+        self.tokens.push(token)?;
+        Ok(())
+    }
+
+    /// Adds a byte, behind a backslash if it would act in a pattern (`o_addqchr`).
+    fn guard(&mut self, byte: u8) -> Result<(), AllocError>
+        ensures { OnOk result (shown.reading self.new
+            ≡ says.with_bytes (says.guarded byte) (shown.reading self.old)) }
+    {
+        if is_guarded(byte) {
+            self.bytes.push(b'\\')?;
+        }
+        self.bytes.push(byte)?;
+        Ok(())
+    }
+
+    /// Whether a byte makes the word on the way an assignment.
+    fn makes_assignment(&self, byte: u8) -> bool
+        ensures { result ≡ says.makes_assignment byte (shown.reading self.now) }
+    {
+        byte == b'='
+            && self.pieces.is_empty()
+            && !self.doubled
+            && (self.bytes.is_empty() || is_name(&self.bytes))
+    }
+
+    fn read_ordinary(&mut self, byte: u8) -> Result<(), AllocError>
+        ensures { OnOk result (shown.reading self.new
+            ≡ says.read_ordinary byte (shown.reading self.old)) }
+    {
+        let assigns = self.assigns || self.makes_assignment(byte);
+        self.bytes.push(byte)?;
+        self.assigns = assigns;
+        Ok(())
+    }
+
+    /// Ends the word on the way at the first `&` or `|`.
+    fn begin_joint(&mut self, op: Op) -> Result<(), AllocError>
+        ensures { OnOk result (shown.reading self.new
+            ≡ says.at_place (says.Joint op) (says.word_ended (shown.reading self.old))) }
+    {
+        self.end_word()?;
+        self.place = Place::Joint(op);
+        Ok(())
+    }
+
+    /// Whether a byte begins or ends a group here.
+    fn is_group_byte(&self, byte: u8) -> bool
+        ensures { result ≡ says.is_group_byte byte (shown.reading self.now) }
+    {
+        byte == b'(' || byte == b')' && !self.has_begun()
+    }
+
+    /// Reads a byte outside all quotes that is neither a quote, a backslash nor `$`.
+    fn read_bare(&mut self, byte: u8) -> Result<(), AllocError>
+        ensures { OnOk result
+            (shown.reading self.new ≡ says.read_bare byte (shown.reading self.old)) }
+    {
+        match byte {
+            b'\n' => return self.push_token(Token::NewLine),
+            b';' => return self.push_token(Token::Semicolon),
+            b'&' => return self.begin_joint(Op::And),
+            b'|' => return self.begin_joint(Op::Or),
+            b' ' | b'\t' => return self.end_word(),
+            _ => (),
+        }
+        if byte == b'#' && !self.has_begun() {
+            self.place = Place::Hash;
+            return Ok(());
+        }
+        if self.is_group_byte(byte) {
+            self.place = Place::Stopped(Stop::Unsupported);
+            return Ok(());
+        }
+        self.read_ordinary(byte)
+    }
+
+    /// Reads `"`.
+    fn read_double_quote(&mut self)
+        ensures { shown.reading self.new ≡ says.read_double_quote (shown.reading self.old) }
+    {
+        if self.double {
+            self.double = false;
+            return;
+        }
+        self.quoted = true;
+        self.doubled = true;
+        self.double = true;
+        self.place = Place::Opened;
+    }
+
+    /// Reads a byte that is neither a double quote, a backslash nor `$`.
+    fn read_inside(&mut self, byte: u8) -> Result<(), AllocError>
+        ensures { OnOk result (shown.reading self.new
+            ≡ says.read_inside self.old.double byte (shown.reading self.old)) }
+    {
+        if self.double {
+            return self.guard(byte);
+        }
+        if byte == b'\'' {
+            self.quoted = true;
+            self.place = Place::Single;
+            return Ok(());
+        }
+        self.read_bare(byte)
+    }
+
+    /// Reads a byte that may act.
+    #[tactic(auto, unfolding(crate::specs::ModernTokens::read_open))]
+    fn read_open(&mut self, byte: u8) -> Result<(), AllocError>
+        ensures { OnOk result
+            (shown.reading self.new ≡ says.read_open byte (shown.reading self.old)) }
+    {
+        if is_foreign(byte) {
+            self.place = Place::Stopped(Stop::Unsupported);
+            return Ok(());
+        }
+        match byte {
+            b'\\' => self.place = Place::Behind(false),
+            b'"' => self.read_double_quote(),
+            b'$' => self.place = Place::Dollar,
+            _ => return self.read_inside(byte),
+        }
+        Ok(())
+    }
+
+    /// Reads a byte that may act, where a backslash in front of a newline is not followed.
+    fn read_strict(&mut self, byte: u8) -> Result<(), AllocError>
+        ensures { OnOk result
+            (shown.reading self.new ≡ says.read_strict byte (shown.reading self.old)) }
+    {
+        if byte == b'\\' {
+            self.place = Place::Behind(true);
+            return Ok(());
+        }
+        self.read_open(byte)
+    }
+
+    /// Reads the byte behind an opening `"`.
+    fn read_opened(&mut self, byte: u8) -> Result<(), AllocError>
+        ensures { OnOk result
+            (shown.reading self.new ≡ says.read_opened byte (shown.reading self.old)) }
+    {
+        self.place = Place::Open;
+        if byte == b'"' {
+            self.double = false;
+            return self.push_piece(Piece::Mark);
+        }
+        self.read_strict(byte)
+    }
+
+    /// Adds what a backslash and the byte behind it come to.
+    fn push_escaped(&mut self, byte: u8) -> Result<(), AllocError>
+        ensures { OnOk result (shown.reading self.new
+            ≡ says.with_bytes (says.escaped self.old.double byte) (shown.reading self.old)) }
+    {
+        if !self.double {
+            self.bytes.push(b'\\')?;
+            self.bytes.push(byte)?;
+            return Ok(());
+        }
+        if !is_escapable(byte) {
+            self.bytes.push(b'\\')?;
+            self.bytes.push(b'\\')?;
+        }
+        self.guard(byte)
+    }
+
+    /// Reads the byte behind a backslash.
+    fn read_behind(&mut self, strict: bool, byte: u8) -> Result<(), AllocError>
+        ensures { OnOk result (shown.reading self.new
+            ≡ says.read_behind strict byte (shown.reading self.old)) }
+    {
+        if is_foreign(byte) || strict && byte == b'\n' {
+            self.place = Place::Stopped(Stop::Unsupported);
+            return Ok(());
+        }
+        self.place = Place::Open;
+        if byte == b'\n' {
+            return Ok(());
+        }
+        self.quoted = true;
+        self.push_escaped(byte)
+    }
+
+    /// Reads a byte in single quotes.
+    fn read_single(&mut self, byte: u8) -> Result<(), AllocError>
+        ensures { OnOk result
+            (shown.reading self.new ≡ says.read_single byte (shown.reading self.old)) }
+    {
+        if is_foreign(byte) {
+            self.place = Place::Stopped(Stop::Unsupported);
+            return Ok(());
+        }
+        if byte == b'\'' {
+            self.place = Place::Open;
+            return Ok(());
+        }
+        self.guard(byte)
+    }
+
+    /// Adds a piece with a value, which double quotes keep whole.
+    fn push_value(&mut self, piece: Piece) -> Result<(), AllocError>
+        ensures { OnOk result (shown.reading self.new
+            ≡ says.with_value (view.piece piece) (shown.reading self.old)) }
+    {
+        if self.double {
+            self.push_piece(Piece::Mark)?;
+        }
+        self.push_piece(piece)
+    }
+
+    /// Adds the variable of the name.
+    fn push_variable(&mut self) -> Result<(), AllocError>
+        requires { self.old.place ≡ shown.at_open }
+        ensures { OnOk result (shown.reading self.new
+            ≡ says.variable self.old.name.items (shown.reading self.old)) }
+    {
+        let name = mem::replace(&mut self.name, Vec::new(self.alloc));
+        let split = !self.double;
+        self.push_value(Piece::Var { name, split })
+    }
+
+    /// A name begins with this byte.
+    fn begin_name(&mut self, byte: u8) -> Result<(), AllocError>
+        ensures { OnOk result (shown.reading self.new
+            ≡ says.at_place (says.Name (shown.one byte)) (shown.reading self.old)) }
+    {
+        self.name.clear();
+        self.name.push(byte)?;
+        self.place = Place::Name;
+        Ok(())
+    }
+
+    /// A name in braces begins with this byte.
+    fn begin_brace(&mut self, byte: u8) -> Result<(), AllocError>
+        ensures { OnOk result (shown.reading self.new
+            ≡ says.at_place (says.Brace (shown.one byte)) (shown.reading self.old)) }
+    {
+        self.name.clear();
+        self.name.push(byte)?;
+        self.place = Place::Brace;
+        Ok(())
+    }
+
+    /// Reads the byte behind `$`.
+    fn read_dollar(&mut self, byte: u8) -> Result<(), AllocError>
+        ensures { OnOk result
+            (shown.reading self.new ≡ says.read_dollar byte (shown.reading self.old)) }
+    {
+        if begins_name(byte) {
+            return self.begin_name(byte);
+        }
+        if byte == b'?' {
+            self.place = Place::Open;
+            return self.push_value(Piece::Status);
+        }
+        if byte == b'{' {
+            self.name.clear();
+            self.place = Place::Brace;
+            return Ok(());
+        }
+        if is_digit(byte) || is_parameter(byte) {
+            self.place = Place::Stopped(Stop::Unsupported);
+            return Ok(());
+        }
+        self.bytes.push(b'$')?;
+        self.place = Place::Open;
+        self.read_strict(byte)
+    }
+
+    /// Reads the byte behind `$` and the first bytes of a name.
+    fn read_name(&mut self, byte: u8) -> Result<(), AllocError>
+        requires { self.old.place ≡ shown.in_name }
+        ensures { OnOk result (shown.reading self.new
+            ≡ says.read_name self.old.name.items byte (shown.reading self.old)) }
+    {
+        if is_name_byte(byte) {
+            self.name.push(byte)?;
+            return Ok(());
+        }
+        self.place = Place::Open;
+        self.push_variable()?;
+        self.read_strict(byte)
+    }
+
+    /// Reads the first byte in braces.
+    fn read_brace_first(&mut self, byte: u8) -> Result<(), AllocError>
+        ensures { OnOk result (shown.reading self.new
+            ≡ says.read_brace_first byte (shown.reading self.old)) }
+    {
+        if begins_name(byte) || byte == b'?' {
+            return self.begin_brace(byte);
+        }
+        let unsupported = is_foreign(byte)
+            || is_digit(byte)
+            || is_parameter(byte)
+            || byte == b'$'
+            || byte == b'!'
+            || byte == b'\\';
+        self.place = Place::Stopped(if unsupported {
+            Stop::Unsupported
+        } else {
+            Stop::Fails
+        });
+        Ok(())
+    }
+
+    /// Braces end behind a name or `?`.
+    fn end_brace(&mut self) -> Result<(), AllocError>
+        ensures { OnOk result (shown.reading self.new
+            ≡ says.brace_ended self.old.name.items (shown.reading self.old)) }
+    {
+        self.place = Place::Open;
+        if begins_with_name(&self.name) {
+            return self.push_variable();
+        }
+        self.push_value(Piece::Status)
+    }
+
+    /// Reads a further byte in braces.
+    fn read_brace_next(&mut self, byte: u8) -> Result<(), AllocError>
+        requires { self.old.place ≡ shown.in_brace }
+        ensures { OnOk result (shown.reading self.new
+            ≡ says.read_brace_next self.old.name.items byte (shown.reading self.old)) }
+    {
+        if byte == b'}' {
+            return self.end_brace();
+        }
+        if is_foreign(byte) || is_operator(byte) || !begins_with_name(&self.name) {
+            self.place = Place::Stopped(Stop::Unsupported);
+            return Ok(());
+        }
+        if is_name_byte(byte) || byte == b'#' {
+            self.name.push(byte)?;
+            return Ok(());
+        }
+        self.place = Place::Stopped(Stop::Fails);
+        Ok(())
+    }
+
+    /// Reads a byte in braces.
+    fn read_brace(&mut self, byte: u8) -> Result<(), AllocError>
+        requires { self.old.place ≡ shown.in_brace }
+        ensures { OnOk result (shown.reading self.new
+            ≡ says.read_brace self.old.name.items byte (shown.reading self.old)) }
+    {
+        if self.name.is_empty() {
+            return self.read_brace_first(byte);
+        }
+        self.read_brace_next(byte)
+    }
+
+    /// Reads a byte of a comment.
+    fn read_comment(&mut self, byte: u8) -> Result<(), AllocError>
+        ensures { OnOk result
+            (shown.reading self.new ≡ says.read_comment byte (shown.reading self.old)) }
+    {
+        if byte == b'\n' {
+            self.place = Place::Open;
+            return self.push_token(Token::NewLine);
+        }
+        self.place = Place::Comment;
+        Ok(())
+    }
+
+    /// Reads the first byte of a comment.
+    fn read_hash(&mut self, byte: u8) -> Result<(), AllocError>
+        ensures { OnOk result
+            (shown.reading self.new ≡ says.read_hash byte (shown.reading self.old)) }
+    {
+        if byte == b'\\' {
+            self.place = Place::Stopped(Stop::Unsupported);
+            return Ok(());
+        }
+        self.read_comment(byte)
+    }
+
+    /// Reads the byte behind the first `&` or `|`.
+    fn read_joint(&mut self, op: Op, byte: u8) -> Result<(), AllocError>
+        ensures { OnOk result
+            (shown.reading self.new ≡ says.read_joint op byte (shown.reading self.old)) }
+    {
+        if byte == sign_of(op) {
+            self.place = Place::Open;
+            return self.push_token(Token::Joins(op));
+        }
+        self.place = Place::Stopped(Stop::Unsupported);
+        Ok(())
+    }
+
+    /// Reads a byte.
+    #[tactic(auto, unfolding(crate::specs::ModernTokens::read))]
+    fn read(&mut self, byte: u8) -> Result<(), AllocError>
+        ensures { OnOk result (shown.reading self.new ≡ says.read byte (shown.reading self.old)) }
+    {
+        match self.place {
+            Place::Open => self.read_open(byte),
+            Place::Behind(strict) => self.read_behind(strict, byte),
+            Place::Single => self.read_single(byte),
+            Place::Opened => self.read_opened(byte),
+            Place::Dollar => self.read_dollar(byte),
+            Place::Name => self.read_name(byte),
+            Place::Brace => self.read_brace(byte),
+            Place::Hash => self.read_hash(byte),
+            Place::Comment => self.read_comment(byte),
+            Place::Joint(op) => self.read_joint(op, byte),
+            Place::Stopped(_) => Ok(()),
+        }
+    }
+
+    /// How the reading stops if the text ends here.
+    fn stop(&self) -> Option<Stop>
+        ensures { result ≡ says.stop_at (shown.place self.now.place self.now.name.items) self.now.double }
+    {
+        match self.place {
+            Place::Stopped(stop) => Some(stop),
+            Place::Behind(_) | Place::Joint(_) => Some(Stop::Unsupported),
+            Place::Brace => {
+                let begun = !self.name.is_empty();
+                Some(if begun { Stop::Panics } else { Stop::Fails })
+            }
+            Place::Single => Some(Stop::Fails),
+            _ => if self.double { Some(Stop::Fails) } else { None },
+        }
+    }
+
+    /// Adds what the bytes behind the last whole piece come to as the text ends.
+    fn end_text(&mut self) -> Result<(), AllocError>
+        ensures { OnOk result (shown.reading self.new ≡ shown.with_last (shown.reading self.old)) }
+    {
+        match self.place {
+            Place::Dollar => self.bytes.push(b'$')?,
+            Place::Name => {
+                self.place = Place::Open;
+                self.push_variable()?;
+            }
+            _ => (),
+        }
+        self.place = Place::Open;
+        self.end_word()
+    }
+
+    /// The tokens that are whole, and how the reading stops behind them.
+    fn into_tokens(self) -> Result<FoundTokens, AllocError>
+        ensures { IfOk result (λ found. shown.found found ≡ says.tokens_in (shown.reading self)) }
+    {
+        let mut reading = self;
+        let stop = reading.stop();
+        if stop.is_none() {
+            reading.end_text()?;
+        }
+        Ok(FoundTokens {
+            tokens: reading.tokens,
+            stop,
+        })
+    }
+}
+
+/// The tokens of a text, and how the reading stops behind them. Errors: memory ran out.
+#[tactic(auto, unfolding(crate::specs::ModernTokens::modern_tokens))]
+pub(crate) fn modern_tokens(alloc: Global, text: &[u8]) -> Result<FoundTokens, AllocError>
+    ensures { IfOk result (λ found. shown.found found ≡ says.modern_tokens text.now) }
+{
+    let mut reading = TextReading::new(alloc);
+    for byte in text {
+        reading.read(*byte)?;
+    }
+    reading.into_tokens()
+}
