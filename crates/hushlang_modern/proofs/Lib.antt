@@ -1,1 +1,4 @@
+pub mod BuildingLemmas
 mod ModernTokensExamples
+pub mod ModernTreeLemmas
+mod ModernTreesExamples

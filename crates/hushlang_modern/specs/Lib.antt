@@ -1,2 +1,6 @@
 pub mod ModernTokens
 pub mod ModernTokensShown
+pub mod ModernTrees
+pub mod ModernTreesShown
+pub mod ModernWords
+pub mod ModernWordsShown

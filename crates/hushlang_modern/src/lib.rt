@@ -1,8 +1,17 @@
 //! What U-Boot's modern shell reads in a text.
 #![tactic(auto)]
 
+mod building;
 mod byte_classes;
+mod found_words;
+mod modern_text;
 mod modern_tokens;
+mod modern_trees;
+mod open_commands;
+mod reserved;
 mod stop;
+mod word_bytes;
 
+pub use modern_text::ModernText;
+pub use modern_trees::read_modern;
 pub use stop::Stop;
