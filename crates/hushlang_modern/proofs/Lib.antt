@@ -1,4 +1,6 @@
 pub mod BuildingLemmas
+pub mod FieldLemmas
+mod ModernFieldsExamples
 mod ModernTokensExamples
 pub mod ModernTreeLemmas
 mod ModernTreesExamples

@@ -1,3 +1,5 @@
+pub mod ModernFields
+pub mod ModernFieldsShown
 pub mod ModernTokens
 pub mod ModernTokensShown
 pub mod ModernTrees
