@@ -17,7 +17,7 @@ abbrev assigns : (quoted : Bool) → List Piece → Token
 assigns quoted pieces = Word (record { pieces = pieces; quoted = quoted; assigns = true })
 
 abbrev whole : List Token → FoundTokens
-whole tokens = record { tokens = tokens; stop = None }
+whole tokens = record { tokens = tokens; stop = None; quoted = false }
 
 abbrev text : List ℕ → Piece
 text bytes = Bytes bytes
@@ -52,8 +52,8 @@ assignments = refl
 
 -- where the reading stops: the word on the way is no token
 stops : map modern_tokens (codes "a b" ∷ codes "a 'b" ∷ codes "a; ${b" ∷ codes "a (b)" ∷ codes "a ${}c" ∷ [])
-    ≡ whole (bare (text (codes "a") ∷ []) ∷ bare (text (codes "b") ∷ []) ∷ []) ∷ record { tokens = bare (text (codes "a") ∷ []) ∷ []; stop = Some Fails }
-    ∷ record { tokens = bare (text (codes "a") ∷ []) ∷ Semicolon ∷ []; stop = Some Panics } ∷ record { tokens = bare (text (codes "a") ∷ []) ∷ []; stop = Some Unsupported }
-    ∷ record { tokens = bare (text (codes "a") ∷ []) ∷ []; stop = Some Fails } ∷ []
+    ≡ whole (bare (text (codes "a") ∷ []) ∷ bare (text (codes "b") ∷ []) ∷ []) ∷ record { tokens = bare (text (codes "a") ∷ []) ∷ []; stop = Some Fails; quoted = true }
+    ∷ record { tokens = bare (text (codes "a") ∷ []) ∷ Semicolon ∷ []; stop = Some Panics; quoted = false } ∷ record { tokens = bare (text (codes "a") ∷ []) ∷ []; stop = Some Unsupported; quoted = false }
+    ∷ record { tokens = bare (text (codes "a") ∷ []) ∷ []; stop = Some Fails; quoted = false } ∷ []
 unfolding modern_tokens read read_open
 stops = refl

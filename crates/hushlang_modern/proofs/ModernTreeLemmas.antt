@@ -1,5 +1,5 @@
 -- The trees that U-Boot's modern shell reads hold a command in each block.
-use Rattle.std.proofs.Common.{◌≡◌, subst, ℕ, Bool, true, false, ◌&&◌, not, List, [], ◌∷◌, ◌++◌, map, length, nat_lt, cond, Option, Some, None}
+use Rattle.std.proofs.Common.{◌≡◌, subst, ℕ, Bool, true, false, ◌&&◌, ◌||◌, not, List, [], ◌∷◌, ◌++◌, map, length, nat_lt, cond, Option, Some, None}
 use Rattle.hushlang.specs.Tree as tree
 use Rattle.hushlang.specs.Tree.{Script, AndOr, Joined, Command, Arms, IsProper, IsProperList, IsProperJoined, IsProperCommand, HasArm, AreProperArms, HoldsCommand}
 use Rattle.hushlang.specs.TreesShown.{runs, joins, arms}
@@ -236,7 +236,7 @@ named_by (Some name) outer opens b o os =
     either (is_strange name) (Stops Unsupported) (entered (In name) outer opens b) tt ((tt, tt, tt), ((tt, o), os))
 
 word_by : (compound : Compound) (w : FoundWord) (outer : Block) (opens : List (Compound × Block)) (b : Building) → IsBlock outer → AreOpen opens → IsBuilding b → MayBe (word_at compound w outer opens b)
-word_by Name w outer opens b o os h = either (is_sign w) (Stops Unsupported) (named (name_in w) outer opens b) tt (named_by (name_in w) outer opens b o os)
+word_by Name w outer opens b o os h = either (is_sign w || w.quoted) (Stops Unsupported) (named (name_in w) outer opens b) tt (named_by (name_in w) outer opens b o os)
 word_by (In name) w outer opens b o os h =
     either (is_in (reserved_in w)) (entered (Words name) outer opens b) _ ((tt, tt, tt), ((tt, o), os))
     (either (is_do (reserved_in w)) (entered (Each name []) outer opens b) (Stops Unsupported) ((tt, tt, tt), ((tt, o), os)) tt)
@@ -297,16 +297,16 @@ ended_by : (opens : List (Compound × Block)) (b : Building) → IsBuilding b �
 ended_by [] b h = runs_proper (all_ended b).block.lists (all_ended_building b h).0.0
 ended_by (o ∷ opens) b h = tt
 
-text_by : (stop : Option Stop) (b : Building) → IsBuilding b → IsTree (text_in stop b)
-text_by (Some stop) b h = tt
-text_by None b h = ended_by b.opens b h
+text_by : (stop : Option Stop) (quoted : Bool) (b : Building) → IsBuilding b → IsTree (text_in stop quoted b)
+text_by (Some stop) quoted b h = tt
+text_by None quoted b h = ended_by b.opens b h
 
-step_by : (stop : Option Stop) (step : Step) → MayBe step → IsTree (text_of_step stop step)
-step_by stop (Stops first) h = tt
-step_by stop (Goes b) h = text_by stop b h
+step_by : (stop : Option Stop) (quoted : Bool) (step : Step) → MayBe step → IsTree (text_of_step stop quoted step)
+step_by stop quoted (Stops first) h = tt
+step_by stop quoted (Goes b) h = text_by stop quoted b h
 
 found_by : (found : FoundTokens) → IsTree (text_of_tokens found)
-found_by found = step_by found.stop (read_tokens found.tokens nothing_built) (tokens_by found.tokens nothing_built ((tt, tt, tt), tt))
+found_by found = step_by found.stop found.quoted (read_tokens found.tokens nothing_built) (tokens_by found.tokens nothing_built ((tt, tt, tt), tt))
 
 pub modern_trees_are_proper : (text : List ℕ) (script : Script) → modern_text text ≡ Read script → IsProper script
 unfolding modern_text

@@ -21,7 +21,7 @@ token code.Semicolon = says.Semicolon
 token (code.Joins op) = says.Joins op
 
 abbrev pub found : FoundTokens → says.FoundTokens
-found f = record { tokens = map token f.tokens.items; stop = f.stop }
+found f = record { tokens = map token f.tokens.items; stop = f.stop; quoted = f.quoted }
 
 -- the name of a variable is that of the reading
 abbrev pub place : Place → (name : List ℕ) → says.Place

@@ -390,7 +390,7 @@ impl Building {
             (shown.block outer) (shown.opens self.old.opens) (shown.building self.old)
             ≡ shown.unless stop (shown.building self.new)) }
     {
-        if is_sign(&word) {
+        if is_sign(&word) || word.quoted {
             return Ok(Some(Stop::Unsupported));
         }
         let Some(name) = name_in(&word) else {
@@ -557,6 +557,17 @@ impl Building {
             Token::NewLine => self.end(true),
             Token::Semicolon => self.end(false),
             Token::Joins(op) => self.join(op),
+        }
+    }
+
+    /// How the reading stops behind the tokens. `quoted` says whether it stops in a word that has quotes.
+    pub(crate) fn stop_behind(&self, quoted: bool, stop: Stop) -> Stop
+        ensures { result ≡ says.stop_behind quoted stop (shown.building self.now) }
+    {
+        if quoted && self.fresh {
+            Stop::Unsupported
+        } else {
+            stop
         }
     }
 

@@ -66,6 +66,13 @@ pub(crate) fn is_parameter(byte: u8) -> bool
     byte == b'#' || byte == b'*' || byte == b'@' || byte == b'-'
 }
 
+/// Whether a byte is `(` or `)`.
+pub(crate) fn is_parenthesis(byte: u8) -> bool
+    ensures { result ≡ says.is_parenthesis byte }
+{
+    byte == b'(' || byte == b')'
+}
+
 /// Whether a byte is an operator in braces.
 pub(crate) fn is_operator(byte: u8) -> bool
     ensures { result ≡ says.is_operator byte }

@@ -7,7 +7,7 @@ ghost use Rattle.hushlang_modern.specs.ModernTokensShown as shown;
 
 use crate::byte_classes::{
     begins_name, begins_with_name, is_digit, is_escapable, is_foreign, is_guarded, is_name,
-    is_name_byte, is_operator, is_parameter,
+    is_name_byte, is_operator, is_parameter, is_parenthesis,
 };
 use crate::stop::Stop;
 use hushlang::{Op, Piece};
@@ -80,11 +80,13 @@ struct TextReading {
     name: Vec<u8>,
 }
 
-/// The tokens that are whole, and how the reading stops behind them, if it does.
+/// The tokens that are whole; how the reading stops behind them, if it does; and whether it stops in a
+/// word that has quotes.
 #[derive(Drop)]
 pub(crate) struct FoundTokens {
     pub(crate) tokens: Vec<Token>,
     pub(crate) stop: Option<Stop>,
+    pub(crate) quoted: bool,
 }
 
 fn sign_of(op: Op) -> u8
@@ -223,13 +225,6 @@ impl TextReading {
         Ok(())
     }
 
-    /// Whether a byte begins or ends a group here.
-    fn is_group_byte(&self, byte: u8) -> bool
-        ensures { result ≡ says.is_group_byte byte (shown.reading self.now) }
-    {
-        byte == b'(' || byte == b')' && !self.has_begun()
-    }
-
     /// Reads a byte outside all quotes that is neither a quote, a backslash nor `$`.
     fn read_bare(&mut self, byte: u8) -> Result<(), AllocError>
         ensures { OnOk result
@@ -247,7 +242,7 @@ impl TextReading {
             self.place = Place::Hash;
             return Ok(());
         }
-        if self.is_group_byte(byte) {
+        if is_parenthesis(byte) {
             self.place = Place::Stopped(Stop::Unsupported);
             return Ok(());
         }
@@ -626,12 +621,14 @@ impl TextReading {
     {
         let mut reading = self;
         let stop = reading.stop();
+        let quoted = stop.is_some() && reading.quoted;
         if stop.is_none() {
             reading.end_text()?;
         }
         Ok(FoundTokens {
             tokens: reading.tokens,
             stop,
+            quoted,
         })
     }
 }
