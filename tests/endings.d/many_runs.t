@@ -50,26 +50,26 @@ States that do not merge: each of so many commands sets a variable to what it an
   $ spreading() { { printf 'bootcmd=' && each 'if load; then setenv v%d 0; else setenv v%d 1; fi;' "$1" && printf 'test ' && each '$v%d%.0s' "$1" && echo ' = 1'; } | lines_image spreading; }
 
 as many states as runs
-  $ spreading 11; ubtool endings -c spreading.config -d devices | tail -n 1
-  all 2048 states 2047
+  $ spreading 14; ubtool endings -c spreading.config -d devices | tail -n 1
+  all 16384 states 16383
 
 as many states as allowed
-  $ ubtool endings -c spreading.config -d devices --states 2047 | tail -n 1
-  all 2048 states 2047
+  $ ubtool endings -c spreading.config -d devices --states 16383 | tail -n 1
+  all 16384 states 16383
 
 one state more than allowed
-  $ ubtool endings -c spreading.config -d devices --states 2046
+  $ ubtool endings -c spreading.config -d devices --states 16382
   ! ubtool: more states than allowed
   [1]
 
-a million states, of which 1,000 are allowed, in 16 MiB
+a million states, of which 10,000 are allowed, in 64 MiB
   $ spreading 20
-  $ (ulimit -v 16384; ubtool endings -c spreading.config -d devices --states 1000)
+  $ (ulimit -v 65536; ubtool endings -c spreading.config -d devices --states 10000)
   ! ubtool: more states than allowed
   [1]
 
-a million states in 8 MiB
-  $ (ulimit -v 8192; ubtool endings -c spreading.config -d devices)
+a million states in 32 MiB
+  $ (ulimit -v 32768; ubtool endings -c spreading.config -d devices)
   ! ubtool: out of memory
   [1]
 
