@@ -1,9 +1,9 @@
-# What `ubtool endings` tells of a board, as rows of the tables of docs/BOARDS.md. OWN and BY_SHELL have for each alternative of
-# the board its line `given ..` (`given` alone if there is one alternative), what `endings` wrote, and a line `ms N`: by ubtool's
-# own reading, and by the board's shell. VARIABLES is what comes before the runs in a row. Writes PATH.row, and PATH.shell of what
-# ends otherwise there: a row of all alternatives if they end alike, else rows of those that do; and PATH.endings, the lines of
-# `endings` of the first of each row, each after the board.
-# Usage: awk -v board=BOARD -v before=VARIABLES -v files=PATH -f board_rows.awk OWN BY_SHELL
+# What `ubtool endings` tells of a board, as rows of the tables of docs/BOARDS.md. OWN, BY_SHELL and STEADY have for each
+# alternative of the board its line `given ..` (`given` alone if there is one alternative), what `endings` wrote, and a line
+# `ms N`: by ubtool's own reading, by the board's shell, and with each answer as it is. VARIABLES is what comes before the runs in a
+# row. Writes PATH.row, PATH.shell of what ends otherwise there, and PATH.steady: a row of all alternatives if they end alike, else
+# rows of those that do; and PATH.endings, the lines of `endings` of the first of each row of PATH.row, each after the board.
+# Usage: awk -v board=BOARD -v before=VARIABLES -v files=PATH -f board_rows.awk OWN BY_SHELL STEADY
 
 FNR == 1 { file++; at = 0 }
 /^given( |$)/ { part[file, ++at] = $0; next }
@@ -65,6 +65,7 @@ END {
     for (at = 1; at <= count; at++) {
         row[1, at] = runs[1, at] " | " states[1, at] " | " shares(1, at)
         row[2, at] = runs[2, at] " | " shares(2, at)
+        row[3, at] = runs[3, at] " | " states[3, at] " | " shares(3, at)
         every[at] = 1
         differs[at] = ends[1, at] != ends[2, at]
     }
@@ -77,5 +78,7 @@ END {
         }
         if (is_first(2, at, differs))
             print "| " subject(2, at, differs) " | " row[2, at] " |" >(files ".shell")
+        if (is_first(3, at, every))
+            print "| " subject(3, at, every) " | " row[3, at] " | " ms[at, 3] " |" >(files ".steady")
     }
 }
