@@ -119,6 +119,20 @@ twice_found : found twice_words twice ≡ expected twice
 unfolding modern_fields expanded atoms digits
 twice_found = refl
 
+-- ---- `load ""$x$x`: what is behind a backslash or a blank at the end of a value, and no field of quotes that ended before
+
+abbrev one_behind_another : List Row
+one_behind_another =
+    (codes " y ", load ∷ [] ∷ codes "y" ∷ codes "y" ∷ []) ∷ (codes "y ", load ∷ codes "y" ∷ codes "y" ∷ []) ∷ (codes "b*\\", load ∷ codes "b*\\\\b*\\\\" ∷ [])
+    ∷ (codes "\\ b*", load ∷ codes "\\" ∷ codes "b*\\\\" ∷ codes "b*" ∷ []) ∷ []
+
+abbrev one_behind_another_words : List Word
+one_behind_another_words = (Bytes load ∷ []) ∷ (Mark ∷ Var (codes "x") true ∷ Var (codes "x") true ∷ []) ∷ []
+
+one_behind_another_found : found one_behind_another_words one_behind_another ≡ expected one_behind_another
+unfolding modern_fields expanded atoms digits
+one_behind_another_found = refl
+
 -- ---- `load $?"$?" *$x\-`
 
 abbrev status : List Row
