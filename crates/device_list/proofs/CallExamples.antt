@@ -5,7 +5,7 @@ use Rattle.text.specs.Lines.{Text}
 use Rattle.device_list.specs.declared.finish.BoardEnd.TheVariants.{Boots, Restarts, Halts}
 use Rattle.device_list.specs.Called.{sets_in}
 use Rattle.device_list.specs.CallLines.{Exactly, Starting, Pattern, fits}
-use Rattle.device_list.specs.DeviceList.{Setting, Variable, WordAt, LastWord, Literal, ValueAt, LastValue, Effect, Devices, only, effect_of, is_listed, listed, all_steady}
+use Rattle.device_list.specs.DeviceList.{Setting, Variable, WordAt, LastWord, Literal, ValueAt, LastValue, Effect, Devices, only, effect_of, fails_normally, is_listed, listed, all_steady}
 use Rattle.device_list.specs.DeviceLaws.{quiet}
 use Rattle.device_list.specs.Quotes.{quoted_words, unquoted}
 use Rattle.device_list.specs.declared.devices_error.DevicesError.TheVariants.{BadLine, BuiltIn}
@@ -60,8 +60,8 @@ ends_once : map (λ line. listed line) (codes "call go : restart" ∷ codes "cal
 ends_once = refl
 
 in_any_order : map (λ line. listed line) (codes "call go ** : final a=1 steady" ∷ codes "call go ** : steady final a=1" ∷ [])
-    ≡ Ok (one (codes "go") any (record { ends = Some Boots; stays = true; always = None; needs = []; sets = (Variable (codes "a"), Literal (codes "1")) ∷ [] }))
-    ∷ Ok (one (codes "go") any (record { ends = Some Boots; stays = true; always = None; needs = []; sets = (Variable (codes "a"), Literal (codes "1")) ∷ [] })) ∷ []
+    ≡ Ok (one (codes "go") any (record { ends = Some Boots; stays = true; always = None; needs = []; normal = false; sets = (Variable (codes "a"), Literal (codes "1")) ∷ [] }))
+    ∷ Ok (one (codes "go") any (record { ends = Some Boots; stays = true; always = None; needs = []; normal = false; sets = (Variable (codes "a"), Literal (codes "1")) ∷ [] })) ∷ []
 in_any_order = refl
 
 always_succeeds : listed (codes "call pci enum : always 0") ≡ Ok (one (codes "pci") (record { words = Exactly (codes "enum") ∷ []; more = false }) (record quiet { always = Some true }))
@@ -76,8 +76,8 @@ other_status = refl
 
 -- what follows the status is the next clause, before other clauses and after them
 after_the_status : map (λ line. listed line) (codes "call usb ** : always 0 a=1 final" ∷ codes "call usb ** : final a=1 always 0" ∷ [])
-    ≡ Ok (one (codes "usb") any (record { ends = Some Boots; stays = false; always = Some true; needs = []; sets = (Variable (codes "a"), Literal (codes "1")) ∷ [] }))
-    ∷ Ok (one (codes "usb") any (record { ends = Some Boots; stays = false; always = Some true; needs = []; sets = (Variable (codes "a"), Literal (codes "1")) ∷ [] })) ∷ []
+    ≡ Ok (one (codes "usb") any (record { ends = Some Boots; stays = false; always = Some true; needs = []; normal = false; sets = (Variable (codes "a"), Literal (codes "1")) ∷ [] }))
+    ∷ Ok (one (codes "usb") any (record { ends = Some Boots; stays = false; always = Some true; needs = []; normal = false; sets = (Variable (codes "a"), Literal (codes "1")) ∷ [] })) ∷ []
 after_the_status = refl
 
 -- ---- `needs`
@@ -126,6 +126,41 @@ own_needs = refl
 needs_elsewhere : map (λ line. listed line) (codes "needs" ∷ codes "load needs" ∷ [])
     ≡ Ok (only ((codes "needs", quiet) ∷ [])) ∷ Err (BadLine 1) ∷ []
 needs_elsewhere = refl
+
+-- ---- `normal`
+
+failure_is_normal : listed (codes "call tftp ** : normal 1") ≡ Ok (one (codes "tftp") any (record quiet { normal = true }))
+failure_is_normal = refl
+
+-- in any order with others
+normal_in_any_order : map (λ line. listed line) (codes "call tftp ** : normal 1 final steady" ∷ codes "call tftp ** : final normal 1 steady" ∷ codes "call tftp ** : steady final normal 1" ∷ [])
+    ≡ (let list = Ok (one (codes "tftp") any (record quiet { ends = Some Boots; stays = true; normal = true })) in list ∷ list ∷ list ∷ [])
+normal_in_any_order = refl
+
+-- also behind the name of a call that is needed
+normal_behind_needs : map (λ line. listed line) (codes "call boot ** : needs load normal 1" ∷ codes "call boot ** : needs load mmc normal 1" ∷ [])
+    ≡ Ok (needing (record quiet { normal = true }) (codes "load" ∷ [])) ∷ Ok (needing (record quiet { normal = true }) (codes "load" ∷ codes "mmc" ∷ [])) ∷ []
+normal_behind_needs = refl
+
+-- without a status, with another one, twice
+bad_normal : map (λ line. listed line) (codes "call tftp ** : normal" ∷ codes "call tftp ** : normal 0" ∷ codes "call tftp ** : normal 2" ∷ codes "call tftp ** : normal final" ∷ codes "call tftp ** : normal 1 normal 1" ∷ codes "call tftp ** : normal=1 normal" ∷ [])
+    ≡ Err (BadLine 1) ∷ Err (BadLine 1) ∷ Err (BadLine 1) ∷ Err (BadLine 1) ∷ Err (BadLine 1) ∷ Err (BadLine 1) ∷ []
+bad_normal = refl
+
+-- an answer that is always the same takes no outcome, so none is expected
+normal_or_always : map (λ line. listed line) (codes "call tftp ** : always 0 normal 1" ∷ codes "call tftp ** : normal 1 always 0" ∷ codes "call tftp ** : normal 1 always 1" ∷ [])
+    ≡ Err (BadLine 1) ∷ Err (BadLine 1) ∷ Err (BadLine 1) ∷ []
+normal_or_always = refl
+
+-- in the other lines it is a name, or no setting
+normal_elsewhere : map (λ line. listed line) (codes "normal" ∷ codes "normal 1" ∷ codes "tftp normal" ∷ [])
+    ≡ Ok (only ((codes "normal", quiet) ∷ [])) ∷ Err (BadLine 1) ∷ Err (BadLine 1) ∷ []
+normal_elsewhere = refl
+
+-- the first line that fits decides, as of all that is said of a call; what is not listed does not fail normally
+normal_calls : elim (listed (codes "call tftp boot : normal 1\ntftp\ncall tftp ** :\nload")) [ Ok devices ↦ map (λ call. fails_normally devices call) ((codes "tftp" ∷ codes "boot" ∷ []) ∷ (codes "tftp" ∷ codes "kernel" ∷ []) ∷ (codes "tftp" ∷ []) ∷ (codes "load" ∷ []) ∷ (codes "dhcp" ∷ []) ∷ [] ∷ []) | Err fault ↦ [] ]
+    ≡ true ∷ false ∷ false ∷ false ∷ false ∷ false ∷ []
+normal_calls = refl
 
 -- ---- other clauses
 
@@ -287,6 +322,10 @@ steady_lines : all_steady rescan ≡ record {
   test_stays = true;
 }
 steady_lines = refl
+
+-- what is expected of a call, is expected if its answers stay
+steady_normal : all_steady (one (codes "tftp") any (record quiet { normal = true })) ≡ record (one (codes "tftp") any (record quiet { stays = true; normal = true })) { test_stays = true }
+steady_normal = refl
 
 -- what a call needs, it needs if its answers stay
 steady_needs : all_steady (needing quiet (codes "load" ∷ [])) ≡ record (needing (record quiet { stays = true }) (codes "load" ∷ [])) { test_stays = true }

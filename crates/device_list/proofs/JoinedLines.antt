@@ -101,9 +101,9 @@ first-more (l ∷ before) one = by l.effect.ends (first-more before one)
 
 whole_effect-more : (before : List DeviceLine) (one : DeviceLine) → whole_effect (before ++ one ∷ []) ≡ Some (joint_behind one.effect (whole_effect before))
 whole_effect-more [] one =
-    ap (λ b. let e : Effect = record { ends = b; stays = one.effect.stays || false; always = one.effect.always; needs = one.effect.needs; sets = one.effect.sets ++ [] } in Some e) (first-none one.effect.ends)
-    ∙ ap (λ b. let e : Effect = record { ends = one.effect.ends; stays = b; always = one.effect.always; needs = one.effect.needs; sets = one.effect.sets ++ [] } in Some e) (or-false one.effect.stays)
-    ∙ ap (λ s. let e : Effect = record { ends = one.effect.ends; stays = one.effect.stays; always = one.effect.always; needs = one.effect.needs; sets = s } in Some e) (append-nil one.effect.sets)
+    ap (λ b. let e : Effect = record { ends = b; stays = one.effect.stays || false; always = one.effect.always; needs = one.effect.needs; normal = one.effect.normal; sets = one.effect.sets ++ [] } in Some e) (first-none one.effect.ends)
+    ∙ ap (λ b. let e : Effect = record { ends = one.effect.ends; stays = b; always = one.effect.always; needs = one.effect.needs; normal = one.effect.normal; sets = one.effect.sets ++ [] } in Some e) (or-false one.effect.stays)
+    ∙ ap (λ s. let e : Effect = record { ends = one.effect.ends; stays = one.effect.stays; always = one.effect.always; needs = one.effect.needs; normal = one.effect.normal; sets = s } in Some e) (append-nil one.effect.sets)
 whole_effect-more (l ∷ before) one =
     let ends : first_of (map (λ l. l.effect.ends) ((l ∷ before) ++ one ∷ [])) ≡ first_finish (first_of (map (λ l. l.effect.ends) (l ∷ before))) one.effect.ends = first-more (l ∷ before) one in
     let stays : list_any (λ l. l.effect.stays) ((l ∷ before) ++ one ∷ []) ≡ (list_any (λ l. l.effect.stays) (l ∷ before) || one.effect.stays) =

@@ -76,8 +76,8 @@ module _ {V S : Type 0} (shown : V → S) where
       ap table inserted ∙ (changed-absent change es k w absent e ∙ ap (changed_at change (table es)) key)
 
 -- one more line for what is listed
-pub listed-joined : (l w more : Listed) → w.ends ≡ first_finish l.ends more.ends → w.stays ≡ (l.stays || more.stays) → w.always ≡ l.always → w.needs ≡ l.needs → w.sets.items ≡ l.sets.items ++ more.sets.items → listed_shown w ≡ joint (listed_shown l) (listed_shown more)
-listed-joined l w more ends stays always needs sets =
+pub listed-joined : (l w more : Listed) → w.ends ≡ first_finish l.ends more.ends → w.stays ≡ (l.stays || more.stays) → w.always ≡ l.always → w.needs ≡ l.needs → w.normal ≡ l.normal → w.sets.items ≡ l.sets.items ++ more.sets.items → listed_shown w ≡ joint (listed_shown l) (listed_shown more)
+listed-joined l w more ends stays always needs normal sets =
     let shown : map setting_shown w.sets.items ≡ map setting_shown l.sets.items ++ map setting_shown more.sets.items = ap (map setting_shown) sets ∙ map-append setting_shown l.sets.items more.sets.items in cc
 
 -- whether a map has a name

@@ -99,15 +99,15 @@ module _ (kind : Kind) (P : Devices → Type 0)
 
 -- what a line of a command says
 pub line-says : (number : ℕ) (h : Heading) (one : DeviceLine) → line_of number h ≡ Ok one
-    → (sets : List Setting) × (settings (is_some h.word) h.words ≡ Some sets) × ((let l : DeviceLine = record { name = h.name; word = h.word; effect = record { ends = h.ends; stays = h.stays; always = None; needs = []; sets = sets } } in l) ≡ one)
+    → (sets : List Setting) × (settings (is_some h.word) h.words ≡ Some sets) × ((let l : DeviceLine = record { name = h.name; word = h.word; effect = record { ends = h.ends; stays = h.stays; always = None; needs = []; normal = false; sets = sets } } in l) ≡ one)
 line-says number h one e = by (settings (is_some h.word) h.words) refl (is_built_in h.name) refl e
   where
     by : (o : Option (List Setting)) → settings (is_some h.word) h.words ≡ o → (b : Bool) → is_built_in h.name ≡ b → line_with number h o ≡ Ok one
-        → (sets : List Setting) × (settings (is_some h.word) h.words ≡ Some sets) × ((let l : DeviceLine = record { name = h.name; word = h.word; effect = record { ends = h.ends; stays = h.stays; always = None; needs = []; sets = sets } } in l) ≡ one)
+        → (sets : List Setting) × (settings (is_some h.word) h.words ≡ Some sets) × ((let l : DeviceLine = record { name = h.name; word = h.word; effect = record { ends = h.ends; stays = h.stays; always = None; needs = []; normal = false; sets = sets } } in l) ≡ one)
     by None found b is f = absurd (let g = f in cc)
     by (Some sets) found true is f = absurd (let g : line_with number h (Some sets) ≡ Err (BuiltIn number) = rw is refl in let k = sym g ∙ f in cc)
     by (Some sets) found false is f =
-        let made : DeviceLine = record { name = h.name; word = h.word; effect = record { ends = h.ends; stays = h.stays; always = None; needs = []; sets = sets } } in
+        let made : DeviceLine = record { name = h.name; word = h.word; effect = record { ends = h.ends; stays = h.stays; always = None; needs = []; normal = false; sets = sets } } in
         let g : line_with number h (Some sets) ≡ Ok made = rw is refl in
         (sets, found, ok-same (sym g ∙ f))
 
@@ -286,7 +286,7 @@ known-unused text devices e none = list-keeps Known NoneKnown command (λ unlike
     command devices number h one is without all = same_known devices one.name one.word one.effect ∙ all
 
 abbrev TakesOutcomes : Effect → Type 0
-TakesOutcomes effect = (effect.always ≡ None) × (effect.needs ≡ [])
+TakesOutcomes effect = (effect.always ≡ None) × (effect.needs ≡ []) × (effect.normal ≡ false)
 
 both-take : (before more : Effect) → TakesOutcomes before → TakesOutcomes more → TakesOutcomes (joint before more)
 both-take before more a b = a
@@ -299,7 +299,7 @@ calls-unused text devices e none =
     command : (devices : Devices) (number : ℕ) (h : Heading) (one : DeviceLine) → line_of number h ≡ Ok one → uses h Calls ≡ false → AllDo TakesOutcomes both-take devices → AllDo TakesOutcomes both-take (joined devices one)
     command devices number h one is without all =
         let says = line-says number h one is in
-        joined-do TakesOutcomes both-take devices one.name one.word one.effect (sym (λ i. (says.2 i).effect.always), sym (λ i. (says.2 i).effect.needs)) all
+        joined-do TakesOutcomes both-take devices one.name one.word one.effect (sym (λ i. (says.2 i).effect.always), sym (λ i. (says.2 i).effect.needs), sym (λ i. (says.2 i).effect.normal)) all
 
 pub unused_kinds_say_nothing : UnusedKindsSayNothing
 unused_kinds_say_nothing Final text devices e none = end-unused Final (λ h. refl) text devices e none

@@ -6,7 +6,7 @@ use Rattle.text.specs.Words.{is_equals}
 use Rattle.text.specs.Lines.{Text}
 use Rattle.builtins.specs.Builtins.{is_built_in}
 use Rattle.device_list.specs.declared.clauses.Awaited.{Awaited}
-use Rattle.device_list.specs.declared.clauses.Awaited.TheVariants.{Clause, Status, Name, FirstWord}
+use Rattle.device_list.specs.declared.clauses.Awaited.TheVariants.{Clause, Status, Name, FirstWord, Expected}
 use Rattle.device_list.specs.Settings.{Setting, Effect, call_setting}
 use Rattle.device_list.specs.Finishes.{finish_named}
 use Rattle.device_list.specs.declared.finish.BoardEnd.{BoardEnd}
@@ -83,13 +83,13 @@ is_colon word = bytes_eq word (codes ":")
 -- ---- the clauses of a line
 
 -- the clauses so far, and what the next word may be: a clause; the `0` or the `1` behind `always`; the name behind `needs`;
--- or the word behind that name, if it is no clause
+-- the word behind that name, if it is no clause; or the `1` behind `normal`
 pub record Clauses : Type 0 where
   pub effect : Effect
   pub awaited : Awaited
 
 abbrev pub no_clause : Clauses
-no_clause = record { effect = record { ends = None; stays = false; always = None; needs = []; sets = [] }; awaited = Clause }
+no_clause = record { effect = record { ends = None; stays = false; always = None; needs = []; normal = false; sets = [] }; awaited = Clause }
 
 -- the answer of a status
 abbrev pub answer_of : (word : Text) → Option Bool
@@ -111,6 +111,17 @@ abbrev pub once : (before : Bool) → (after : Clauses) → Option Clauses
 once true after = None
 once false after = Some after
 
+-- a failure is what is expected; that a success is needs no clause
+abbrev pub with_expected : Clauses → Option Bool → Option Clauses
+with_expected clauses None = None
+with_expected clauses (Some true) = None
+with_expected clauses (Some false) =
+    Some (record { effect = record clauses.effect { normal = true }; awaited = Clause })
+
+-- `always` and `normal`, of which one stands once: an answer that is always the same takes no outcome
+abbrev pub has_answer : Effect → Bool
+has_answer effect = is_some effect.always || effect.normal
+
 -- how a success ends the run stands once; another word is a setting
 abbrev pub with_finish : Clauses → Option BoardEnd → (word : Text) → Option Clauses
 with_finish clauses None word = with_setting clauses (call_setting word)
@@ -122,12 +133,13 @@ abbrev pub with_new : Clauses → (word : Text) → Option Clauses
 with_new clauses word =
     if bytes_eq word (codes "steady")
     then once clauses.effect.stays (record clauses { effect = record clauses.effect { stays = true } })
-    else (if bytes_eq word (codes "always") then once (is_some clauses.effect.always) (record clauses { awaited = Status })
+    else (if bytes_eq word (codes "always") then once (has_answer clauses.effect) (record clauses { awaited = Status })
+    else (if bytes_eq word (codes "normal") then once (has_answer clauses.effect) (record clauses { awaited = Expected })
     else (if bytes_eq word (codes "needs")
     then once (not (length clauses.effect.needs == 0)) (record clauses { awaited = Name })
-    else with_finish clauses (finish_named word) word))
+    else with_finish clauses (finish_named word) word)))
 
--- the words of clauses; `normal` is kept for one
+-- the words of clauses
 abbrev pub is_clause_word : (word : Text) → Bool
 is_clause_word word = is_some (finish_named word)
     || (list_any (bytes_eq word) (codes "steady" ∷ codes "always" ∷ codes "needs" ∷ codes "normal" ∷ []))
@@ -160,16 +172,18 @@ taken Clause clauses word = with_new clauses word
 taken Status clauses word = with_always clauses (answer_of word)
 taken Name clauses word = with_name clauses word
 taken FirstWord clauses word = with_first_word clauses word
+taken Expected clauses word = with_expected clauses (answer_of word)
 
 abbrev pub with_clause : Clauses → (word : Text) → Option Clauses
 with_clause clauses word = taken clauses.awaited clauses word
 
--- `always` and `needs` are not the last word
+-- `always`, `needs` and `normal` are not the last word
 abbrev pub may_end : Awaited → Bool
 may_end Clause = true
 may_end Status = false
 may_end Name = false
 may_end FirstWord = true
+may_end Expected = false
 
 abbrev pub clauses_of : Clauses → List Text → Option Clauses
 clauses_of clauses [] = if may_end clauses.awaited then Some clauses else None

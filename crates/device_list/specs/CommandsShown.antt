@@ -16,13 +16,13 @@ use Rattle.device_list.specs.declared.call_line.CallLine.{CallLine}
 use Rattle.device_list.specs.declared.call_line.Call.{Call}
 
 abbrev pub listed_shown : Listed → Effect
-listed_shown l = record { ends = l.ends; stays = l.stays; always = l.always; needs = texts l.needs.items; sets = settings_shown l.sets }
+listed_shown l = record { ends = l.ends; stays = l.stays; always = l.always; needs = texts l.needs.items; normal = l.normal; sets = settings_shown l.sets }
 
 abbrev pub found_shown : Bor Listed → Effect
 found_shown l = listed_shown l.now
 
 abbrev pub lent_effect : LentEffect → Effect
-lent_effect e = record { ends = e.ends; stays = e.stays; always = e.always; needs = texts e.needs.now; sets = map setting_shown e.sets.now }
+lent_effect e = record { ends = e.ends; stays = e.stays; always = e.always; needs = texts e.needs.now; normal = e.normal; sets = map setting_shown e.sets.now }
 
 abbrev pub commands_shown : List (Bytes × Listed) → Effects
 commands_shown = map (λ c. (c.0.items, listed_shown c.1))
@@ -37,7 +37,7 @@ subs_shown = map (λ c. (c.0.items, table_shown c.1))
 
 abbrev pub clauses_shown : Clauses → calls.Clauses
 clauses_shown c = record {
-  effect = record { ends = c.ends; stays = c.stays; always = c.always; needs = texts c.needs.items; sets = settings_shown c.sets };
+  effect = record { ends = c.ends; stays = c.stays; always = c.always; needs = texts c.needs.items; normal = c.normal; sets = settings_shown c.sets };
   awaited = c.awaited;
 }
 

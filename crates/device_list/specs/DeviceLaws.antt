@@ -42,6 +42,7 @@ whole_effect (one ∷ more) = Some (record {
   stays = list_any (λ l. l.effect.stays) (one ∷ more);
   always = one.effect.always;
   needs = one.effect.needs;
+  normal = one.effect.normal;
   sets = flat_map (λ l. l.effect.sets) (one ∷ more);
 })
 
@@ -54,7 +55,7 @@ LinesAreJoined = (text : Text) (devices : Devices) → listed text ≡ Ok device
 
 -- a command that only succeeds or fails
 abbrev pub quiet : Effect
-quiet = record { ends = None; stays = false; always = None; needs = []; sets = [] }
+quiet = record { ends = None; stays = false; always = None; needs = []; normal = false; sets = [] }
 
 abbrev pub is_name_alone : Text → Bool
 is_name_alone line = nat_le (length (device_words line)) 1

@@ -59,6 +59,12 @@ abbrev pub effect_of : Devices → (name : Text) → (words : List Text) → Opt
 effect_of devices name words =
     elim (call_effect devices name words) [ Some effect ↦ Some effect | None ↦ line_effect devices name words ]
 
+-- whether a failure is what is expected of a call with these words, its name first
+abbrev pub fails_normally : Devices → (call : List Text) → Bool
+fails_normally devices [] = false
+fails_normally devices (name ∷ words) =
+    elim (effect_of devices name words) [ Some effect ↦ effect.normal | None ↦ false ]
+
 -- what a call comes to, if the list has its command computed and its words can be
 abbrev pub computed_by : Devices → (name : Text) → (words : List Text) → Option Computed
 computed_by devices name words =
@@ -134,7 +140,7 @@ pub record DeviceLine : Type 0 where
 abbrev pub line_with : ℕ → Heading → Option (List Setting) → Result DeviceLine DevicesError
 line_with number h None = Err (BadLine number)
 line_with number h (Some sets) = if is_built_in h.name then Err (BuiltIn number)
-    else Ok (record { name = h.name; word = h.word; effect = record { ends = h.ends; stays = h.stays; always = None; needs = []; sets = sets } })
+    else Ok (record { name = h.name; word = h.word; effect = record { ends = h.ends; stays = h.stays; always = None; needs = []; normal = false; sets = sets } })
 
 -- a line with the first word of its calls is a `sub` line
 abbrev pub line_of : ℕ → Heading → Result DeviceLine DevicesError
@@ -153,13 +159,15 @@ changed_at change (e ∷ table) name = if bytes_eq name e.0 then (e.0, change (S
     else e ∷ changed_at change table name
 
 -- one more line: it ends the run as the first of the two says, and is steady if one of the two is, with the settings in
--- their order. (Lines that are joined name no answer that is always the same, and no call that is needed.)
+-- their order. (Lines that are joined say nothing of an answer that is always the same, of a call
+-- that is needed, or of a failure that is expected.)
 abbrev pub joint : Effect → Effect → Effect
 joint before more = record {
   ends = first_finish before.ends more.ends;
   stays = before.stays || more.stays;
   always = before.always;
   needs = before.needs;
+  normal = before.normal;
   sets = before.sets ++ more.sets;
 }
 

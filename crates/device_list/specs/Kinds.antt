@@ -179,7 +179,7 @@ SaysNothing Sub devices = devices.subs ≡ []
 SaysNothing Settings devices = EachCall (λ effect. effect.sets ≡ []) devices
 SaysNothing Known devices = devices.known ≡ []
 SaysNothing Calls devices =
-    EachCall (λ effect. (effect.always ≡ None) × (effect.needs ≡ [])) devices × (devices.calls ≡ [])
+    EachCall (λ effect. (effect.always ≡ None) × (effect.needs ≡ []) × (effect.normal ≡ false)) devices × (devices.calls ≡ [])
 
 -- a `call` line may say something of each kind
 abbrev pub may_say : List Kind → Kind → Bool

@@ -28,13 +28,14 @@ Setting = LeftSide × RightSide
 
 -- what a device command does on success: what it sets in the environment, in order, and how the run ends, if it ends; whether
 -- its answers stay: asked again with the same words in one run, it answers as before; the only answer that it has, if it
--- has one: whether it succeeds; and how the words of a call begin, its name first, that has to succeed before: none, if it
--- needs no call
+-- has one: whether it succeeds; how the words of a call begin, its name first, that has to succeed before: none, if it needs
+-- no call; and whether a failure is what is expected of it
 pub record Effect : Type 0 where
   pub ends : Option BoardEnd
   pub stays : Bool
   pub always : Option Bool
   pub needs : List Text
+  pub normal : Bool
   pub sets : List Setting
 
 -- ---- the settings of a line

@@ -1,6 +1,6 @@
 //! The clauses of a list's lines of calls.
 ghost use Rattle.std.specs.Prelude.{◌≡◌, not, true, map, option_map, IfOk, OnOk};
-ghost use Rattle.device_list.specs.CallLines.{answer_of, clauses_of, effect_said, is_clause_word, is_plain, has_special, may_end, no_clause, with_clause, with_first_word, with_name, with_needed, with_new};
+ghost use Rattle.device_list.specs.CallLines.{answer_of, clauses_of, has_answer, effect_said, is_clause_word, is_plain, has_special, may_end, no_clause, with_clause, with_first_word, with_name, with_needed, with_new};
 ghost use Rattle.device_list.specs.CommandsShown.{clauses_shown, listed_shown, IsTaken};
 
 use crate::call_line::{has_star, is_colon};
@@ -23,6 +23,8 @@ pub(crate) enum Awaited {
     Name,
     /// The word behind that name, if it is no clause.
     FirstWord,
+    /// The `1` behind `normal`.
+    Expected,
 }
 
 /// The clauses so far.
@@ -32,6 +34,7 @@ pub(crate) struct Clauses {
     stays: bool,
     always: Option<bool>,
     needs: Vec<Vec<u8>>,
+    normal: bool,
     sets: Vec<Setting>,
     awaited: Awaited,
 }
@@ -42,7 +45,7 @@ fn may_end(awaited: Awaited) -> bool
 {
     match awaited {
         Awaited::Clause | Awaited::FirstWord => true,
-        Awaited::Status | Awaited::Name => false,
+        Awaited::Status | Awaited::Name | Awaited::Expected => false,
     }
 }
 
@@ -103,6 +106,7 @@ impl Clauses {
             stays: false,
             always: None,
             needs: Vec::new(alloc),
+            normal: false,
             sets: Vec::new(alloc),
             awaited: Awaited::Clause,
         }
@@ -121,6 +125,11 @@ impl Clauses {
             }
             Awaited::Name => self.add_name(alloc, word),
             Awaited::FirstWord => self.add_first_word(alloc, word),
+            Awaited::Expected => {
+                self.awaited = Awaited::Clause;
+                self.normal = true;
+                Ok(matches!(answer_of(word), Some(false)))
+            }
         }
     }
 
@@ -158,6 +167,13 @@ impl Clauses {
         self.add_new(alloc, word)
     }
 
+    /// Whether `always` or `normal` was there.
+    fn has_answer(&self) -> bool
+        ensures { result ≡ has_answer (clauses_shown self.now).effect }
+    {
+        self.always.is_some() || self.normal
+    }
+
     /// Takes a word that begins a clause. Returns whether it does.
     fn add_new(&mut self, alloc: Global, word: &[u8]) -> Result<bool, AllocError>
         ensures { IfOk result (IsTaken (with_new (clauses_shown self.old) word.now) (clauses_shown self.new)) }
@@ -166,8 +182,14 @@ impl Clauses {
             return Ok(set_once(&mut self.stays));
         }
         if word == b"always".as_slice() {
+            let first = !self.has_answer();
             self.awaited = Awaited::Status;
-            return Ok(self.always.is_none());
+            return Ok(first);
+        }
+        if word == b"normal".as_slice() {
+            let first = !self.has_answer();
+            self.awaited = Awaited::Expected;
+            return Ok(first);
         }
         if word == b"needs".as_slice() {
             self.awaited = Awaited::Name;
@@ -194,6 +216,7 @@ impl Clauses {
             stays: self.stays && self.always.is_none(),
             always: self.always,
             needs: self.needs,
+            normal: self.normal,
             sets: self.sets,
         }
     }

@@ -396,7 +396,7 @@ impl DeviceTables {
         if is_built_in(heading.name) {
             return Err(DevicesError::BuiltIn(number));
         }
-        let (ends, stays, always) = (heading.ends, heading.stays, None);
+        let (ends, stays, always, normal) = (heading.ends, heading.stays, None, false);
         let needs = Vec::new(self.alloc);
         self.add(
             heading.name,
@@ -406,6 +406,7 @@ impl DeviceTables {
                 stays,
                 always,
                 needs,
+                normal,
                 sets,
             },
         )?;

@@ -2,7 +2,7 @@
 ghost use Rattle.std.specs.Prelude.{◌≡◌, IfSome, option_map};
 ghost use Rattle.std.specs.List.{list_any};
 ghost use Rattle.std.specs.Str.{bytes_eq};
-ghost use Rattle.device_list.specs.DeviceList.{effect_of, computed_by, is_listed, all_steady};
+ghost use Rattle.device_list.specs.DeviceList.{effect_of, fails_normally, computed_by, is_listed, all_steady};
 ghost use Rattle.device_list.specs.DeviceListAnswers.{IsListed};
 ghost use Rattle.device_list.specs.CommandsShown.{lent_effect};
 ghost use Rattle.commands.specs.ComputedShown.{call_shown};
@@ -63,7 +63,8 @@ impl Devices {
     /// `*` each that starts so, and a last `**` any number. Clauses are `final`, `steady`, `always 0` and
     /// `always 1` (the only status of the call, which then takes no outcome), `needs NAME` and
     /// `needs NAME WORD` (the call fails without an outcome, unless a call of NAME, whose first word is
-    /// WORD, succeeded before in the run), and settings, in any order;
+    /// WORD, succeeded before in the run), `normal 1` (a failure is what is expected of the call), and
+    /// settings, in any order;
     /// there, `VAR=@N` and `VAR=@last` have a word of the call as the value, and a value may have parts in
     /// single quotes, with blanks in them. `absent NAME` is `call NAME ** : always 1`. Spaces, tabs and
     /// carriage returns round a line are dropped; spaces and tabs separate its words. Lines without a word, and lines that begin with `#`, are
@@ -77,7 +78,7 @@ impl Devices {
     /// first faulty line is refused: `BadLine` where it holds NUL, or a further word has no `=`, an
     /// empty variable, one that begins with `-`, or in a `sub` line one that begins with `@` and is no
     /// word of the call; in a line of calls, where a clause is none or is there twice, a quote is not closed or
-    /// stands in no value, the name is missing or holds `*`, `needs` has no name behind it, or `**` is not last; else `BuiltIn` where its name is that of
+    /// stands in no value, the name is missing or holds `*`, `needs` has no name behind it, `normal` no `1`, both `always` and `normal` are there, or `**` is not last; else `BuiltIn` where its name is that of
     /// a built-in command.
     pub fn parse(alloc: Global, text: &[u8]) -> Result<Self, DevicesError>
         ensures { IsListed text.now result }
@@ -117,6 +118,19 @@ impl Devices {
     {
         let effect = self.tables.effect(name, words)?;
         Some(effect.steady_if(self.all_steady))
+    }
+
+    /// Whether a failure is what is expected of a call with these words, its name first. Takes no memory.
+    pub fn fails_normally(&self, call: &[Vec<u8>]) -> bool
+        ensures { result ≡ fails_normally self.now (texts call.now) }
+    {
+        let [name, words @ ..] = call else {
+            return false;
+        };
+        match self.effect(name, words) {
+            Some(effect) => effect.normal,
+            None => false,
+        }
     }
 
     /// What `effect` says. The name is looked up only if it is not at the place that is given. Takes no

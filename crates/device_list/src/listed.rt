@@ -15,6 +15,8 @@ pub struct Effect<'a> {
     /// How the words of a call begin, its name first, that has to succeed before: none, if it needs no
     /// call.
     pub needs: &'a [Vec<u8>],
+    /// Whether a failure is what is expected of it.
+    pub normal: bool,
     /// What it sets in the environment, in order.
     pub sets: &'a [Setting],
 }
@@ -26,6 +28,7 @@ pub(crate) struct Listed {
     pub(crate) stays: bool,
     pub(crate) always: Option<bool>,
     pub(crate) needs: Vec<Vec<u8>>,
+    pub(crate) normal: bool,
     pub(crate) sets: Vec<Setting>,
 }
 
@@ -42,6 +45,7 @@ impl Listed {
             stays: self.stays,
             always: self.always,
             needs: &self.needs,
+            normal: self.normal,
             sets: &self.sets,
         }
     }

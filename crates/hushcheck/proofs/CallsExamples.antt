@@ -69,7 +69,7 @@ in_joined = refl
 -- ---- a device list: a line of a name, a `sub` line, a computed command
 
 abbrev quiet : Effect
-quiet = record { ends = None; stays = false; always = None; needs = []; sets = [] }
+quiet = record { ends = None; stays = false; always = None; needs = []; normal = false; sets = [] }
 
 abbrev list : Devices
 list = record {

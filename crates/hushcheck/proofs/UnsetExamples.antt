@@ -59,7 +59,7 @@ held_command = refl
 -- ---- a device list: a variable, the second word of a call, and its last one
 
 abbrev effect : List Setting → Effect
-effect sets = record { ends = None; stays = false; always = None; needs = []; sets = sets }
+effect sets = record { ends = None; stays = false; always = None; needs = []; normal = false; sets = sets }
 
 abbrev list : Devices
 list = record {

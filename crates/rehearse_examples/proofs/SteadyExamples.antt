@@ -10,7 +10,7 @@ use Rattle.rehearse_rules.specs.Runs.{Task}
 use Rattle.rehearse_rules.proofs.ExampleRehearsals.{limits, bootcmd, bootcmd_among, z, listed, ends_along, listed_along, along}
 
 abbrev steady : Effect
-steady = record { ends = None; stays = true; always = None; needs = []; sets = [] }
+steady = record { ends = None; stays = true; always = None; needs = []; normal = false; sets = [] }
 
 -- the device list `steady load`
 abbrev steady_load : Devices
