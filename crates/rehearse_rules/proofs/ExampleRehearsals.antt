@@ -4,14 +4,15 @@ use Rattle.std.specs.Fmt.{digits}
 use Rattle.hushlang.specs.Expansion.{fields, joined, atoms}
 use Rattle.hushlang_old.specs.OldTrees.{lacks_end, old_tree_of}
 use Rattle.hushlang_old.specs.OldFields.{old_fields, old_turns, inserted, word_text, command_text, read, reread}
-use Rattle.rehearse_terms.specs.Outcomes.{OutcomeWord, WordKind, Run, Short, Long, is_run_kind, is_within, turned, first_run, first_from}
+use Rattle.rehearse_terms.specs.Outcomes.{OutcomeWord, WordKind, Run, Short, Long, is_run_kind}
+use Rattle.rehearse_rules.specs.Choosing.{turned, first_run, first_from}
 use Rattle.hushlang.specs.Trees.{tree_of}
 use Rattle.rehearse_terms.specs.State.{Text, Variables}
 use Rattle.device_list.specs.DeviceList.{Devices, only}
 use Rattle.rehearse_terms.specs.declared.shell.Shell.TheVariants.{Profile}
 use Rattle.rehearse_rules.specs.Execution.{Limits, Ending, End}
 use Rattle.device_list.specs.DeviceLaws.{quiet}
-use Rattle.rehearse_rules.specs.Runs.{Task, run_on, state_of, ending_of, kind, runs, IsListed, rest, work}
+use Rattle.rehearse_rules.specs.Runs.{Task, run_on, state_of, ending_of, kind, runs, is_allowed, IsListed, rest, work}
 use Rattle.rehearse_rules.specs.Listing.{listing, record_of}
 use Rattle.rehearse_rules.proofs.TaskChoices.{task_begins, task_ends, task_goes_on}
 
@@ -91,47 +92,47 @@ letters (suc n) = 97 ∷ letters n
 -- ---- without trying all words, by the laws: the first run, and what follows each run
 
 abbrev pub begins : Task → OutcomeWord
-begins task = first_run (kind task) task.limits.device_bound
+begins task = first_run (is_allowed task) (kind task) task.limits.device_bound
 
 -- the run that follows if u is turned into p
 abbrev pub begun_by : Task → OutcomeWord → OutcomeWord
-begun_by task p = first_from (kind task) task.limits.device_bound p
+begun_by task p = first_from (is_allowed task) (kind task) task.limits.device_bound p
 
 -- the runs after u, at most n of them
 abbrev pub followers : ℕ → Task → OutcomeWord → List OutcomeWord
 followers zero task u = []
-followers (suc n) task u = elim (turned task.failures u) [ None ↦ [] | Some p ↦ begun_by task p ∷ followers n task (begun_by task p) ]
+followers (suc n) task u = elim (turned (is_allowed task) u) [ None ↦ [] | Some p ↦ begun_by task p ∷ followers n task (begun_by task p) ]
 
 -- whether u is listed
 abbrev pub is_listed : Task → OutcomeWord → Bool
-is_listed task u = is_run_kind (kind task u) && is_within task.failures u
+is_listed task u = is_run_kind (kind task u) && is_allowed task u
 
 -- whether u is listed, and at most n runs follow it
 abbrev pub are_all : ℕ → Task → OutcomeWord → Bool
-are_all zero task u = is_listed task u && elim (turned task.failures u) [ None ↦ true | Some p ↦ false ]
-are_all (suc n) task u = is_listed task u && elim (turned task.failures u) [ None ↦ true | Some p ↦ are_all n task (begun_by task p) ]
+are_all zero task u = is_listed task u && elim (turned (is_allowed task) u) [ None ↦ true | Some p ↦ false ]
+are_all (suc n) task u = is_listed task u && elim (turned (is_allowed task) u) [ None ↦ true | Some p ↦ are_all n task (begun_by task p) ]
 
-is_run : (task : Task) (u : OutcomeWord) (k : WordKind) (few b : Bool) → kind task u ≡ k → is_within task.failures u ≡ few → ((is_run_kind k && few) && b) ≡ true → IsListed task u × (b ≡ true)
+is_run : (task : Task) (u : OutcomeWord) (k : WordKind) (few b : Bool) → kind task u ≡ k → is_allowed task u ≡ few → ((is_run_kind k && few) && b) ≡ true → IsListed task u × (b ≡ true)
 is_run task u Run true b is e h = (record { run = is; few = e }, h)
 is_run task u Run false b is e h = absurd (let f = h in cc)
 is_run task u Short few b is e h = absurd (let f = h in cc)
 is_run task u Long few b is e h = absurd (let f = h in cc)
 
 rest-followers : (n : ℕ) (task : Task) (u : OutcomeWord) → are_all n task u ≡ true → rest task u ≡ followers n task u
-rest-followers zero task u e = by (turned task.failures u) refl e
+rest-followers zero task u e = by (turned (is_allowed task) u) refl e
   where
-    by : (t : Option OutcomeWord) → turned task.failures u ≡ t → (is_listed task u && elim t [ None ↦ true | Some p ↦ false ]) ≡ true → rest task u ≡ []
-    by None is e = task_ends task u (is_run task u (kind task u) (is_within task.failures u) true refl refl e).0 is
-    by (Some p) is e = absurd (let h = (is_run task u (kind task u) (is_within task.failures u) false refl refl e).1 in cc)
-rest-followers (suc n) task u e = by (turned task.failures u) refl e (λ v. rest-followers n task v)
+    by : (t : Option OutcomeWord) → turned (is_allowed task) u ≡ t → (is_listed task u && elim t [ None ↦ true | Some p ↦ false ]) ≡ true → rest task u ≡ []
+    by None is e = task_ends task u (is_run task u (kind task u) (is_allowed task u) true refl refl e).0 is
+    by (Some p) is e = absurd (let h = (is_run task u (kind task u) (is_allowed task u) false refl refl e).1 in cc)
+rest-followers (suc n) task u e = by (turned (is_allowed task) u) refl e (λ v. rest-followers n task v)
   where
-    by : (t : Option OutcomeWord) → turned task.failures u ≡ t → (is_listed task u && elim t [ None ↦ true | Some p ↦ are_all n task (begun_by task p) ]) ≡ true
+    by : (t : Option OutcomeWord) → turned (is_allowed task) u ≡ t → (is_listed task u && elim t [ None ↦ true | Some p ↦ are_all n task (begun_by task p) ]) ≡ true
         → ((v : OutcomeWord) → are_all n task v ≡ true → rest task v ≡ followers n task v)
         → rest task u ≡ elim t [ None ↦ [] | Some p ↦ begun_by task p ∷ followers n task (begun_by task p) ]
-    by None is e later = task_ends task u (is_run task u (kind task u) (is_within task.failures u) true refl refl e).0 is
+    by None is e later = task_ends task u (is_run task u (kind task u) (is_allowed task u) true refl refl e).0 is
     by (Some p) is e later =
         let v : OutcomeWord = begun_by task p in
-        let h = is_run task u (kind task u) (is_within task.failures u) (are_all n task v) refl refl e in
+        let h = is_run task u (kind task u) (is_allowed task u) (are_all n task v) refl refl e in
         task_goes_on task u p h.0 is ∙ ap (λ (vs : List OutcomeWord). v ∷ vs) (later v h.1)
 
 -- whether these are all runs: the first and at most n after it, or the runs after u

@@ -1,6 +1,7 @@
 pub mod ChoiceTreeLemmas
 pub mod NextRunLemmas
 pub mod TakenOutcomes
+pub mod UnexpectedAnswers
 pub mod TaskChoices
 pub mod StepLemmas
 pub mod FewFailures
@@ -22,3 +23,4 @@ pub mod AskedLogs
 pub mod StayingAnswers
 mod ToldExamples
 mod RunsExamples
+mod ChoosingExamples

@@ -1,11 +1,11 @@
 -- What follows a run in the list of all runs.
-use Rattle.std.proofs.Common.{ℕ, zero, suc, Bool, true, false, cond, List, [], ◌∷◌, ◌++◌, length, Option, Some, None, option_map, refl, sym, ap, subst, ◌∙◌, ◌≡◌, ◌≢◌, inl, inr, ◌≤◌, append_assoc, arith}
+use Rattle.std.proofs.Common.{ℕ, zero, suc, Bool, true, false, cond, List, [], ◌∷◌, ◌++◌, length, Option, Some, None, option_map, refl, sym, ap, subst, ◌∙◌, ◌≡◌, ◌≢◌, ◌⊎◌, ◌||◌, inl, inr, ◌≤◌, append_assoc, arith}
 use Rattle.std.specs.Prelude.{⊤}
-use Rattle.std.proofs.Math.Dec.{leb-zero, leb-suc-suc}
 use Rattle.std.proofs.lemmas.Bool.{false≢true}
-use Rattle.rehearse_terms.specs.Outcomes.{OutcomeWord, Outcome, Success, Failure, Run, Long, is_within, allows, one_less, word_eq, comes_before, after, common_prefix, Short, turned, has_success, beyond, first_run, first_from, IsChoice}
-use Rattle.rehearse_rules.proofs.OrderOfWords.{AreOrdered, Before, few_ordered}
-use Rattle.rehearse_rules.proofs.ChoiceTreeLemmas.{Kinds, few_within, next_run, IsFollowed, followed_by, begins_with_first}
+use Rattle.rehearse_terms.specs.Outcomes.{OutcomeWord, Outcome, Success, Failure, Run, Long, word_eq, comes_before, after, common_prefix, Short, beyond, IsChoice}
+use Rattle.rehearse_rules.specs.Choosing.{allowed_beyond, first_run, first_from, has_success, turned}
+use Rattle.rehearse_rules.proofs.OrderOfWords.{AreOrdered, Before, allowed_ordered}
+use Rattle.rehearse_rules.proofs.ChoiceTreeLemmas.{Kinds, Test, IsPruned, allowed_within, next_run, IsFollowed, followed_by, begins_with_first}
 
 -- u is not one of the words
 abbrev pub Absent : OutcomeWord → List OutcomeWord → Type 0
@@ -41,8 +41,8 @@ AreOrdered-AreDistinct [] h = tt
 AreOrdered-AreDistinct (w ∷ ws) h = (Before-Absent w ws h.0, AreOrdered-AreDistinct ws h.1)
 
 -- no run is in the list twice
-pub runs_distinct : (most : Option ℕ) (kind : Kinds) (n : ℕ) → AreDistinct (few_within most kind n)
-runs_distinct most kind n = AreOrdered-AreDistinct (few_within most kind n) (few_ordered most kind n)
+pub runs_distinct : (allowed : Test) (kind : Kinds) (n : ℕ) → AreDistinct (allowed_within allowed kind n)
+runs_distinct allowed kind n = AreOrdered-AreDistinct (allowed_within allowed kind n) (allowed_ordered allowed kind n)
 
 pub Absent_at : (w u : OutcomeWord) (a b : List OutcomeWord) → Absent w (a ++ u ∷ b) → word_eq w u ≡ false
 Absent_at w u [] b h = h.0
@@ -66,62 +66,70 @@ after_ends w [] = ([], refl)
 after_ends w (v ∷ vs) = after_front (word_eq v w) v vs (after w vs) (after_ends w vs)
 
 -- the first run comes first
-pub runs_begin : (most : Option ℕ) (kind : Kinds) (n : ℕ) → IsChoice n kind → few_within most kind n ≡ first_run kind n ∷ after (first_run kind n) (few_within most kind n)
-runs_begin most kind n c =
-    let t = begins_with_first most kind n c in
-    let e = after_in (first_run kind n) (few_within most kind n) [] t.0 t.1 (runs_distinct most kind n) in
-    t.1 ∙ ap (λ (ws : List OutcomeWord). first_run kind n ∷ ws) (sym e)
+pub runs_begin : (allowed : Test) (kind : Kinds) (n : ℕ) → IsChoice n kind → IsPruned kind allowed → allowed [] ≡ true → allowed_within allowed kind n ≡ first_run allowed kind n ∷ after (first_run allowed kind n) (allowed_within allowed kind n)
+runs_begin allowed kind n c pruned may =
+    let t = begins_with_first allowed kind n c pruned may in
+    let e = after_in (first_run allowed kind n) (allowed_within allowed kind n) [] t.0 t.1 (runs_distinct allowed kind n) in
+    t.1 ∙ ap (λ (ws : List OutcomeWord). first_run allowed kind n ∷ ws) (sym e)
 
--- a run of which no success may fail is the last
-pub none_follows : (most : Option ℕ) (kind : Kinds) (n : ℕ) → IsChoice n kind → (u : OutcomeWord) → kind u ≡ Run → is_within most u ≡ true → turned most u ≡ None → after u (few_within most kind n) ≡ []
-none_follows most kind n c u r few e =
-    let f = subst (λ (t : Option OutcomeWord). IsFollowed u (option_map (first_from kind n) t) (few_within most kind n)) e (followed_by most kind n c u r few) in
-    after_in u (few_within most kind n) f.0 [] f.1 (runs_distinct most kind n)
+-- a run of which no success may be a failure is the last
+pub none_follows : (allowed : Test) (kind : Kinds) (n : ℕ) → IsChoice n kind → IsPruned kind allowed → (u : OutcomeWord) → kind u ≡ Run → allowed u ≡ true → turned allowed u ≡ None → after u (allowed_within allowed kind n) ≡ []
+none_follows allowed kind n c pruned u r may e =
+    let f = subst (λ (t : Option OutcomeWord). IsFollowed u (option_map (first_from allowed kind n) t) (allowed_within allowed kind n)) e (followed_by allowed kind n c pruned u r may) in
+    after_in u (allowed_within allowed kind n) f.0 [] f.1 (runs_distinct allowed kind n)
 
--- the run after u is the first run that starts with u cut after its last success that may fail, which became a failure
-pub follows : (most : Option ℕ) (kind : Kinds) (n : ℕ) → IsChoice n kind → (u p : OutcomeWord) → kind u ≡ Run → is_within most u ≡ true → turned most u ≡ Some p → after u (few_within most kind n) ≡ first_from kind n p ∷ after (first_from kind n p) (few_within most kind n)
-follows most kind n c u p r few e =
-    let v = first_from kind n p in
-    let f = subst (λ (t : Option OutcomeWord). IsFollowed u (option_map (first_from kind n) t) (few_within most kind n)) e (followed_by most kind n c u r few) in
-    let one = after_in u (few_within most kind n) f.0 (v ∷ f.1) f.2 (runs_distinct most kind n) in
-    let two = after_in v (few_within most kind n) (f.0 ++ u ∷ []) f.1 (f.2 ∙ sym (append_assoc f.0 (u ∷ []) (v ∷ f.1))) (runs_distinct most kind n) in
+-- the run after u is the first run that starts with u cut after its last success that may be a failure, which became one
+pub follows : (allowed : Test) (kind : Kinds) (n : ℕ) → IsChoice n kind → IsPruned kind allowed → (u p : OutcomeWord) → kind u ≡ Run → allowed u ≡ true → turned allowed u ≡ Some p → after u (allowed_within allowed kind n) ≡ first_from allowed kind n p ∷ after (first_from allowed kind n p) (allowed_within allowed kind n)
+follows allowed kind n c pruned u p r may e =
+    let v = first_from allowed kind n p in
+    let f = subst (λ (t : Option OutcomeWord). IsFollowed u (option_map (first_from allowed kind n) t) (allowed_within allowed kind n)) e (followed_by allowed kind n c pruned u r may) in
+    let one = after_in u (allowed_within allowed kind n) f.0 (v ∷ f.1) f.2 (runs_distinct allowed kind n) in
+    let two = after_in v (allowed_within allowed kind n) (f.0 ++ u ∷ []) f.1 (f.2 ∙ sym (append_assoc f.0 (u ∷ []) (v ∷ f.1))) (runs_distinct allowed kind n) in
     one ∙ ap (λ (ws : List OutcomeWord). v ∷ ws) (sym two)
 
--- ---- a run is followed by another exactly if one of its successes may fail
-
--- if no failure is allowed here, none is allowed later
-none_allowed : (most : Option ℕ) → allows most 0 ≡ false → one_less most ≡ most
-none_allowed None h = absurd (let e = h in cc)
-none_allowed (Some zero) h = refl
-none_allowed (Some (suc most)) h = absurd (let e = sym h ∙ leb-suc-suc 0 most ∙ leb-zero most in cc)
+-- ---- a run is followed by another exactly if one of its successes may be a failure
 
 map_none : (t : Option OutcomeWord) → t ≡ None → option_map (λ v. Failure ∷ v) t ≡ None
 map_none t e = ap (option_map (λ v. Failure ∷ v)) e
 
-pub turned_none : (most : Option ℕ) (u : OutcomeWord) → allows most 0 ≡ false → turned most u ≡ None
-turned_none most [] h = refl
-turned_none most (Success ∷ u) h = let ih = turned_none most u h in rw (ih, h) refl
-turned_none most (Failure ∷ u) h = map_none (turned (one_less most) u) (ap (λ (m : Option ℕ). turned m u) (none_allowed most h) ∙ turned_none most u h)
+neither : (b c : Bool) → (b || c) ≡ false → (b ≡ false) × (c ≡ false)
+neither true c e = absurd (let f = e in cc)
+neither false c e = (refl, e)
 
-turned-success : (most : Option ℕ) (u : OutcomeWord) → has_success most u ≡ false → turned most u ≡ None
-turned-success most [] h = refl
-turned-success most (Success ∷ u) h = turned_none most (Success ∷ u) h
-turned-success most (Failure ∷ u) h = map_none (turned (one_less most) u) (turned-success (one_less most) u h)
+either : (b c : Bool) → (b || c) ≡ true → (b ≡ true) ⊎ (c ≡ true)
+either true c e = inl refl
+either false c e = inr e
 
-success_turned : (may : Bool) (t : Option OutcomeWord) → may ≡ true → (p : OutcomeWord) × (elim t [ Some v ↦ Some (Success ∷ v) | None ↦ cond may (Some (Failure ∷ [])) None ] ≡ Some p)
-success_turned may (Some v) h = (Success ∷ v, refl)
-success_turned may None h = (Failure ∷ [], rw h refl)
+abbrev success_turned : Bool → Option OutcomeWord → Option OutcomeWord
+success_turned may t = elim t [ Some v ↦ Some (Success ∷ v) | None ↦ cond may (Some (Failure ∷ [])) None ]
 
-has-turned : (most : Option ℕ) (u : OutcomeWord) → has_success most u ≡ true → (p : OutcomeWord) × (turned most u ≡ Some p)
-has-turned most [] h = absurd (let e = h in cc)
-has-turned most (Success ∷ u) h = success_turned (allows most 0) (turned most u) h
-has-turned most (Failure ∷ u) h = let ih = has-turned (one_less most) u h in (Failure ∷ ih.0, ap (option_map (λ v. Failure ∷ v)) ih.1)
+turned-success : (allowed : Test) (u : OutcomeWord) → has_success allowed u ≡ false → turned allowed u ≡ None
+turned-success allowed [] h = refl
+turned-success allowed (Success ∷ u) h =
+    let none = neither (allowed (Failure ∷ [])) (has_success (allowed_beyond Success allowed) u) h in
+    let ih = turned-success (allowed_beyond Success allowed) u none.1 in
+    ap (λ (t : Option OutcomeWord). success_turned (allowed (Failure ∷ [])) t) ih ∙ ap (λ (b : Bool). cond b (Some (Failure ∷ [])) None) none.0
+turned-success allowed (Failure ∷ u) h = map_none (turned (allowed_beyond Failure allowed) u) (turned-success (allowed_beyond Failure allowed) u h)
 
-pub none_without_success : (most : Option ℕ) (kind : Kinds) (n : ℕ) → IsChoice n kind → (u : OutcomeWord) → kind u ≡ Run → is_within most u ≡ true → has_success most u ≡ false → after u (few_within most kind n) ≡ []
-none_without_success most kind n c u r few h = none_follows most kind n c u r few (turned-success most u h)
+turns_if : (may : Bool) (t : Option OutcomeWord) → may ≡ true → (p : OutcomeWord) × (success_turned may t ≡ Some p)
+turns_if may (Some v) h = (Success ∷ v, refl)
+turns_if may None h = (Failure ∷ [], rw h refl)
 
-pub one_with_success : (most : Option ℕ) (kind : Kinds) (n : ℕ) → IsChoice n kind → (u : OutcomeWord) → kind u ≡ Run → is_within most u ≡ true → has_success most u ≡ true → after u (few_within most kind n) ≢ []
-one_with_success most kind n c u r few h e = let t = has-turned most u h in let f = follows most kind n c u t.0 r few t.1 in (let k = sym e ∙ f in cc)
+turns_success : (allowed : Test) (u : OutcomeWord) → (has_success (allowed_beyond Success allowed) u ≡ true → (p : OutcomeWord) × (turned (allowed_beyond Success allowed) u ≡ Some p))
+    → (allowed (Failure ∷ []) ≡ true) ⊎ (has_success (allowed_beyond Success allowed) u ≡ true) → (p : OutcomeWord) × (turned allowed (Success ∷ u) ≡ Some p)
+turns_success allowed u later (inl e) = turns_if (allowed (Failure ∷ [])) (turned (allowed_beyond Success allowed) u) e
+turns_success allowed u later (inr e) = let ih = later e in (Success ∷ ih.0, ap (λ (t : Option OutcomeWord). success_turned (allowed (Failure ∷ [])) t) ih.1)
+
+has-turned : (allowed : Test) (u : OutcomeWord) → has_success allowed u ≡ true → (p : OutcomeWord) × (turned allowed u ≡ Some p)
+has-turned allowed [] h = absurd (let e = h in cc)
+has-turned allowed (Success ∷ u) h = turns_success allowed u (has-turned (allowed_beyond Success allowed) u) (either (allowed (Failure ∷ [])) (has_success (allowed_beyond Success allowed) u) h)
+has-turned allowed (Failure ∷ u) h = let ih = has-turned (allowed_beyond Failure allowed) u h in (Failure ∷ ih.0, ap (option_map (λ v. Failure ∷ v)) ih.1)
+
+pub none_without_success : (allowed : Test) (kind : Kinds) (n : ℕ) → IsChoice n kind → IsPruned kind allowed → (u : OutcomeWord) → kind u ≡ Run → allowed u ≡ true → has_success allowed u ≡ false → after u (allowed_within allowed kind n) ≡ []
+none_without_success allowed kind n c pruned u r may h = none_follows allowed kind n c pruned u r may (turned-success allowed u h)
+
+pub one_with_success : (allowed : Test) (kind : Kinds) (n : ℕ) → IsChoice n kind → IsPruned kind allowed → (u : OutcomeWord) → kind u ≡ Run → allowed u ≡ true → has_success allowed u ≡ true → after u (allowed_within allowed kind n) ≢ []
+one_with_success allowed kind n c pruned u r may h e = let t = has-turned allowed u h in let f = follows allowed kind n c pruned u t.0 r may t.1 in (let k = sym e ∙ f in cc)
 
 -- no run is a prefix of another, and none is longer than the bound
 pub no_prefix : (kind : Kinds) (n : ℕ) → IsChoice n kind → (u : OutcomeWord) (d : Outcome) (v : OutcomeWord) → kind u ≡ Run → kind (u ++ d ∷ v) ≡ Long
@@ -145,8 +153,8 @@ stands_of u None ws f d = (f.0, f.1 ∙ ap (λ (b : List OutcomeWord). f.0 ++ u 
 stands_of u (Some v) ws f d = (f.0, f.2 ∙ ap (λ (b : List OutcomeWord). f.0 ++ u ∷ b) (sym (after_in u ws f.0 (v ∷ f.1) f.2 d)))
 
 -- each run is in the list, before what follows it
-pub run_stands : (most : Option ℕ) (kind : Kinds) (n : ℕ) → IsChoice n kind → (u : OutcomeWord) → kind u ≡ Run → is_within most u ≡ true → (front : List OutcomeWord) × (few_within most kind n ≡ front ++ u ∷ after u (few_within most kind n))
-run_stands most kind n c u r few = stands_of u (next_run most kind n u) (few_within most kind n) (followed_by most kind n c u r few) (runs_distinct most kind n)
+pub run_stands : (allowed : Test) (kind : Kinds) (n : ℕ) → IsChoice n kind → IsPruned kind allowed → (u : OutcomeWord) → kind u ≡ Run → allowed u ≡ true → (front : List OutcomeWord) × (allowed_within allowed kind n ≡ front ++ u ∷ after u (allowed_within allowed kind n))
+run_stands allowed kind n c pruned u r may = stands_of u (next_run allowed kind n u) (allowed_within allowed kind n) (followed_by allowed kind n c pruned u r may) (runs_distinct allowed kind n)
 
 -- two runs differ first at an outcome that is asked for
 pub part_where_asked : (kind : Kinds) (n : ℕ) → IsChoice n kind → (u v : OutcomeWord) → kind u ≡ Run → kind v ≡ Run → u ≢ v → kind (common_prefix u v) ≡ Short

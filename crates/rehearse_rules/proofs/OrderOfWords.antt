@@ -1,8 +1,8 @@
 -- The runs are in dictionary order.
-use Rattle.std.proofs.Common.{◌≡◌, ℕ, zero, suc, Bool, true, false, cond, List, [], ◌∷◌, ◌++◌, map, filter, Option, refl, sym, ◌∙◌, subst}
-use Rattle.rehearse_terms.specs.Outcomes.{OutcomeWord, Outcome, Success, Failure, words, comes_before, is_run_kind, is_within, runs_within}
-use Rattle.rehearse_rules.specs.Runs.{Task, kind, all_runs, runs}
-use Rattle.rehearse_rules.proofs.ChoiceTreeLemmas.{Kinds, few-is, few_within}
+use Rattle.std.proofs.Common.{◌≡◌, ℕ, zero, suc, Bool, true, false, cond, List, [], ◌∷◌, ◌++◌, map, filter, refl, subst}
+use Rattle.rehearse_terms.specs.Outcomes.{OutcomeWord, Outcome, Success, Failure, words, comes_before, is_run_kind, runs_within}
+use Rattle.rehearse_rules.specs.Runs.{Task, kind, runs, is_allowed}
+use Rattle.rehearse_rules.proofs.ChoiceTreeLemmas.{Kinds, Test, allowed_within}
 
 -- u comes before all of these words
 abbrev pub Before : OutcomeWord → List OutcomeWord → Type 0
@@ -70,9 +70,9 @@ ordered_at : (u v : OutcomeWord) (before between behind : List OutcomeWord) → 
 ordered_at u v [] between behind h = before_at u v between behind h.0
 ordered_at u v (w ∷ before) between behind h = ordered_at u v before between behind h.1
 
-pub few_ordered : (most : Option ℕ) (kind : Kinds) (n : ℕ) → AreOrdered (few_within most kind n)
-few_ordered most kind n = ordered-filter (is_within most) (runs_within kind n) (ordered-filter (λ w. is_run_kind (kind w)) (words n) (words_ordered n))
+pub allowed_ordered : (allowed : Test) (kind : Kinds) (n : ℕ) → AreOrdered (allowed_within allowed kind n)
+allowed_ordered allowed kind n = ordered-filter allowed (runs_within kind n) (ordered-filter (λ w. is_run_kind (kind w)) (words n) (words_ordered n))
 
 pub runs_are_ordered : (task : Task) (u v : OutcomeWord) (before between behind : List OutcomeWord) → runs task ≡ before ++ u ∷ between ++ v ∷ behind → comes_before u v ≡ true
 runs_are_ordered task u v before between behind e =
-    ordered_at u v before between behind (subst AreOrdered (sym (few-is task.failures (all_runs task)) ∙ e) (few_ordered task.failures (kind task) task.limits.device_bound))
+    ordered_at u v before between behind (subst AreOrdered e (allowed_ordered (is_allowed task) (kind task) task.limits.device_bound))

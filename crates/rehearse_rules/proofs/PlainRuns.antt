@@ -1,5 +1,5 @@
 -- Runs over a device list in its plain form.
-use Rattle.std.proofs.Common.{◌≡◌, ℕ, ◌||◌, nat_lt, Bool, true, false, cond, List, [], ◌∷◌, length, Option, Some, None, Ok, refl, sym, ap, subst, ◌∙◌}
+use Rattle.std.proofs.Common.{◌≡◌, ℕ, ◌||◌, nat_lt, Bool, true, false, cond, List, [], ◌∷◌, length, filter, Option, Some, None, Ok, refl, sym, ap, subst, ◌∙◌}
 use Rattle.std.specs.List.{list_any}
 use Rattle.std.specs.Str.{bytes_eq}
 use Rattle.hushlang.specs.Tree.{Script}
@@ -10,7 +10,7 @@ use Rattle.device_list.specs.DeviceList.{Effect, Devices, effect_in, effect_of, 
 use Rattle.device_list.specs.DeviceLaws.{quiet}
 use Rattle.device_list.specs.PlainList.{plain_names}
 use Rattle.rehearse_rules.specs.Execution.{Limits, Answer, Ended, CutDevices, Unknown, take_outcome, command, request_of}
-use Rattle.rehearse_rules.specs.Runs.{run_on, runs, rest, state_of, ending_of, kind_of}
+use Rattle.rehearse_rules.specs.Runs.{run_on, all_runs, runs, rest, state_of, ending_of, kind_of}
 use Rattle.rehearse_rules.specs.Listing.{record_text, record_of, listing}
 use Rattle.rehearse_rules.specs.PlainExecution.{PlainTask, task_over, bounds_alone, answer, ask, plain_others, plain_run_on, plain_runs, plain_rest, plain_record, PlainRunsStand, PlainListingsStand, PlainRestsStand}
 use Rattle.device_list.proofs.JoinedLines.{ok-same}
@@ -80,15 +80,27 @@ runs_by bound run = runs_within (λ w. kind_of (run w)) bound
 abbrev record_by : List Text → (OutcomeWord → Answer) → OutcomeWord → Text
 record_by names run w = record_text w (state_of (run w)) (ending_of (run w)) names
 
+-- without a number, all runs are listed
+all_kept : (ws : List OutcomeWord) → filter (λ w. true) ws ≡ ws
+all_kept [] = refl
+all_kept (w ∷ ws) = ap (λ (vs : List OutcomeWord). w ∷ vs) (all_kept ws)
+
+none_left_out : (devices : Devices) (task : PlainTask) → runs (task_over devices task) ≡ all_runs (task_over devices task)
+none_left_out devices task = all_kept (all_runs (task_over devices task))
+
 module _ (text : Text) (devices : Devices) (task : PlainTask) (names : List Text) (plain : plain_names text ≡ Ok task.names) (rich : listed text ≡ Ok devices) where
   same_run : (w : OutcomeWord) → run_on (task_over devices task) w ≡ plain_run_on task w
   same_run w = plain_runs_stand text devices task w plain rich
 
   listing-same : (limit : Option ℕ) → listing (record_of (task_over devices task) names) (runs (task_over devices task)) limit ≡ listing (plain_record task names) (plain_runs task) limit
-  listing-same limit = λ i. listing (record_by names (λ w. same_run w i)) (runs_by task.device_bound (λ w. same_run w i)) limit
+  listing-same limit =
+      ap (λ (ws : List OutcomeWord). listing (record_of (task_over devices task) names) ws limit) (none_left_out devices task)
+      ∙ λ i. listing (record_by names (λ w. same_run w i)) (runs_by task.device_bound (λ w. same_run w i)) limit
 
   rest-same : (u : OutcomeWord) (limit : Option ℕ) → listing (record_of (task_over devices task) names) (rest (task_over devices task) u) limit ≡ listing (plain_record task names) (plain_rest task u) limit
-  rest-same u limit = λ i. listing (record_by names (λ w. same_run w i)) (after u (runs_by task.device_bound (λ w. same_run w i))) limit
+  rest-same u limit =
+      ap (λ (ws : List OutcomeWord). listing (record_of (task_over devices task) names) (after u ws) limit) (none_left_out devices task)
+      ∙ λ i. listing (record_by names (λ w. same_run w i)) (after u (runs_by task.device_bound (λ w. same_run w i))) limit
 
 pub plain_listings_stand : PlainListingsStand
 plain_listings_stand text devices task names limit plain rich = listing-same text devices task names plain rich limit

@@ -1,5 +1,5 @@
 -- A script reads its word only by the outcomes that it takes.
-use Rattle.std.proofs.Common.{ℕ, zero, suc, Bool, true, false, not, cond, List, [], ◌∷◌, ◌++◌, length, Option, Some, None, refl, sym, ap, ◌∙◌, ◌≡◌, ◌≢◌, ◌<◌, ◌≤◌, map, append_assoc, append-nil, length-append, arith, ◌+◌, nat_lt, nat_le, nat_eq, ltb-true}
+use Rattle.std.proofs.Common.{ℕ, zero, suc, Bool, true, false, not, cond, List, [], ◌∷◌, ◌++◌, length, Option, Some, None, refl, sym, ap, subst, ◌∙◌, ◌≡◌, ◌≢◌, ◌<◌, ◌≤◌, map, append_assoc, append-nil, length-append, arith, ◌+◌, nat_lt, nat_le, nat_eq, ltb-true}
 use Rattle.std.proofs.lemmas.List.{map-append}
 use Rattle.std.proofs.lemmas.List.Elements.{filter-append}
 use Rattle.device_list.specs.declared.finish.BoardEnd.{BoardEnd}
@@ -15,6 +15,7 @@ use Rattle.commands.specs.BuiltInCommands.{ChangesVariables, WritesText, RunsTex
 use Rattle.rehearse_rules.specs.ByShell.{unread, leaves_in, status_of_exit, asks_in, truth_in, fields_in, turns_in, skips_rest, status_of_nothing, status_of_no_block, status_of_loop, follows, assigned_in, reads_again, status_of_text}
 use Rattle.rehearse_rules.specs.Execution.{Limits, Answer, Normal, Exit, Ended, Dry, Ending, CutDevices, CutSteps, Unknown, Size, go_on, remember, set_status, status_when, goes, holds, begin, take_outcome, with_outcome, outcome_when, told, told_again, tell_or_take, device, Request, logged, set_environment, finish, text_end, run_text, run_all, command, simple, sized, assign, turns, begin_turn, for_each, exec_script, exec_list, exec_joined, exec_command, exec_arms, exec, succeeds, Unsupported, assign_local, request_of, test_request, started_text, text_failed}
 use Rattle.rehearse_rules.specs.Needs.{effect_now}
+use Rattle.rehearse_rules.specs.Expected.{Answered, asked_in}
 use Rattle.rehearse_terms.specs.declared.shell.Shell.{Shell}
 use Rattle.rehearse_rules.specs.Runs.{state_of}
 
@@ -39,12 +40,26 @@ answers-again log e is =
     let none : asked_of (e ∷ []) ≡ [] = ap (λ (b : Bool). cond (not b) (e ∷ []) []) is in
     ap (map (λ e. e.success)) (filter-append (λ e. not e.again) log (e ∷ []) ∙ ap (λ (es : List LoggedCommand). asked_of log ++ es) none ∙ append-nil (asked_of log))
 
+-- and with its words
+pub asked_one : (log : List LoggedCommand) (e : LoggedCommand) → e.again ≡ false → asked_in (log ++ e ∷ []) ≡ asked_in log ++ (e.success, e.words) ∷ []
+asked_one log e is =
+    let one : asked_of (e ∷ []) ≡ e ∷ [] = ap (λ (b : Bool). cond (not b) (e ∷ []) []) is in
+    ap (map (λ e. (e.success, e.words))) (filter-append (λ e. not e.again) log (e ∷ []) ∙ ap (λ (es : List LoggedCommand). asked_of log ++ es) one)
+    ∙ map-append (λ e. (e.success, e.words)) (asked_of log) (e ∷ [])
+
+asked_none : (log : List LoggedCommand) (e : LoggedCommand) → e.again ≡ true → asked_in (log ++ e ∷ []) ≡ asked_in log
+asked_none log e is =
+    let none : asked_of (e ∷ []) ≡ [] = ap (λ (b : Bool). cond (not b) (e ∷ []) []) is in
+    ap (map (λ e. (e.success, e.words))) (filter-append (λ e. not e.again) log (e ∷ []) ∙ ap (λ (es : List LoggedCommand). asked_of log ++ es) none ∙ append-nil (asked_of log))
+
 -- s went on to t
 pub record GoesTo (s t : State) : Type 0 where
   pub taken : OutcomeWord
   pub word : s.word ≡ taken ++ t.word
   pub log : length s.log + length taken ≤ length t.log
   pub outcomes : answers t.log ≡ answers s.log ++ map succeeds taken
+  pub further : List Answered
+  pub grows : asked_in t.log ≡ asked_in s.log ++ further
   pub steps : s.steps ≤ t.steps
 
 abbrev pub Track : ℕ → State → Answer → Type 0
@@ -60,21 +75,33 @@ Extends x (Exit t) b = b ≡ Exit (more x t)
 Extends x (Ended ending t) b = b ≡ Ended ending (more x t)
 Extends x (Dry t) b = (x ≢ [] → length (state_of b).word < length x) × (t.steps ≤ (state_of b).steps)
 
+-- a device command with these words had this outcome after a log
+pub record HasAnswered (call : List Text) (d : Outcome) (log later : List LoggedCommand) : Type 0 where
+  pub further : List Answered
+  pub grows : asked_in later ≡ asked_in log ++ (succeeds d, call) ∷ further
+
+-- if a device command asks, it has the same words whatever outcomes come
+abbrev pub AsksOne : (run : OutcomeWord → Answer) → Answer → Type 0
+AsksOne run (Normal t) = Unit {0}
+AsksOne run (Exit t) = Unit {0}
+AsksOne run (Ended ending t) = Unit {0}
+AsksOne run (Dry t) = (call : List Text) × ((d : Outcome) (x : OutcomeWord) → HasAnswered call d t.log (state_of (run (d ∷ x))).log)
+
 -- what holds for a part of a script at a state
 abbrev pub Keeps : ℕ → State → (State → Answer) → Type 0
-Keeps bound s f = Track bound s (f s) × ((x : OutcomeWord) → Extends x (f s) (f (more x s)))
+Keeps bound s f = Track bound s (f s) × ((x : OutcomeWord) → Extends x (f s) (f (more x s))) × AsksOne (λ x. f (more x s)) (f s)
 
 pub stays : (s : State) → GoesTo s s
-stays s = record { taken = []; word = refl; log = omega arith; outcomes = sym (append-nil (answers s.log)); steps = omega arith }
+stays s = record { taken = []; word = refl; log = omega arith; outcomes = sym (append-nil (answers s.log)); further = []; grows = sym (append-nil (asked_in s.log)); steps = omega arith }
 
 remembers : (s : State) (change : Memory → Memory) → GoesTo s (remember change s)
-remembers s change = record { taken = []; word = refl; log = omega arith; outcomes = sym (append-nil (answers s.log)); steps = omega arith }
+remembers s change = record { taken = []; word = refl; log = omega arith; outcomes = sym (append-nil (answers s.log)); further = []; grows = sym (append-nil (asked_in s.log)); steps = omega arith }
 
 joined_outcomes : (a b c : List LoggedCommand) (v w : OutcomeWord) → answers b ≡ answers a ++ map succeeds v → answers c ≡ answers b ++ map succeeds w → answers c ≡ answers a ++ map succeeds (v ++ w)
 joined_outcomes a b c v w e f = f ∙ ap (λ (l : List Bool). l ++ map succeeds w) e ∙ append_assoc (answers a) (map succeeds v) (map succeeds w) ∙ ap (λ (l : List Bool). answers a ++ l) (sym (map-append succeeds v w))
 
 pub GoesTo-trans : (s t u : State) → GoesTo s t → GoesTo t u → GoesTo s u
-GoesTo-trans s t u g h = record { taken = g.taken ++ h.taken; word = g.word ∙ ap (λ (w : OutcomeWord). g.taken ++ w) h.word ∙ sym (append_assoc g.taken h.taken u.word); outcomes = joined_outcomes s.log t.log u.log g.taken h.taken g.outcomes h.outcomes; log = let l = g.log in let k = h.log in let e = length-append g.taken h.taken in omega arith; steps = let l = g.steps in let k = h.steps in omega arith }
+GoesTo-trans s t u g h = record { taken = g.taken ++ h.taken; word = g.word ∙ ap (λ (w : OutcomeWord). g.taken ++ w) h.word ∙ sym (append_assoc g.taken h.taken u.word); outcomes = joined_outcomes s.log t.log u.log g.taken h.taken g.outcomes h.outcomes; further = g.further ++ h.further; grows = h.grows ∙ ap (λ (l : List Answered). l ++ h.further) g.grows ∙ append_assoc (asked_in s.log) g.further h.further; log = let l = g.log in let k = h.log in let e = length-append g.taken h.taken in omega arith; steps = let l = g.steps in let k = h.steps in omega arith }
 
 pub Track-of : (bound : ℕ) (s : State) (a : Answer) → Track bound s a → GoesTo s (state_of a)
 Track-of bound s (Normal t) h = h
@@ -91,6 +118,20 @@ Track-after bound s t (Dry u) g h = (GoesTo-trans s t u g h.0, h.1, h.2)
 -- no outcome is given back
 pub no_more : (s t : State) → GoesTo s t → length t.word ≤ length s.word
 no_more s t g = let e = ap length g.word in let k = length-append g.taken t.word in omega arith
+
+-- ---- what a device command that asks has in the log
+
+pub answered_on : (call : List Text) (d : Outcome) (log : List LoggedCommand) (s t : State) → GoesTo s t → HasAnswered call d log s.log → HasAnswered call d log t.log
+answered_on call d log s t g h = record {
+  further = h.further ++ g.further;
+  grows = g.grows ∙ ap (λ (l : List Answered). l ++ g.further) h.grows ∙ append_assoc (asked_in log) ((succeeds d, call) ∷ h.further) g.further;
+}
+
+asks_same : (run other : OutcomeWord → Answer) (a : Answer) → ((x : OutcomeWord) → other x ≡ run x) → AsksOne run a → AsksOne other a
+asks_same run other (Normal t) e h = tt
+asks_same run other (Exit t) e h = tt
+asks_same run other (Ended ending t) e h = tt
+asks_same run other (Dry t) e h = (h.0, λ d x. subst (λ (a : Answer). HasAnswered h.0 d t.log (state_of a).log) (sym (e (d ∷ x))) (h.1 d x))
 
 module _ (bound : ℕ) where
   go_on-track : (s : State) (a : Answer) (g : State → Answer) → Track bound s a → ((t : State) → Keeps bound t g) → Track bound s (go_on a g)
@@ -119,33 +160,45 @@ module _ (bound : ℕ) where
   go_on-extends x (Ended ending t) b g k h = rw h refl
   go_on-extends x (Dry t) b g k h = (λ ne. go_on-less x b g k (h.0 ne), go_on-later t.steps b g k h.1)
 
+  pub go_on-answered : (call : List Text) (d : Outcome) (log : List LoggedCommand) (b : Answer) (g : State → Answer) → ((t : State) → Keeps bound t g) → HasAnswered call d log (state_of b).log → HasAnswered call d log (state_of (go_on b g)).log
+  go_on-answered call d log (Normal t) g k h = answered_on call d log t (state_of (g t)) (Track-of bound t (g t) (k t).0) h
+  go_on-answered call d log (Exit t) g k h = h
+  go_on-answered call d log (Ended ending t) g k h = h
+  go_on-answered call d log (Dry t) g k h = h
+
+  go_on-asks : (run : OutcomeWord → Answer) (a : Answer) (g : State → Answer) → ((t : State) → Keeps bound t g) → ((x : OutcomeWord) → Extends x a (run x)) → AsksOne run a → AsksOne (λ x. go_on (run x) g) (go_on a g)
+  go_on-asks run (Normal t) g k e h = asks_same (λ x. g (more x t)) (λ x. go_on (run x) g) (g t) (λ x. ap (λ (b : Answer). go_on b g) (e x)) (k t).2
+  go_on-asks run (Exit t) g k e h = tt
+  go_on-asks run (Ended ending t) g k e h = tt
+  go_on-asks run (Dry t) g k e h = (h.0, λ d x. go_on-answered h.0 d t.log (run (d ∷ x)) g k (h.1 d x))
+
   pub Keeps-go_on : (s : State) (f g : State → Answer) → Keeps bound s f → ((t : State) → Keeps bound t g) → Keeps bound s (λ t. go_on (f t) g)
-  Keeps-go_on s f g h k = (go_on-track s (f s) g h.0 k, λ x. go_on-extends x (f s) (f (more x s)) g k (h.1 x))
+  Keeps-go_on s f g h k = (go_on-track s (f s) g h.0 k, λ x. go_on-extends x (f s) (f (more x s)) g k (h.1 x), go_on-asks (λ x. f (more x s)) (f s) g k h.1 h.2)
 
   pub Keeps-normal : (s : State) (change : Memory → Memory) → Keeps bound s (λ t. Normal (remember change t))
-  Keeps-normal s change = (remembers s change, λ x. refl)
+  Keeps-normal s change = (remembers s change, λ x. refl, tt)
 
   pub Keeps-exit : (s : State) (change : Memory → Memory) → Keeps bound s (λ t. Exit (remember change t))
-  Keeps-exit s change = (remembers s change, λ x. refl)
+  Keeps-exit s change = (remembers s change, λ x. refl, tt)
 
   pub Keeps-ended : (s : State) (ending : Ending) → Keeps bound s (Ended ending)
-  Keeps-ended s ending = (stays s, λ x. refl)
+  Keeps-ended s ending = (stays s, λ x. refl, tt)
 
   pub Keeps-if : (s : State) (b : Bool) (f g : State → Answer) → Keeps bound s f → Keeps bound s g → Keeps bound s (λ t. elim b [ true ↦ f t | false ↦ g t ])
   Keeps-if s true f g h k = h
   Keeps-if s false f g h k = k
 
   pub Keeps-remember : (s : State) (change : Memory → Memory) (f : State → Answer) → Keeps bound (remember change s) f → Keeps bound s (λ t. f (remember change t))
-  Keeps-remember s change f h = (Track-after bound s (remember change s) (f (remember change s)) (remembers s change) h.0, h.1)
+  Keeps-remember s change f h = (Track-after bound s (remember change s) (f (remember change s)) (remembers s change) h.0, h.1, h.2)
 
   pub Keeps-stays : (s : State) → Keeps bound s Normal
-  Keeps-stays s = (stays s, λ x. refl)
+  Keeps-stays s = (stays s, λ x. refl, tt)
 
   counts : (s : State) → GoesTo s (record s { steps = suc s.steps })
-  counts s = record { taken = []; word = refl; log = omega arith; outcomes = sym (append-nil (answers s.log)); steps = omega arith }
+  counts s = record { taken = []; word = refl; log = omega arith; outcomes = sym (append-nil (answers s.log)); further = []; grows = sym (append-nil (asked_in s.log)); steps = omega arith }
 
   pub Keeps-counted : (s : State) (f : State → Answer) → Keeps bound (record s { steps = suc s.steps }) f → Keeps bound s (λ t. f (record t { steps = suc t.steps }))
-  Keeps-counted s f h = (Track-after bound s (record s { steps = suc s.steps }) (f (record s { steps = suc s.steps })) (counts s) h.0, h.1)
+  Keeps-counted s f h = (Track-after bound s (record s { steps = suc s.steps }) (f (record s { steps = suc s.steps })) (counts s) h.0, h.1, h.2)
 
   -- a text that ended
   pub Keeps-failed : (shell : Shell) (t : State) → Keeps bound t (λ u. Normal (text_failed shell u))
@@ -175,12 +228,31 @@ module _ (bound : ℕ) where
   text_end-extends shell x (Ended ending t) b g k h = rw h refl
   text_end-extends shell x (Dry t) b g k h = (λ ne. text_end-less shell x b g k (h.0 ne), text_end-later shell t.steps b g k h.1)
 
+  -- what follows a text that has ended, also by `exit`
+  after_text-keeps : (shell : Shell) (t : State) (g : State → Answer) → ((u : State) → Keeps bound u g) → Keeps bound t (λ u. elim (nat_eq u.memory.status 0) [ true ↦ g u | false ↦ Normal (text_failed shell u) ])
+  after_text-keeps shell t g k = Keeps-if t (nat_eq t.memory.status 0) g (λ u. Normal (text_failed shell u)) (k t) (Keeps-failed shell t)
+
+  after_exit-keeps : (t : State) (g : State → Answer) → ((u : State) → Keeps bound u g) → Keeps bound t (λ u. elim (nat_eq u.memory.status 0) [ true ↦ g u | false ↦ Normal u ])
+  after_exit-keeps t g k = Keeps-if t (nat_eq t.memory.status 0) g Normal (k t) (Keeps-stays t)
+
+  pub text_end-answered : (shell : Shell) (call : List Text) (d : Outcome) (log : List LoggedCommand) (b : Answer) (g : State → Answer) → ((t : State) → Keeps bound t g) → HasAnswered call d log (state_of b).log → HasAnswered call d log (state_of (text_end shell b g)).log
+  text_end-answered shell call d log (Normal t) g k h = let a : Answer = text_end shell (Normal t) g in answered_on call d log t (state_of a) (Track-of bound t a (after_text-keeps shell t g k).0) h
+  text_end-answered shell call d log (Exit t) g k h = let a : Answer = text_end shell (Exit t) g in answered_on call d log t (state_of a) (Track-of bound t a (after_exit-keeps t g k).0) h
+  text_end-answered shell call d log (Ended ending t) g k h = h
+  text_end-answered shell call d log (Dry t) g k h = h
+
+  text_end-asks : (shell : Shell) (run : OutcomeWord → Answer) (a : Answer) (g : State → Answer) → ((t : State) → Keeps bound t g) → ((x : OutcomeWord) → Extends x a (run x)) → AsksOne run a → AsksOne (λ x. text_end shell (run x) g) (text_end shell a g)
+  text_end-asks shell run (Normal t) g k e h = asks_same (λ x. text_end shell (Normal (more x t)) g) (λ x. text_end shell (run x) g) (text_end shell (Normal t) g) (λ x. ap (λ (b : Answer). text_end shell b g) (e x)) (after_text-keeps shell t g k).2
+  text_end-asks shell run (Exit t) g k e h = asks_same (λ x. text_end shell (Exit (more x t)) g) (λ x. text_end shell (run x) g) (text_end shell (Exit t) g) (λ x. ap (λ (b : Answer). text_end shell b g) (e x)) (after_exit-keeps t g k).2
+  text_end-asks shell run (Ended ending t) g k e h = tt
+  text_end-asks shell run (Dry t) g k e h = (h.0, λ d x. text_end-answered shell h.0 d t.log (run (d ∷ x)) g k (h.1 d x))
+
 module _ (limits : Limits) where
   abbrev pub KeepsAll : (State → Answer) → Type 0
   KeepsAll f = (s : State) → Keeps limits.device_bound s f
 
   pub Keeps-text_end : (s : State) (f g : State → Answer) → Keeps limits.device_bound s f → KeepsAll g → Keeps limits.device_bound s (λ t. text_end limits.shell (f t) g)
-  Keeps-text_end s f g h k = (text_end-track limits.device_bound limits.shell s (f s) g h.0 k, λ x. text_end-extends limits.device_bound limits.shell x (f s) (f (more x s)) g k (h.1 x))
+  Keeps-text_end s f g h k = (text_end-track limits.device_bound limits.shell s (f s) g h.0 k, λ x. text_end-extends limits.device_bound limits.shell x (f s) (f (more x s)) g k (h.1 x), text_end-asks limits.device_bound limits.shell (λ x. f (more x s)) (f s) g k h.1 h.2)
 
   pub Keeps-begin : (f : State → Answer) → KeepsAll f → KeepsAll (begin limits f)
   Keeps-begin f h s = Keeps-if limits.device_bound s (nat_lt s.steps limits.step_bound) (λ t. f (record t { steps = suc t.steps })) (Ended CutSteps) (Keeps-counted limits.device_bound s f (h (record s { steps = suc s.steps }))) (Keeps-ended limits.device_bound s CutSteps)
@@ -207,10 +279,10 @@ module _ (limits : Limits) where
   entry d r = record { success = succeeds d; words = r.name ∷ r.words; stays = r.effect.stays; again = r.again }
 
   took : (s : State) (r : Request) (d : Outcome) (rest : OutcomeWord) → r.again ≡ false → s.word ≡ d ∷ rest → GoesTo s (logged d r (record s { word = rest }))
-  took s r d rest fresh e = record { taken = d ∷ []; word = e; log = (let l = length-append s.log (entry d r ∷ []) in omega arith); outcomes = answers-asked s.log (entry d r) fresh; steps = omega arith }
+  took s r d rest fresh e = record { taken = d ∷ []; word = e; log = (let l = length-append s.log (entry d r ∷ []) in omega arith); outcomes = answers-asked s.log (entry d r) fresh; further = (succeeds d, r.name ∷ r.words) ∷ []; grows = asked_one s.log (entry d r) fresh; steps = omega arith }
 
   was_told : (s : State) (r : Request) (d : Outcome) → GoesTo s (logged d (told_again r) s)
-  was_told s r d = record { taken = []; word = refl; log = (let l = length-append s.log (entry d (told_again r) ∷ []) in omega arith); outcomes = answers-again s.log (entry d (told_again r)) refl ∙ sym (append-nil (answers s.log)); steps = omega arith }
+  was_told s r d = record { taken = []; word = refl; log = (let l = length-append s.log (entry d (told_again r) ∷ []) in omega arith); outcomes = answers-again s.log (entry d (told_again r)) refl ∙ sym (append-nil (answers s.log)); further = []; grows = asked_none s.log (entry d (told_again r)) refl ∙ sym (append-nil (asked_in s.log)); steps = omega arith }
 
   -- a device command with its outcome
   with-track : (s t : State) (r : Request) (d : Outcome) → GoesTo s (logged d r t) → Track limits.device_bound s (with_outcome d r t)
@@ -236,14 +308,41 @@ module _ (limits : Limits) where
   asked-extends s r [] (Failure ∷ x) = (λ ne. omega arith, omega arith)
   asked-extends s r (d ∷ rest) x = with-extends (record s { word = rest }) r d x
 
+  -- with its outcome, a command asks for no other one
+  finish-asks : (run : OutcomeWord → Answer) (b : Option BoardEnd) (name : Text) (t : State) → AsksOne run (finish b name t)
+  finish-asks run (Some finish) name t = tt
+  finish-asks run None name t = tt
+
+  outcome-asks : (run : OutcomeWord → Answer) (t : State) (r : Request) (d : Outcome) → AsksOne run (with_outcome d r t)
+  outcome-asks run t r Success = finish-asks run r.effect.ends r.name (set_environment (sets_in r.words r.effect.sets) (logged Success r t))
+  outcome-asks run t r Failure = tt
+
+  finish-log : (b : Option BoardEnd) (name : Text) (t : State) → (state_of (finish b name t)).log ≡ t.log
+  finish-log (Some finish) name t = refl
+  finish-log None name t = refl
+
+  outcome-log : (t : State) (r : Request) (d : Outcome) → (state_of (with_outcome d r t)).log ≡ t.log ++ entry d r ∷ []
+  outcome-log t r Success = finish-log r.effect.ends r.name (set_environment (sets_in r.words r.effect.sets) (logged Success r t))
+  outcome-log t r Failure = refl
+
+  pub outcome_answers : (s : State) (r : Request) (d : Outcome) (x : OutcomeWord) → r.again ≡ false → HasAnswered (r.name ∷ r.words) d s.log (state_of (take_outcome r (d ∷ x) s)).log
+  outcome_answers s r d x fresh = record {
+    further = [];
+    grows = ap asked_in (outcome-log (record s { word = x }) r d) ∙ asked_one s.log (entry d r) fresh;
+  }
+
+  asked-asks : (s : State) (r : Request) (rest : OutcomeWord) → r.again ≡ false → AsksOne (λ x. take_outcome r (rest ++ x) (more x s)) (take_outcome r rest s)
+  asked-asks s r [] fresh = (r.name ∷ r.words, λ d x. outcome_answers (more (d ∷ x) s) r d x fresh)
+  asked-asks s r (d ∷ rest) fresh = outcome-asks (λ x. take_outcome r (d ∷ rest ++ x) (more x s)) (record s { word = rest }) r d
+
   pub Keeps-take : (s : State) (r : Request) → r.again ≡ false → length s.log < limits.device_bound → Keeps limits.device_bound s (λ t. take_outcome r t.word t)
-  Keeps-take s r fresh room = (asked s r s.word fresh room refl, λ x. asked-extends s r s.word x)
+  Keeps-take s r fresh room = (asked s r s.word fresh room refl, λ x. asked-extends s r s.word x, asked-asks s r s.word fresh)
 
   Keeps-tell : (s : State) (r : Request) (o : Option Bool) → r.again ≡ false → length s.log < limits.device_bound → Keeps limits.device_bound s (λ t. tell_or_take o r t)
   Keeps-tell s r None fresh room = Keeps-take s r fresh room
   Keeps-tell s r (Some success) fresh room =
       let d : Outcome = outcome_when success in
-      (with-track s s (told_again r) d (was_told s r d), λ x. with-extends s (told_again r) d x)
+      (with-track s s (told_again r) d (was_told s r d), λ x. with-extends s (told_again r) d x, outcome-asks (λ x. with_outcome d (told_again r) (more x s)) s (told_again r) d)
 
   pub Keeps-device-if : (s : State) (r : Request) (b : Bool) (o : Option Bool) → r.again ≡ false → (b ≡ true → length s.log < limits.device_bound) → Keeps limits.device_bound s (λ t. elim b [ true ↦ tell_or_take o r t | false ↦ Ended CutDevices t ])
   Keeps-device-if s r true o fresh room = Keeps-tell s r o fresh (room refl)

@@ -1,12 +1,14 @@
 -- The words of a task are the words of a tree of choices, so the laws of outcome words hold for its runs.
 use Rattle.std.proofs.Common.{ℕ, zero, suc, Bool, true, false, [], ◌∷◌, ◌++◌, length, Some, None, refl, ap, subst, ◌≡◌, ◌≢◌, ◌⊎◌, ◌↔◌, inl, inr, ◌<◌, ◌≤◌, length-append, append-nil, map, sym, ◌∙◌, arith, List, cond, filter}
-use Rattle.rehearse_terms.specs.Outcomes.{OutcomeWord, Outcome, WordKind, Run, Short, Long, words, common_prefix, is_run_kind, is_within, after, IsChoice, turned, has_success, first_run, first_from}
+use Rattle.rehearse_terms.specs.Outcomes.{OutcomeWord, Outcome, WordKind, Run, Short, Long, words, common_prefix, is_run_kind, after, IsChoice}
+use Rattle.rehearse_rules.specs.Choosing.{turned, has_success, first_run, first_from}
 use Rattle.rehearse_terms.specs.State.{State, start, Variables, asked_of}
-use Rattle.rehearse_rules.specs.Execution.{Answer, Normal, Exit, Ended, Dry, succeeds, exec, run_text}
-use Rattle.rehearse_rules.specs.Runs.{Task, run_on, kind, kind_of, taken_kind, state_of, all_runs, runs, IsListed, rest}
-use Rattle.rehearse_rules.proofs.TakenOutcomes.{more, answers, GoesTo, Track, Extends, Keeps, Keeps-text, Keeps-exec}
+use Rattle.rehearse_rules.specs.Execution.{Answer, Normal, Exit, Ended, Dry, succeeds}
+use Rattle.rehearse_rules.specs.Runs.{Task, run_on, kind, kind_of, taken_kind, state_of, all_runs, runs, is_allowed, IsListed, rest}
+use Rattle.rehearse_rules.proofs.TakenOutcomes.{more, answers, GoesTo, Track, Extends}
+pub use Rattle.rehearse_rules.proofs.UnexpectedAnswers.{Keeps-run_on}
+use Rattle.rehearse_rules.proofs.UnexpectedAnswers.{task_pruned, empty_allowed}
 use Rattle.rehearse_rules.proofs.NextRunLemmas.{AreDistinct, runs_distinct, after_ends, runs_begin, none_follows, follows, none_without_success, one_with_success, no_prefix, no_longer, run_stands, part_where_asked}
-use Rattle.rehearse_rules.proofs.ChoiceTreeLemmas.{few-is, few_within}
 
 abbrev IsEnd : (OutcomeWord → WordKind) → Type 0
 IsEnd kinds = (kinds [] ≡ Run) × ((d : Outcome) (w : OutcomeWord) → kinds (d ∷ w) ≡ Long)
@@ -48,10 +50,6 @@ choice_of : (n : ℕ) (run : OutcomeWord → Answer) → Reads n run → IsChoic
 choice_of zero run r = elim (ends run (run []) refl (λ x. r.extends [] x) r.root) [ inl e ↦ e | inr d ↦ absurd (let k = r.asked [] d.0 d.1 in omega arith) ]
 choice_of (suc n) run r = elim (ends run (run []) refl (λ x. r.extends [] x) r.root) [ inl e ↦ inl e | inr d ↦ inr (ap kind_of d.1, λ o. choice_of n (λ w. run (o ∷ w)) (beyond_dry n run d.0 o r d.1)) ]
 
--- every digit of the word on which a task runs is taken, or its run ends
-pub Keeps-run_on : (task : Task) (s : State) → Keeps task.limits.device_bound s (run_text task.limits (exec task.limits task.limits.step_bound) task.name task.text)
-Keeps-run_on task s = Keeps-text task.limits (exec task.limits task.limits.step_bound) (Keeps-exec task.limits task.limits.step_bound) task.name task.text s
-
 dry_bound : (bound : ℕ) (environment : Variables) (w : OutcomeWord) (a : Answer) (t : State) → a ≡ Dry t → Track bound (start environment w) a → length w < bound
 dry_bound bound environment w a t e k =
     let h : Track bound (start environment w) (Dry t) = subst (λ (b : Answer). Track bound (start environment w) b) e k in
@@ -84,27 +82,17 @@ task_chooses task = choice_of task.limits.device_bound (run_on task) (task_reads
 
 -- the laws, for the runs of a task
 module _ (task : Task) where
-  abbrev few : List OutcomeWord
-  few = few_within task.failures (kind task) task.limits.device_bound
-
-  runs-few : runs task ≡ few
-  runs-few = few-is task.failures (all_runs task)
-
   pub task_distinct : AreDistinct (runs task)
-  task_distinct = subst AreDistinct (sym runs-few) (runs_distinct task.failures (kind task) task.limits.device_bound)
+  task_distinct = runs_distinct (is_allowed task) (kind task) task.limits.device_bound
 
-  pub task_begins : runs task ≡ first_run (kind task) task.limits.device_bound ∷ rest task (first_run (kind task) task.limits.device_bound)
-  task_begins =
-      let w : OutcomeWord = first_run (kind task) task.limits.device_bound in
-      subst (λ (ws : List OutcomeWord). ws ≡ w ∷ after w ws) (sym runs-few) (runs_begin task.failures (kind task) task.limits.device_bound (task_chooses task))
+  pub task_begins : runs task ≡ first_run (is_allowed task) (kind task) task.limits.device_bound ∷ rest task (first_run (is_allowed task) (kind task) task.limits.device_bound)
+  task_begins = runs_begin (is_allowed task) (kind task) task.limits.device_bound (task_chooses task) (task_pruned task) (empty_allowed task)
 
-  pub task_ends : (u : OutcomeWord) → IsListed task u → turned task.failures u ≡ None → rest task u ≡ []
-  task_ends u h e = ap (after u) runs-few ∙ none_follows task.failures (kind task) task.limits.device_bound (task_chooses task) u h.run h.few e
+  pub task_ends : (u : OutcomeWord) → IsListed task u → turned (is_allowed task) u ≡ None → rest task u ≡ []
+  task_ends u h e = none_follows (is_allowed task) (kind task) task.limits.device_bound (task_chooses task) (task_pruned task) u h.run h.few e
 
-  pub task_goes_on : (u p : OutcomeWord) → IsListed task u → turned task.failures u ≡ Some p → let v = first_from (kind task) task.limits.device_bound p in rest task u ≡ v ∷ rest task v
-  task_goes_on u p h e =
-      let v : OutcomeWord = first_from (kind task) task.limits.device_bound p in
-      subst (λ (ws : List OutcomeWord). after u ws ≡ v ∷ after v ws) (sym runs-few) (follows task.failures (kind task) task.limits.device_bound (task_chooses task) u p h.run h.few e)
+  pub task_goes_on : (u p : OutcomeWord) → IsListed task u → turned (is_allowed task) u ≡ Some p → let v = first_from (is_allowed task) (kind task) task.limits.device_bound p in rest task u ≡ v ∷ rest task v
+  task_goes_on u p h e = follows (is_allowed task) (kind task) task.limits.device_bound (task_chooses task) (task_pruned task) u p h.run h.few e
 
 pub no_run_begins_another : (task : Task) (u : OutcomeWord) (d : Outcome) (v : OutcomeWord) → kind task u ≡ Run → kind task (u ++ d ∷ v) ≢ Run
 no_run_begins_another task u d v r h = let l = no_prefix (kind task) task.limits.device_bound (task_chooses task) u d v r in cc
@@ -118,19 +106,18 @@ no_run_is_longer task u r = no_longer (kind task) task.limits.device_bound (task
 pub runs_are_there : (task : Task) → runs task ≢ []
 runs_are_there task e = let b = task_begins task in cc
 
-pub another_follows : (task : Task) (u : OutcomeWord) → IsListed task u → (rest task u ≢ []) ↔ (has_success task.failures u ≡ true)
+pub another_follows : (task : Task) (u : OutcomeWord) → IsListed task u → (rest task u ≢ []) ↔ (has_success (is_allowed task) u ≡ true)
 another_follows task u h = (
-  λ ne. some_success (has_success task.failures u) refl (λ e. ne (ap (after u) (runs-few task) ∙ none_without_success task.failures (kind task) task.limits.device_bound (task_chooses task) u h.run h.few e)),
-  λ e. λ k. one_with_success task.failures (kind task) task.limits.device_bound (task_chooses task) u h.run h.few e (sym (ap (after u) (runs-few task)) ∙ k),
+  λ ne. some_success (has_success (is_allowed task) u) refl (λ e. ne (none_without_success (is_allowed task) (kind task) task.limits.device_bound (task_chooses task) (task_pruned task) u h.run h.few e)),
+  λ e. one_with_success (is_allowed task) (kind task) task.limits.device_bound (task_chooses task) (task_pruned task) u h.run h.few e,
 )
   where
-    some_success : (b : Bool) → has_success task.failures u ≡ b → (has_success task.failures u ≡ false → ⊥) → has_success task.failures u ≡ true
+    some_success : (b : Bool) → has_success (is_allowed task) u ≡ b → (has_success (is_allowed task) u ≡ false → ⊥) → has_success (is_allowed task) u ≡ true
     some_success true e n = e
     some_success false e n = absurd (n e)
 
 pub task_stands : (task : Task) (u : OutcomeWord) → IsListed task u → (front : List OutcomeWord) × (runs task ≡ front ++ u ∷ rest task u)
-task_stands task u h =
-    subst (λ (ws : List OutcomeWord). (front : List OutcomeWord) × (ws ≡ front ++ u ∷ after u ws)) (sym (runs-few task)) (run_stands task.failures (kind task) task.limits.device_bound (task_chooses task) u h.run h.few)
+task_stands task u h = run_stands (is_allowed task) (kind task) task.limits.device_bound (task_chooses task) (task_pruned task) u h.run h.few
 
 -- what a filter keeps passes its test
 pub passes_run : (k : WordKind) → is_run_kind k ≡ true → k ≡ Run
@@ -165,12 +152,10 @@ passes_at p w [] behind h = h.0
 passes_at p w (v ∷ front) behind h = passes_at p w front behind h.1
 
 pub runs_are_runs : (task : Task) (w : OutcomeWord) (front behind : List OutcomeWord) → runs task ≡ front ++ w ∷ behind → IsListed task w
-runs_are_runs task w front behind e =
-    let is = sym (runs-few task) ∙ e in
-    record {
-      run = passes_run (kind task w) (passes_at (λ v. is_run_kind (kind task v)) w front behind (subst (AllPass (λ v. is_run_kind (kind task v))) is (still_pass (λ v. is_run_kind (kind task v)) (is_within task.failures) (all_runs task) (all_pass (λ v. is_run_kind (kind task v)) (words task.limits.device_bound)))));
-      few = passes_at (is_within task.failures) w front behind (subst (AllPass (is_within task.failures)) is (all_pass (is_within task.failures) (all_runs task)));
-    }
+runs_are_runs task w front behind e = record {
+  run = passes_run (kind task w) (passes_at (λ v. is_run_kind (kind task v)) w front behind (subst (AllPass (λ v. is_run_kind (kind task v))) e (still_pass (λ v. is_run_kind (kind task v)) (is_allowed task) (all_runs task) (all_pass (λ v. is_run_kind (kind task v)) (words task.limits.device_bound)))));
+  few = passes_at (is_allowed task) w front behind (subst (AllPass (is_allowed task)) e (all_pass (is_allowed task) (all_runs task)));
+}
 
 pub rest_is_listed : (task : Task) (u w : OutcomeWord) (behind : List OutcomeWord) → rest task u ≡ w ∷ behind → IsListed task w
 rest_is_listed task u w behind e =

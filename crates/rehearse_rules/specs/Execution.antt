@@ -105,7 +105,7 @@ status_after Failure request = request.on_failure
 
 -- `test -e` changes nothing; its answers stay if the list says so
 abbrev pub test_effect : Devices → Effect
-test_effect devices = record { ends = None; stays = devices.test_stays; always = None; needs = []; sets = [] }
+test_effect devices = record { ends = None; stays = devices.test_stays; always = None; needs = []; normal = false; sets = [] }
 
 -- the question of a `test`: its status says whether the words hold
 abbrev pub test_request : Limits → (name : Text) → (words : List Text) → Request

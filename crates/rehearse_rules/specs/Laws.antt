@@ -1,13 +1,14 @@
 -- The laws of rehearsals, over the definitions alone. Ours.
-use Rattle.std.specs.Prelude.{ℕ, ◌+◌, ◌^◌, true, filter, List, [], ◌∷◌, ◌++◌, length, map, flat_map, take, drop, Option, Some, None, ◌≡◌, ◌≢◌, ◌↔◌, ◌≤◌, ◌<◌, codes}
-use Rattle.rehearse_terms.specs.Outcomes.{OutcomeWord, Outcome, Run, Short, common_prefix, comes_before, has_success, turned, is_within, first_run, first_from}
+use Rattle.std.specs.Prelude.{ℕ, ◌+◌, ◌^◌, true, false, filter, List, [], ◌∷◌, ◌++◌, length, map, flat_map, take, drop, Option, Some, None, ◌≡◌, ◌≢◌, ◌⊎◌, ◌↔◌, ◌≤◌, ◌<◌, codes}
+use Rattle.rehearse_terms.specs.Outcomes.{OutcomeWord, Outcome, Success, Failure, Run, Short, failures, common_prefix, comes_before}
 use Rattle.rehearse_terms.specs.State.{Text, LoggedCommand, State, asked_of}
 use Rattle.builtins.specs.Builtins.{builtin_of}
 use Rattle.device_list.specs.DeviceList.{Effect, effect_of}
 use Rattle.device_list.specs.Kinds.{Steady, EachCall, SaysNothing}
 use Rattle.rehearse_rules.specs.Needs.{is_met}
+use Rattle.rehearse_rules.specs.Choosing.{has_success, turned, first_run, first_from}
 use Rattle.rehearse_rules.specs.Execution.{Ended, Dry, CutSteps, CutDevices, succeeds}
-use Rattle.rehearse_rules.specs.Runs.{Task, run_on, state_of, steps, asked, kind, all_runs, runs, IsListed, rest}
+use Rattle.rehearse_rules.specs.Runs.{Task, run_on, state_of, steps, asked, kind, all_runs, runs, unexpected, is_allowed, IsListed, rest}
 use Rattle.rehearse_rules.specs.Listing.{listing, line, spelled, record_of, words_listed, closing}
 use Rattle.rehearse_rules.specs.Resuming.{whole, next_text, Point, resume_point_of, point_after}
 
@@ -31,10 +32,10 @@ NoRunIsLonger = (task : Task) (u : OutcomeWord) → kind task u ≡ Run → leng
 abbrev pub RunsAreThere : Type 0
 RunsAreThere = (task : Task) → runs task ≢ []
 
--- a run is followed by another exactly if it has a success that may fail
+-- a run is followed by another exactly if one of its successes may be a failure
 abbrev pub AnotherFollows : Type 0
 AnotherFollows =
-    (task : Task) (u : OutcomeWord) → IsListed task u → (rest task u ≢ []) ↔ (has_success task.failures u ≡ true)
+    (task : Task) (u : OutcomeWord) → IsListed task u → (rest task u ≢ []) ↔ (has_success (is_allowed task) u ≡ true)
 
 -- two runs differ first at an outcome that a device command asks for
 abbrev pub RunsPartWhereAsked : Type 0
@@ -111,16 +112,17 @@ abbrev pub RunsAreOrdered : Type 0
 RunsAreOrdered = (task : Task) (u v : OutcomeWord) (before between behind : List OutcomeWord) →
     runs task ≡ before ++ u ∷ between ++ v ∷ behind → comes_before u v ≡ true
 
--- the first run has success at each device command
+-- the first run has the first answer that is allowed at each device command
 abbrev pub RunsBegin : Type 0
-RunsBegin = (task : Task) → let w = first_run (kind task) task.limits.device_bound in runs task ≡ w ∷ rest task w
+RunsBegin = (task : Task) → let w = first_run (is_allowed task) (kind task) task.limits.device_bound in
+    runs task ≡ w ∷ rest task w
 
--- after u comes the first run that starts with u cut after its last success that may fail, which became a failure
+-- after u comes the first run that starts with u cut after its last success that may be a failure, which became one
 abbrev pub RunsFollow : Type 0
-RunsFollow = (task : Task) (u p : OutcomeWord) → IsListed task u → turned task.failures u ≡ Some p → let w =
-    first_from (kind task) task.limits.device_bound p in rest task u ≡ w ∷ rest task w
+RunsFollow = (task : Task) (u p : OutcomeWord) → IsListed task u → turned (is_allowed task) u ≡ Some p → let w =
+    first_from (is_allowed task) (kind task) task.limits.device_bound p in rest task u ≡ w ∷ rest task w
 
--- each word in the list of runs is a run, in which no more device commands fail than may fail
+-- each word in the list of runs is a run, of which no more answers are unexpected than may be
 abbrev pub RunsAreRuns : Type 0
 RunsAreRuns =
     (task : Task) (w : OutcomeWord) (front behind : List OutcomeWord) → runs task ≡ front ++ w ∷ behind
@@ -132,34 +134,50 @@ RunsStand =
     (task : Task) (u : OutcomeWord) → IsListed task u
     → (front : List OutcomeWord) × (runs task ≡ front ++ u ∷ rest task u)
 
--- ---- few failures
+-- ---- few unexpected answers
 
--- the task in which so many device commands may fail
+-- after p, this outcome is expected, and the other one counts
+abbrev pub IsExpected : Task → (p : OutcomeWord) → (expected other : Outcome) → Type 0
+IsExpected task p expected other = (unexpected task (p ++ expected ∷ []) ≡ unexpected task p)
+    × (unexpected task (p ++ other ∷ []) ≡ unexpected task p + 1)
+
+-- At a device command that asks, one of the two outcomes is expected, and the other one counts.
+abbrev pub OneIsExpected : Type 0
+OneIsExpected = (task : Task) (p : OutcomeWord) → kind task p ≡ Short →
+    IsExpected task p Success Failure ⊎ IsExpected task p Failure Success
+
+-- Over a device list that says of no failure that it is expected, the failures of a run count.
+abbrev pub FailuresCount : Type 0
+FailuresCount = (task : Task) (w : OutcomeWord) → EachCall (λ effect. effect.normal ≡ false) task.limits.devices →
+    kind task w ≡ Run → unexpected task w ≡ failures w
+
+-- the task in which so many answers may be unexpected
 abbrev pub failing : Task → ℕ → Task
 failing task most = record task { failures = Some most }
 
--- if as many may fail as a run may ask, the runs are all runs
+-- if as many may be as a run may ask, the runs are all runs
 abbrev pub AllMayFail : Type 0
 AllMayFail = (task : Task) → runs (failing task task.limits.device_bound) ≡ all_runs task
 
--- the runs in which at most so many fail are those, of the runs in which one more may, in which at most so many fail
+-- the runs with at most so many are those, of the runs with at most one more, with at most so many
 abbrev pub FewerAmongMore : Type 0
 FewerAmongMore = (task : Task) (most : ℕ) →
-    runs (failing task most) ≡ filter (is_within (Some most)) (runs (failing task (most + 1)))
+    runs (failing task most) ≡ filter (is_allowed (failing task most)) (runs (failing task (most + 1)))
 
 -- so each of them is one of these
 abbrev pub FewerAreMore : Type 0
 FewerAreMore = (task : Task) (most : ℕ) (w : OutcomeWord) → IsListed (failing task most) w →
     IsListed (failing task (most + 1)) w
 
--- there are at most as many as the words are that say at which device commands the failures are: one more than a run may
--- ask, so often multiplied
+-- there are at most as many as the words are that say at which device commands the unexpected answers are: one more than
+-- a run may ask, so often multiplied
 abbrev pub FewRuns : Type 0
 FewRuns = (task : Task) (most : ℕ) → length (runs (failing task most)) ≤ (task.limits.device_bound + 1) ^ most
 
--- if none may fail, the first run is the only one
+-- if none may be, the first run is the only one
 abbrev pub NoneMayFail : Type 0
-NoneMayFail = (task : Task) → runs (failing task 0) ≡ first_run (kind task) task.limits.device_bound ∷ []
+NoneMayFail = (task : Task) →
+    runs (failing task 0) ≡ first_run (is_allowed (failing task 0)) (kind task) task.limits.device_bound ∷ []
 
 -- ---- pages
 

@@ -1,6 +1,8 @@
 pub mod Ending
 pub mod ByShell
 pub mod Execution
+pub mod Expected
+pub mod Choosing
 pub mod Runs
 pub mod Listing
 pub mod Needs

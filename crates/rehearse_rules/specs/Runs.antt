@@ -1,8 +1,9 @@
 -- The runs of the text of a variable. Ours.
-use Rattle.std.specs.Prelude.{◌≡◌, ℕ, ◌+◌, ◌-◌, true, List, [], ◌∷◌, Option, option_map}
-use Rattle.rehearse_terms.specs.Outcomes.{OutcomeWord, WordKind, Run, Short, Long, runs_within, is_within, few_of, after, common_prefix}
+use Rattle.std.specs.Prelude.{◌≡◌, ℕ, ◌+◌, ◌-◌, nat_le, Bool, true, List, [], ◌∷◌, length, filter, Option, Some, None, option_map}
+use Rattle.rehearse_terms.specs.Outcomes.{OutcomeWord, WordKind, Run, Short, Long, runs_within, after, common_prefix}
 use Rattle.rehearse_terms.specs.State.{Text, Variables, get, State, start}
 use Rattle.rehearse_rules.specs.Execution.{Limits, Answer, Normal, Exit, Ended, Dry, Ending, End, exec, run_text}
+use Rattle.rehearse_rules.specs.Expected.{asked_in, unexpected_of}
 
 -- a variable and its text, rehearsed from an environment
 pub record Task : Type 0 where
@@ -10,7 +11,7 @@ pub record Task : Type 0 where
   pub environment : Variables
   pub name : Text
   pub text : Text
-  -- how many device commands of a run may fail; none for any number
+  -- how many answers of a run may be unexpected; none for any number
   pub failures : Option ℕ
 
 -- the rehearsal of a variable, if it is set
@@ -60,14 +61,27 @@ kind task w = kind_of (run_on task w)
 abbrev pub all_runs : Task → List OutcomeWord
 all_runs task = runs_within (kind task) task.limits.device_bound
 
--- those in which no more device commands fail than may, in the same order
+-- how many answers of the run on a word are not the expected ones
+abbrev pub unexpected : Task → OutcomeWord → ℕ
+unexpected task w = length (unexpected_of task.limits.devices (asked_in (state_of (run_on task w)).log))
+
+-- without a number, any may be
+abbrev pub is_at_most : (most : Option ℕ) → ℕ → Bool
+is_at_most None n = true
+is_at_most (Some most) n = nat_le n most
+
+-- whether they are no more than may be
+abbrev pub is_allowed : Task → OutcomeWord → Bool
+is_allowed task w = is_at_most task.failures (unexpected task w)
+
+-- the runs of which this holds, in the same order
 abbrev pub runs : Task → List OutcomeWord
-runs task = few_of task.failures (all_runs task)
+runs task = filter (is_allowed task) (all_runs task)
 
 -- a word is one of them
 pub record IsListed (task : Task) (w : OutcomeWord) : Type 0 where
   pub run : kind task w ≡ Run
-  pub few : is_within task.failures w ≡ true
+  pub few : is_allowed task w ≡ true
 
 -- the runs after w
 abbrev pub rest : Task → OutcomeWord → List OutcomeWord

@@ -7,7 +7,7 @@ use Rattle.rehearse_terms.specs.Outcomes.{OutcomeWord, Run}
 use Rattle.rehearse_terms.specs.State.{Text}
 
 -- the words whose records are wanted: the runs of the listing in dictionary order; the runs that follow one of them; or
--- the run of a word, however many of its device commands fail
+-- the run of a word, however many of its answers are unexpected
 abbrev pub AreToCome : Task → Wanted → List OutcomeWord → Type 0
 AreToCome task (Listed None page) words = words ≡ runs task
 AreToCome task (Listed (Some text) page) words =

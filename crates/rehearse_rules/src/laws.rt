@@ -5,13 +5,13 @@ ghost use Rattle.rehearse_rules.specs.Laws.{RunsPartWhereAsked, LogIsWord, Whole
 ghost use Rattle.rehearse_rules.specs.Laws.{StepsAreBounded, DevicesAreBounded, CutAtStepBound, CutAtDeviceBound, AskedBelowBound};
 ghost use Rattle.rehearse_rules.specs.Laws.{AskedInFront, SharedIsWithin};
 ghost use Rattle.rehearse_rules.specs.Laws.{RunsBegin, RunsFollow, RunsStand, RunsAreRuns, RunsAreOrdered};
-ghost use Rattle.rehearse_rules.specs.Laws.{AllMayFail, FewerAmongMore, FewerAreMore, FewRuns, NoneMayFail};
+ghost use Rattle.rehearse_rules.specs.Laws.{OneIsExpected, FailuresCount, AllMayFail, FewerAmongMore, FewerAreMore, FewRuns, NoneMayFail};
 ghost use Rattle.rehearse_rules.specs.Laws.{MoreIsLeft, PagesOfRuns, PagesOfRest};
 ghost use Rattle.rehearse_rules.specs.Laws.{WholeIsGreatest, WholeRecords, Resuming};
 ghost use Rattle.rehearse_rules.specs.Laws.{ResumePoint, ResumedAtPoint, ResumedRest};
 
 /// There is a run. None is in the list twice, none is a prefix of another, and none is longer than
-/// the device bound. Another run follows exactly if a run has a success that may fail.
+/// the device bound. Another run follows exactly if one of a run's successes may be a failure.
 pub fn words_of_runs()
     ensures distinct { NoRunTwice }
     ensures no_prefix { NoRunBeginsAnother }
@@ -50,7 +50,7 @@ pub fn work_of_runs()
     ensures shared { SharedIsWithin }
 {}
 
-/// The runs are exactly the words that are runs and have no more failures than allowed, in
+/// The runs are exactly the words that are runs and have no more unexpected answers than allowed, in
 /// dictionary order. The laws say which run comes first, and which comes after another.
 pub fn order_of_runs()
     ensures begin { RunsBegin }
@@ -60,10 +60,13 @@ pub fn order_of_runs()
     ensures ordered { RunsAreOrdered }
 {}
 
-/// If as many device commands may fail as a run may ask, the runs are all runs. If fewer may, they are some of
-/// the runs in which one more may, and no more than a power of what a run may ask; and where none may, the first run is
-/// the only one.
+/// Of the two outcomes of a device command that asks, one is expected, and the other one counts; where the list says of no
+/// failure that it is expected, the failures count. If as many may be as a run may ask, the runs are all runs. If fewer
+/// may, they are some of the runs in which one more may, and no more than a power of what a run may ask; and where none may,
+/// the first run is the only one.
 pub fn few_failures()
+    ensures expected { OneIsExpected }
+    ensures failures { FailuresCount }
     ensures all { AllMayFail }
     ensures among { FewerAmongMore }
     ensures more { FewerAreMore }

@@ -1,5 +1,12 @@
-use Rattle.rehearse_rules.proofs.FewFailures.{all_may_fail, fewer_among_more, fewer_are_more, few_runs, none_may_fail}
+use Rattle.rehearse_rules.proofs.FewFailures.{failures_count, all_may_fail, fewer_among_more, fewer_are_more, few_runs, none_may_fail}
+use Rattle.rehearse_rules.proofs.UnexpectedAnswers.{one_is_expected}
 use Rattle.rehearse_rules.proofs.laws.few_failures.Goals as goal
+
+pub returns-clause-expected : goal.returns-clause-expected
+returns-clause-expected c = one_is_expected
+
+pub returns-clause-failures : goal.returns-clause-failures
+returns-clause-failures c = failures_count
 
 pub returns-clause-all : goal.returns-clause-all
 returns-clause-all c = all_may_fail

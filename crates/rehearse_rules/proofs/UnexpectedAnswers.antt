@@ -1,0 +1,222 @@
+-- How many answers of a run are unexpected: where a device command asks, one outcome counts, and the other one does not.
+use Rattle.std.proofs.Common.{ℕ, zero, suc, ◌+◌, ◌≤◌, ◌<◌, Bool, true, false, not, cond, List, [], ◌∷◌, ◌++◌, length, map, filter, Option, Some, None, refl, sym, ap, subst, ◌∙◌, ◌≡◌, ◌⊎◌, inl, inr, length-append, append-nil, arith}
+use Rattle.std.specs.Prelude.{nat_le}
+use Rattle.std.proofs.Math.Dec.{leb-zero}
+use Rattle.std.proofs.lemmas.Bool.{le-leb, leb-true}
+use Rattle.std.proofs.lemmas.List.{length-map}
+use Rattle.std.proofs.lemmas.List.Elements.{filter-append}
+use Rattle.device_list.specs.DeviceList.{Devices, Effect, effect_of, fails_normally}
+use Rattle.device_list.specs.Kinds.{EachCall}
+use Rattle.rehearse_terms.specs.Outcomes.{OutcomeWord, Outcome, Success, Failure, Run, Short, Long, failures}
+use Rattle.rehearse_terms.specs.State.{Text, State, LoggedCommand, Variables, start, asked_of}
+use Rattle.rehearse_rules.specs.Execution.{Answer, Normal, Exit, Ended, Dry, succeeds, outcome_when, exec, run_text}
+use Rattle.rehearse_rules.specs.Expected.{Answered, asked_in, is_unexpected, unexpected_of}
+use Rattle.rehearse_rules.specs.Laws.{IsExpected, OneIsExpected}
+use Rattle.rehearse_rules.specs.Runs.{Task, run_on, kind, kind_of, taken_kind, state_of, unexpected, is_at_most, is_allowed}
+use Rattle.rehearse_rules.proofs.ChoiceTreeLemmas.{Kinds, IsPruned}
+use Rattle.rehearse_rules.proofs.TakenOutcomes.{more, answers, GoesTo, Track, Track-of, Keeps, AsksOne, HasAnswered, Keeps-text, Keeps-exec}
+
+-- every digit of the word on which a task runs is taken, or its run ends
+pub Keeps-run_on : (task : Task) (s : State) → Keeps task.limits.device_bound s (run_text task.limits (exec task.limits task.limits.step_bound) task.name task.text)
+Keeps-run_on task s = Keeps-text task.limits (exec task.limits task.limits.step_bound) (Keeps-exec task.limits task.limits.step_bound) task.name task.text s
+
+-- ---- one more command has taken an outcome
+
+taken_not_short : (u : OutcomeWord) (t : State) → t.word ≡ u → taken_kind t ≡ Short → ⊥
+taken_not_short [] t e k = let r : taken_kind t ≡ Run = rw e refl in absurd cc
+taken_not_short (c ∷ u) t e k = let r : taken_kind t ≡ Long = rw e refl in absurd cc
+
+as_many : (log : List LoggedCommand) → length (answers log) ≡ length (asked_in log)
+as_many log = length-map (asked_of log) (λ e. e.success) ∙ sym (length-map (asked_of log) (λ e. (e.success, e.words)))
+
+no_more_asked : (environment : Variables) (w : OutcomeWord) (t : State) → GoesTo (start environment w) t → length (asked_in t.log) + length t.word ≡ length w
+no_more_asked environment w t g =
+    let a = as_many t.log in
+    let b = ap length g.outcomes in
+    let c = length-map g.taken succeeds in
+    let d = ap length g.word in
+    let e = length-append g.taken t.word in
+    omega arith
+
+none_further : (l further : List Answered) (one : Answered) (more : List Answered) → more ≡ l ++ one ∷ further → length more ≤ length l + 1 → further ≡ []
+none_further l [] one more e h = refl
+none_further l (other ∷ further) one more e h = absurd (let a = ap length e in let b = length-append l (one ∷ other ∷ further) in omega arith)
+
+-- the words of the command that asks after p, whatever it is answered
+pub record AsksAt (task : Task) (p : OutcomeWord) : Type 0 where
+  pub call : List Text
+  pub grows : (d : Outcome) → asked_in (state_of (run_on task (p ++ d ∷ []))).log ≡ asked_in (state_of (run_on task p)).log ++ (succeeds d, call) ∷ []
+
+-- the same, of an answer and of the runs that go on
+abbrev AsksHere : (run : OutcomeWord → Answer) → Answer → Type 0
+AsksHere run a = (call : List Text) × ((d : Outcome) → asked_in (state_of (run (d ∷ []))).log ≡ asked_in (state_of a).log ++ (succeeds d, call) ∷ [])
+
+asks_here : (bound : ℕ) (environment : Variables) (p : OutcomeWord) (run : OutcomeWord → Answer) (a : Answer) → Track bound (start environment p) a → AsksOne run a → kind_of a ≡ Short
+    → ((d : Outcome) → GoesTo (start environment (p ++ d ∷ [])) (state_of (run (d ∷ [])))) → AsksHere run a
+asks_here bound environment p run (Normal t) h asks k g = absurd (taken_not_short t.word t refl k)
+asks_here bound environment p run (Exit t) h asks k g = absurd (taken_not_short t.word t refl k)
+asks_here bound environment p run (Ended ending t) h asks k g = absurd (taken_not_short t.word t refl k)
+asks_here bound environment p run (Dry t) h asks k g = (asks.0, λ d. one d)
+  where
+    one : (d : Outcome) → asked_in (state_of (run (d ∷ []))).log ≡ asked_in t.log ++ (succeeds d, asks.0) ∷ []
+    one d =
+        let u : State = state_of (run (d ∷ [])) in
+        let has = asks.1 d [] in
+        let here = no_more_asked environment p t h.0 in
+        let there = no_more_asked environment (p ++ d ∷ []) u (g d) in
+        let taken = ap length h.1 in
+        let longer = length-append p (d ∷ []) in
+        let none = none_further (asked_in t.log) has.further (succeeds d, asks.0) (asked_in u.log) has.grows (omega arith) in
+        has.grows ∙ ap (λ (l : List Answered). asked_in t.log ++ (succeeds d, asks.0) ∷ l) none
+
+pub asks_at : (task : Task) (p : OutcomeWord) → kind task p ≡ Short → AsksAt task p
+asks_at task p k =
+    let keeps = Keeps-run_on task (start task.environment p) in
+    let asks = asks_here task.limits.device_bound task.environment p (λ x. run_on task (p ++ x)) (run_on task p) keeps.0 keeps.2 k
+    (λ d. Track-of task.limits.device_bound (start task.environment (p ++ d ∷ [])) (run_on task (p ++ d ∷ [])) (Keeps-run_on task (start task.environment (p ++ d ∷ []))).0) in
+    record { call = asks.0; grows = asks.1 }
+
+-- ---- it counts, or it does not
+
+counted_one : (devices : Devices) (l : List Answered) (one : Answered) (b : Bool) → is_unexpected devices one ≡ b → length (unexpected_of devices (l ++ one ∷ [])) ≡ length (unexpected_of devices l) + cond b 1 0
+counted_one devices l one b e =
+    let split = filter-append (is_unexpected devices) l (one ∷ []) in
+    let one_more : unexpected_of devices (one ∷ []) ≡ cond b (one ∷ []) [] = ap (λ (c : Bool). cond c (one ∷ []) []) e in
+    ap length (split ∙ ap (λ (m : List Answered). unexpected_of devices l ++ m) one_more) ∙ length-append (unexpected_of devices l) (cond b (one ∷ []) []) ∙ ap (λ (n : ℕ). length (unexpected_of devices l) + n) (few b)
+  where
+    few : (c : Bool) → length (cond c (one ∷ []) []) ≡ cond c 1 0
+    few true = refl
+    few false = refl
+
+-- of both outcomes, one is as expected
+expected_of : (devices : Devices) (call : List Text) (normal : Bool) → fails_normally devices call ≡ normal → (success : Bool) → is_unexpected devices (success, call) ≡ elim normal [ true ↦ success | false ↦ not success ]
+expected_of devices call normal e success = ap (λ (b : Bool). elim b [ true ↦ success | false ↦ not success ]) e
+
+counts : (task : Task) (p : OutcomeWord) (asks : AsksAt task p) (d : Outcome) (b : Bool) → is_unexpected task.limits.devices (succeeds d, asks.call) ≡ b → unexpected task (p ++ d ∷ []) ≡ unexpected task p + cond b 1 0
+counts task p asks d b e =
+    ap (λ (l : List Answered). length (unexpected_of task.limits.devices l)) (asks.grows d)
+    ∙ counted_one task.limits.devices (asked_in (state_of (run_on task p)).log) (succeeds d, asks.call) b e
+
+pub expected_at : (task : Task) (p : OutcomeWord) (asks : AsksAt task p) (normal : Bool) → fails_normally task.limits.devices asks.call ≡ normal → IsExpected task p (outcome_when (not normal)) (outcome_when normal)
+expected_at task p asks true e =
+    let f = counts task p asks Failure false (expected_of task.limits.devices asks.call true e false) in
+    (f ∙ (let z : unexpected task p + 0 ≡ unexpected task p = omega arith in z), counts task p asks Success true (expected_of task.limits.devices asks.call true e true))
+expected_at task p asks false e =
+    let s = counts task p asks Success false (expected_of task.limits.devices asks.call false e true) in
+    (s ∙ (let z : unexpected task p + 0 ≡ unexpected task p = omega arith in z), counts task p asks Failure true (expected_of task.limits.devices asks.call false e false))
+
+pub one_is_expected : OneIsExpected
+one_is_expected task p k =
+    let asks = asks_at task p k in
+    by asks (fails_normally task.limits.devices asks.call) refl
+  where
+    by : (asks : AsksAt task p) (normal : Bool) → fails_normally task.limits.devices asks.call ≡ normal → IsExpected task p Success Failure ⊎ IsExpected task p Failure Success
+    by asks true e = inr (expected_at task p asks true e)
+    by asks false e = inl (expected_at task p asks false e)
+
+-- ---- what is counted so
+
+abbrev pub CountsOne : (cost : OutcomeWord → ℕ) → (p : OutcomeWord) → (expected other : Outcome) → Type 0
+CountsOne cost p expected other = (cost (p ++ expected ∷ []) ≡ cost p) × (cost (p ++ other ∷ []) ≡ cost p + 1)
+
+abbrev pub IsCounted : Kinds → (cost : OutcomeWord → ℕ) → Type 0
+IsCounted kind cost = (p : OutcomeWord) → kind p ≡ Short → CountsOne cost p Success Failure ⊎ CountsOne cost p Failure Success
+
+abbrev pub up_to : (cost : OutcomeWord → ℕ) → (most : Option ℕ) → OutcomeWord → Bool
+up_to cost most w = is_at_most most (cost w)
+
+-- no longer word counts less
+pub no_less : (cost : OutcomeWord → ℕ) (p : OutcomeWord) (d : Outcome) → CountsOne cost p Success Failure ⊎ CountsOne cost p Failure Success → (cost p ≤ cost (p ++ d ∷ [])) × (cost (p ++ d ∷ []) ≤ cost p + 1)
+no_less cost p Success (inl h) = let e = h.0 in (omega arith, omega arith)
+no_less cost p Failure (inl h) = let e = h.1 in (omega arith, omega arith)
+no_less cost p Success (inr h) = let e = h.1 in (omega arith, omega arith)
+no_less cost p Failure (inr h) = let e = h.0 in (omega arith, omega arith)
+
+pub is_pruned : (most : Option ℕ) (kind : Kinds) (cost : OutcomeWord → ℕ) → IsCounted kind cost → IsPruned kind (up_to cost most)
+is_pruned None kind cost counted = record { before = λ p d asked h. refl; goes_on = λ p asked h over. refl }
+is_pruned (Some most) kind cost counted = record {
+  before = λ p d asked h. le-leb (cost p) most (let l = leb-true (cost (p ++ d ∷ [])) most h in let k = (no_less cost p d (counted p asked)).0 in omega arith);
+  goes_on = λ p asked h over. on p (leb-true (cost p) most h) over (counted p asked);
+}
+  where
+    on : (p : OutcomeWord) → cost p ≤ most → nat_le (cost (p ++ Success ∷ [])) most ≡ false → CountsOne cost p Success Failure ⊎ CountsOne cost p Failure Success → nat_le (cost (p ++ Failure ∷ [])) most ≡ true
+    on p l over (inl h) = absurd (let e = h.0 in let yes : nat_le (cost (p ++ Success ∷ [])) most ≡ true = le-leb (cost (p ++ Success ∷ [])) most (omega arith) in cc)
+    on p l over (inr h) = let e = h.0 in le-leb (cost (p ++ Failure ∷ [])) most (omega arith)
+
+pub task_pruned : (task : Task) → IsPruned (kind task) (is_allowed task)
+task_pruned task = is_pruned task.failures (kind task) (unexpected task) (one_is_expected task)
+
+-- ---- nothing counts where nothing has taken an outcome
+
+none_asked : (l : List Answered) → length l ≤ 0 → l ≡ []
+none_asked [] h = refl
+none_asked (one ∷ l) h = absurd (omega arith)
+
+pub none_unexpected : (task : Task) → unexpected task [] ≡ 0
+none_unexpected task =
+    let t : State = state_of (run_on task []) in
+    let g = Track-of task.limits.device_bound (start task.environment []) (run_on task []) (Keeps-run_on task (start task.environment [])).0 in
+    let n = no_more_asked task.environment [] t g in
+    ap (λ (l : List Answered). length (unexpected_of task.limits.devices l)) (none_asked (asked_in t.log) (omega arith))
+
+pub empty_allowed : (task : Task) → is_allowed task [] ≡ true
+empty_allowed task = by task.failures
+  where
+    by : (most : Option ℕ) → is_at_most most (unexpected task []) ≡ true
+    by None = refl
+    by (Some most) = ap (λ (n : ℕ). nat_le n most) (none_unexpected task) ∙ leb-zero most
+
+-- ---- where the list expects no failure
+
+not_normal : (devices : Devices) → EachCall (λ effect. effect.normal ≡ false) devices → (call : List Text) → fails_normally devices call ≡ false
+not_normal devices each [] = refl
+not_normal devices each (name ∷ words) = by (effect_of devices name words) refl
+  where
+    by : (o : Option Effect) → effect_of devices name words ≡ o → elim o [ Some effect ↦ effect.normal | None ↦ false ] ≡ false
+    by None e = refl
+    by (Some effect) e = each name words effect e
+
+count_failures : (devices : Devices) → EachCall (λ effect. effect.normal ≡ false) devices → (answered : List Answered) (w : OutcomeWord) → map (λ (a : Answered). a.0) answered ≡ map succeeds w → length (unexpected_of devices answered) ≡ failures w
+count_failures devices each [] [] e = refl
+count_failures devices each [] (d ∷ w) e = absurd cc
+count_failures devices each (a ∷ answered) [] e = absurd cc
+count_failures devices each (a ∷ answered) (Success ∷ w) e =
+    let one : a.0 ≡ true = cc in
+    let more : map (λ (b : Answered). b.0) answered ≡ map succeeds w = cc in
+    let none : is_unexpected devices a ≡ false = expected_of devices a.1 false (not_normal devices each a.1) a.0 ∙ ap not one in
+    ap (λ (b : Bool). length (cond b (a ∷ unexpected_of devices answered) (unexpected_of devices answered))) none ∙ count_failures devices each answered w more
+count_failures devices each (a ∷ answered) (Failure ∷ w) e =
+    let one : a.0 ≡ false = cc in
+    let more : map (λ (b : Answered). b.0) answered ≡ map succeeds w = cc in
+    let some : is_unexpected devices a ≡ true = expected_of devices a.1 false (not_normal devices each a.1) a.0 ∙ ap not one in
+    ap (λ (b : Bool). length (cond b (a ∷ unexpected_of devices answered) (unexpected_of devices answered))) some ∙ ap suc (count_failures devices each answered w more)
+
+answers_asked : (asked : List LoggedCommand) → map (λ (a : Answered). a.0) (map (λ (e : LoggedCommand). (e.success, e.words)) asked) ≡ map (λ (e : LoggedCommand). e.success) asked
+answers_asked [] = refl
+answers_asked (e ∷ asked) = ap (λ (l : List Bool). e.success ∷ l) (answers_asked asked)
+
+-- if the outcomes in the log are the word
+pub failures_are_counted : (task : Task) (w : OutcomeWord) → EachCall (λ effect. effect.normal ≡ false) task.limits.devices → map (λ (e : LoggedCommand). e.success) (asked_of (state_of (run_on task w)).log) ≡ map succeeds w → unexpected task w ≡ failures w
+failures_are_counted task w each e = count_failures task.limits.devices each (asked_in (state_of (run_on task w)).log) w (answers_asked (asked_of (state_of (run_on task w)).log) ∙ e)
+
+-- ---- no more are unexpected than were asked for
+
+asked_all : (bound : ℕ) (environment : Variables) (p : OutcomeWord) (a : Answer) → Track bound (start environment p) a → kind_of a ≡ Short → length (asked_in (state_of a).log) ≡ length p
+asked_all bound environment p (Normal t) h k = absurd (taken_not_short t.word t refl k)
+asked_all bound environment p (Exit t) h k = absurd (taken_not_short t.word t refl k)
+asked_all bound environment p (Ended ending t) h k = absurd (taken_not_short t.word t refl k)
+asked_all bound environment p (Dry t) h k = let n = no_more_asked environment p t h.0 in let none = ap length h.1 in omega arith
+
+pub asked_many : (task : Task) (p : OutcomeWord) → kind task p ≡ Short → length (asked_in (state_of (run_on task p)).log) ≡ length p
+asked_many task p k = asked_all task.limits.device_bound task.environment p (run_on task p) (Keeps-run_on task (start task.environment p)).0 k
+
+few_unexpected : (devices : Devices) (answered : List Answered) → length (unexpected_of devices answered) ≤ length answered
+few_unexpected devices [] = omega arith
+few_unexpected devices (a ∷ answered) = by (is_unexpected devices a) (few_unexpected devices answered)
+  where
+    by : (b : Bool) → length (unexpected_of devices answered) ≤ length answered → length (cond b (a ∷ unexpected_of devices answered) (unexpected_of devices answered)) ≤ suc (length answered)
+    by true h = omega (arith, h)
+    by false h = omega (arith, h)
+
+pub unexpected_within : (task : Task) (p : OutcomeWord) → kind task p ≡ Short → unexpected task p ≤ length p
+unexpected_within task p k = let f = few_unexpected task.limits.devices (asked_in (state_of (run_on task p)).log) in let n = asked_many task p k in omega (arith, f, n)
