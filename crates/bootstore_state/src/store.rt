@@ -1,5 +1,5 @@
 //! What a store of states can do.
-ghost use Rattle.std.specs.Prelude.{◌≡◌, ◌+◌, ◌<◌, ◌^◌, IfOk, OnOk, OnErr, option_map, reverse, slice_get};
+ghost use Rattle.std.specs.Prelude.{◌≡◌, ◌==◌, ◌+◌, ◌<◌, ◌^◌, not, length, IfOk, OnOk, OnErr, option_map, reverse, slice_get};
 ghost use Rattle.std.specs.FinMap.{get, entries};
 ghost use Rattle.bootstore_state.specs.Moment.{environment_of};
 ghost use Rattle.text.specs.TextsShown.{option_bytes};
@@ -131,6 +131,10 @@ pub trait Store: Drop {
     /// The present state, from which the readers below read.
     fn present(&self) -> &Present
         ensures { moment_of result.now ≡ (record_of self.now).present };
+
+    /// Whether a state is marked.
+    fn has_mark(&self) -> bool
+        ensures { result ≡ not (length (record_of self.now).marked == 0) };
 
     /// How many steps were begun, in all runs together.
     fn begun(&self) -> u64
