@@ -31,4 +31,6 @@ pub mod Limits
 pub mod TextLemmas
 pub mod TaskSet
 mod SourceExamples
+pub mod AskingCommandLemmas
 pub mod StoppedTextLemmas
+pub mod ExpectedLemmas

@@ -1,5 +1,5 @@
 -- Where a text stops, and how an outcome continues it.
-use Rattle.std.proofs.Common.{ℕ, ◌+◌, Bool, true, false, List, [], ◌∷◌, Result, Ok, Err, refl, sym, ap, subst, ◌∙◌, ◌≡◌, ◌≤◌, None, arith, Option, Some}
+use Rattle.std.proofs.Common.{ℕ, ◌+◌, Bool, true, false, not, List, [], ◌∷◌, Result, Ok, Err, refl, sym, ap, subst, ◌∙◌, ◌≡◌, ◌≤◌, None, arith, Option, Some}
 use Rattle.std.specs.Prelude.{IfOk, OnOk}
 use Rattle.device_list.specs.declared.finish.BoardEnd.{BoardEnd}
 use Rattle.bootstore_state.specs.declared.store.StoreError.{StoreError}
@@ -9,6 +9,7 @@ use Rattle.rehearse_terms.specs.Outcomes.{OutcomeWord, Outcome, Success, Failure
 use Rattle.rehearse_terms.specs.State.{State}
 use Rattle.bootstore_state.specs.StoredState.{state_at}
 use Rattle.device_list.specs.Called.{sets_in}
+use Rattle.device_list.specs.DeviceList.{fails_normally}
 use Rattle.rehearse_rules.specs.Execution.{Limits, Request, logged, set_environment}
 use Rattle.rehearse_rules.specs.Runs.{Task}
 use Rattle.rehearse_machine.specs.declared.ask.Ask.{Ask}
@@ -23,6 +24,7 @@ use Rattle.rehearse_machine.specs.Came.{Came}
 use Rattle.rehearse_machine.specs.Meaning.{comes_to, IsProperNext, AreProperFrames}
 use Rattle.rehearse_machine.specs.MovesShown.{next_shown, request_shown, Keeps, Does, Comes}
 use Rattle.rehearse_machine.specs.Turning.{to_come, step_comes, IsSoundStep, Drives}
+use Rattle.rehearse_machine.specs.Expecting.{StillAsks, Expected, call_of}
 use Rattle.rehearse_machine.specs.Machine.{Asking, AsksNone, IsAsking, TakesOutcome, asked_at, Stops}
 use Rattle.rehearse_machine.proofs.MoveMeaning.{continue-dry}
 use Rattle.rehearse_machine.proofs.PlaceMoves.{place_answered-is}
@@ -117,6 +119,60 @@ module _ (limits : Limits) (old mid : Record) (step : Step) (asking : IsAsking l
 
   pub never_found : ((ask : Ask) → step ≡ steps.Asks ask → ⊥) → ⊥
   never_found other = never_other step refl other
+
+  -- the same command still asks
+  module _ (ask : Ask) (is : step ≡ steps.Asks ask) where
+    found_so : (w : OutcomeWord) → AskOn (request_shown ask) mid.present.frames (state_at mid.present w) ≡ AskOn asking_at.request old.present.frames (state_at old.present w)
+    found_so w = sym (ap (λ (x : Step). next_shown x mid.present w) is) ∙ found w
+
+    found_request : request_shown ask ≡ asking_at.request
+    found_request = let e = found_so [] in cc
+
+    found_frames : mid.present.frames ≡ old.present.frames
+    found_frames = let e = found_so [] in cc
+
+    found_state : (w : OutcomeWord) → state_at mid.present w ≡ state_at old.present w
+    found_state w = let e = found_so w in cc
+
+    again_here : (w : OutcomeWord) → found_again limits mid.present.frames (state_at mid.present w) ≡ found_again limits old.present.frames (state_at old.present w)
+    again_here w = ap (λ (ps : List RunningFrame). found_again limits ps (state_at mid.present w)) found_frames ∙ ap (found_again limits old.present.frames) (found_state w)
+
+    asking_here : Asking limits mid.present
+    asking_here = record {
+      request = request_shown ask;
+      again = λ w. again_here w ∙ asking_at.again w ∙ sym (found_so w);
+      sound = subst (λ (ps : List RunningFrame). AreProperFrames (frames_of ps)) (sym found_frames) asking_at.sound;
+      within = subst (λ (s : State). s.steps ≤ limits.step_bound) (sym (found_state [])) asking_at.within;
+    }
+
+    still_asking : IsAsking limits mid.present
+    unfolding IsAsking
+    still_asking = asking_here
+
+    still_comes : (w : OutcomeWord) → asked_at limits mid.present w ≡ asked_at limits old.present w
+    unfolding asked_at
+    still_comes w = ap (λ (x : PlaceNext). comes_to limits w (next_of x)) (again_here w)
+
+    pub still_asks : StillAsks limits old mid
+    still_asks = record {
+      asks = still_asking;
+      comes = still_comes;
+      state = found_state [];
+      marked = finds.1.marked;
+      begun = let b = finds.1.begun in let c : mid.present.steps ≡ old.present.steps = ap (λ (s : State). s.steps) (found_state []) in omega arith;
+    }
+
+    -- and has these words
+    pub has_words : (asking : Asking limits mid.present) → asking.request ≡ request_shown ask
+    unfolding asking_here
+    has_words other = let e : AskOn other.request mid.present.frames (state_at mid.present []) ≡ AskOn (request_shown ask) mid.present.frames (state_at mid.present []) = sym (other.again []) ∙ asking_here.again [] in cc
+
+  pub is_expected : (ask : Ask) → step ≡ steps.Asks ask → (r : Result Bool StoreError) → IfOk r (λ success. success ≡ not (fails_normally limits.devices (call_of (request_shown ask)))) → IfOk r (Expected limits old mid)
+  is_expected ask is (Ok success) e = record {
+    still = still_asks ask is;
+    expects = λ asking. e ∙ ap (λ (request : Request). not (fails_normally limits.devices (call_of request))) (sym (has_words ask is asking));
+  }
+  is_expected ask is (Err x) e = tt
 
   -- and takes an outcome
   module _ (ask : Ask) (is : step ≡ steps.Asks ask) (outcome : Outcome) (new : Record) (next : Step) (does : Does next mid new (place_answered outcome (request_shown ask) mid.present.frames)) where

@@ -12,3 +12,4 @@ pub mod Turning
 pub mod Machine
 pub mod Tasks
 pub mod StoppedTexts
+pub mod Expecting

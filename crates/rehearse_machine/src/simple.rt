@@ -91,6 +91,7 @@ fn ask_file<'d, S: Store>(
         stays: devices.test_stays(),
         always: None,
         needs: &[],
+        normal: false,
         sets: &[],
     };
     ask(alloc, store, bounds, name, &question, effect, statuses)

@@ -1,0 +1,128 @@
+-- What is expected of a command that asks says which outcome counts.
+use Rattle.std.proofs.Common.{refl, ◌≡◌, ◌∙◌, sym, ap, subst, Bool, true, false, not, List, [], ◌∷◌, ◌++◌, nat_eq}
+use Rattle.hushlang.specs.Tree.{Script}
+use Rattle.bootstore_state.specs.Moment.{Moment}
+use Rattle.bootstore_state.specs.Record.{Record}
+use Rattle.bootstore_state.specs.StoredState.{state_at}
+use Rattle.device_list.specs.DeviceList.{fails_normally}
+use Rattle.device_list.specs.declared.finish.BoardEnd.{BoardEnd}
+use Rattle.rehearse_terms.specs.Outcomes.{OutcomeWord, Outcome, Success, Failure}
+use Rattle.rehearse_terms.specs.State.{Text, State, LoggedCommand}
+use Rattle.rehearse_rules.specs.Execution.{Limits, Answer, Normal, Exit, Ended, Dry, take_outcome, run_all, for_each, outcome_when, succeeds}
+use Rattle.rehearse_rules.specs.Expected.{Answered, asked_in}
+use Rattle.rehearse_rules.specs.Laws.{IsExpected}
+use Rattle.rehearse_rules.specs.Runs.{Task, run_on, state_of}
+use Rattle.rehearse_rules.proofs.TakenOutcomes.{KeepsAll, HasAnswered, Track-of, answered_on, go_on-answered, text_end-answered, outcome_answers, Keeps-script, Keeps-joined, Keeps-arms, Keeps-exec, Keeps-run, Keeps-turns, Keeps-for, Keeps-if, Keeps-stays, after_condition, Keeps-after_condition}
+use Rattle.rehearse_rules.proofs.UnexpectedAnswers.{AsksAt, asks_at, expected_at}
+use Rattle.rehearse_machine.specs.Came.{Came, Over, Wants, settled}
+use Rattle.rehearse_machine.specs.Frames.{Frame, Lists, Linked, IfCondition, LoopCondition, LoopBody, ForBody, RunNames, RunText}
+use Rattle.rehearse_machine.specs.Places.{PlaceNext, next_of, frames_of}
+use Rattle.rehearse_machine.specs.Meaning.{first_or_next, full, script, joined_of, arms_of, again, resume, continue, comes_to}
+use Rattle.rehearse_machine.specs.Machine.{Asking, IsAsking, asked_at}
+use Rattle.rehearse_machine.specs.Expecting.{Expects, StillAsks, call_of}
+use Rattle.rehearse_machine.specs.StoppedTexts.{StoppedAt}
+use Rattle.rehearse_machine.specs.declared.rehearsal.Stop.TheVariants.{Asks}
+use Rattle.rehearse_machine.proofs.AskingCommandLemmas.{asks_anew}
+use Rattle.rehearse_machine.proofs.StoppedTextLemmas.{dry_there, asked_kind}
+
+-- ---- what a command has in the log, it has in the log of what follows
+
+module _ (limits : Limits) (call : List Text) (d : Outcome) (log : List LoggedCommand) where
+  abbrev Has : Answer → Type 0
+  Has a = HasAnswered call d log (state_of a).log
+
+  kept_full : (a : Script) → KeepsAll limits (full limits a)
+  kept_full = Keeps-exec limits limits.step_bound
+
+  kept_script : (a : Script) → KeepsAll limits (script limits a)
+  kept_script = Keeps-script limits limits.step_bound (full limits) kept_full
+
+  kept_names : (names : List Text) → KeepsAll limits (run_all limits (full limits) names)
+  kept_names = Keeps-run limits (full limits) kept_full
+
+  kept_again : (until : Bool) (c b : Script) → KeepsAll limits (again limits until c b)
+  kept_again until c b u = Keeps-turns limits limits.step_bound until (script limits c) (script limits b) (kept_script c) (kept_script b) u.memory.status u
+
+  first_answered : (a : Answer) (g : State → Answer) → KeepsAll limits g → Has a → Has (first_or_next a g)
+  first_answered (Normal t) g k h = answered_on call d log t (state_of (g t)) (Track-of limits.device_bound t (g t) (k t).0) h
+  first_answered (Exit t) g k h =
+      let x : Answer = first_or_next (Exit t) g in
+      answered_on call d log t (state_of x) (Track-of limits.device_bound t x (Keeps-if limits.device_bound t (nat_eq t.memory.status 0) g Normal (k t) (Keeps-stays limits.device_bound t)).0) h
+  first_answered (Ended ending t) g k h = h
+  first_answered (Dry t) g k h = h
+
+  resume_answered : (f : Frame) (a : Answer) → Has a → Has (resume limits f a)
+  resume_answered (Lists lists) a h = go_on-answered limits.device_bound call d log a (script limits lists) (kept_script lists) h
+  resume_answered (Linked links) a h = go_on-answered limits.device_bound call d log a (joined_of limits links) (Keeps-joined limits limits.step_bound (full limits) kept_full links) h
+  resume_answered (IfCondition c arms) a h =
+      go_on-answered limits.device_bound call d log a (λ t. elim (nat_eq t.memory.status 0) [ true ↦ script limits c t | false ↦ arms_of limits arms t ])
+      (λ t. Keeps-if limits.device_bound t (nat_eq t.memory.status 0) (script limits c) (arms_of limits arms) (kept_script c t) (Keeps-arms limits limits.step_bound (full limits) kept_full arms t)) h
+  resume_answered (LoopCondition until c b last) a h =
+      go_on-answered limits.device_bound call d log a (after_condition limits until (script limits b) (again limits until c b) last) (Keeps-after_condition limits until (script limits b) (again limits until c b) (kept_script b) (kept_again until c b) last) h
+  resume_answered (LoopBody until c b) a h = go_on-answered limits.device_bound call d log a (again limits until c b) (kept_again until c b) h
+  resume_answered (ForBody name values body) a h =
+      go_on-answered limits.device_bound call d log a (λ t. for_each limits.shell name (script limits body) t.memory.status values t) (λ t. Keeps-for limits name (script limits body) (kept_script body) t.memory.status values t) h
+  resume_answered (RunNames names) a h = first_answered a (run_all limits (full limits) names) (kept_names names) h
+  resume_answered (RunText names) a h = text_end-answered limits.device_bound limits.shell call d log a (run_all limits (full limits) names) (kept_names names) h
+
+  -- the log of what a run comes to
+  abbrev log_of : Came → List LoggedCommand
+  log_of (Over ending s) = s.log
+  log_of (Wants s) = s.log
+
+  settled_log : (a : Answer) → log_of (settled a) ≡ (state_of a).log
+  settled_log (Normal t) = refl
+  settled_log (Exit t) = refl
+  settled_log (Ended ending t) = refl
+  settled_log (Dry t) = refl
+
+  continue_answered : (fs : List Frame) (a : Answer) → Has a → HasAnswered call d log (log_of (continue limits fs a))
+  continue_answered [] a h = subst (HasAnswered call d log) (sym (settled_log a)) h
+  continue_answered (f ∷ fs) a h = continue_answered fs (resume limits f a) (resume_answered f a h)
+
+-- ---- the words of the command that asks are those that the log has
+
+head_same : (l : List Answered) (a b : Answered) (x y : List Answered) → l ++ a ∷ x ≡ l ++ b ∷ y → a ≡ b
+head_same [] a b x y e = cc
+head_same (c ∷ l) a b x y e = head_same l a b x y (let f = e in cc)
+
+call_same : (task : Task) (p : OutcomeWord) (m : Moment) → StoppedAt task p Asks m → (asking : Asking task.limits m) → asking.request.again ≡ false → (asks : AsksAt task p) → asks.call ≡ call_of asking.request
+unfolding asked_at
+call_same task p m stopped asking fresh asks =
+    let limits : Limits = task.limits in
+    let call : List Text = call_of asking.request in
+    let s : State = state_at m (Success ∷ []) in
+    let a : Answer = take_outcome asking.request (Success ∷ []) s in
+    let has : HasAnswered call Success m.log (log_of limits call Success m.log (continue limits (frames_of m.frames) a)) =
+    continue_answered limits call Success m.log (frames_of m.frames) a (outcome_answers limits s asking.request Success [] fresh) in
+    let comes : settled (run_on task (p ++ Success ∷ [])) ≡ continue limits (frames_of m.frames) a =
+    stopped.1 (Success ∷ []) ∙ ap (λ (x : PlaceNext). comes_to limits (Success ∷ []) (next_of x)) (asking.again (Success ∷ [])) in
+    let log_there : (state_of (run_on task (p ++ Success ∷ []))).log ≡ log_of limits call Success m.log (continue limits (frames_of m.frames) a) =
+    sym (settled_log limits call Success m.log (run_on task (p ++ Success ∷ []))) ∙ ap (log_of limits call Success m.log) comes in
+    let log_here : (state_of (run_on task p)).log ≡ m.log = ap (λ (x : Answer). (state_of x).log) (dry_there task p m stopped) in
+    let one : asked_in m.log ++ (true, call) ∷ has.further ≡ asked_in m.log ++ (true, asks.call) ∷ [] =
+    sym has.grows ∙ sym (ap asked_in log_there) ∙ asks.grows Success ∙ ap (λ (l : List LoggedCommand). asked_in l ++ (true, asks.call) ∷ []) log_here in
+    sym (ap (λ (x : Answered). x.1) (head_same (asked_in m.log) (true, call) (true, asks.call) has.further [] one))
+
+-- ---- so one outcome is as expected
+
+pub expected_there : (task : Task) (p : OutcomeWord) (m : Moment) (success : Bool) → StoppedAt task p Asks m → Expects task.limits m success → IsExpected task p (outcome_when success) (outcome_when (not success))
+unfolding IsAsking
+expected_there task p m success stopped expects =
+    let asking : Asking task.limits m = asking_at task.limits m stopped.0 in
+    let asks : AsksAt task p = asks_at task p (asked_kind task p m stopped) in
+    let normal : Bool = fails_normally task.limits.devices asks.call in
+    let same : success ≡ not normal = expects asking ∙ sym (ap (λ (call : List Text). not (fails_normally task.limits.devices call)) (call_same task p m stopped asking (asks_anew task.limits m asking) asks)) in
+    subst (λ (b : Bool). IsExpected task p (outcome_when b) (outcome_when (not b))) (sym same) (twice normal (expected_at task p asks normal refl))
+  where
+    asking_at : (limits : Limits) (n : Moment) → IsAsking limits n → Asking limits n
+    asking_at limits n asks = asks
+
+    twice : (b : Bool) → IsExpected task p (outcome_when (not b)) (outcome_when b) → IsExpected task p (outcome_when (not b)) (outcome_when (not (not b)))
+    twice true h = h
+    twice false h = h
+
+-- ---- a command that still asks
+
+pub still_stopped : (task : Task) (p : OutcomeWord) (old new : Record) → StoppedAt task p Asks old.present → StillAsks task.limits old new → StoppedAt task p Asks new.present
+still_stopped task p old new h still = (still.asks, λ w. h.1 w ∙ sym (still.comes w), h.2 ∙ ap Wants (sym still.state))
