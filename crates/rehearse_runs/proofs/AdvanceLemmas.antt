@@ -7,9 +7,9 @@ use Rattle.std.proofs.lemmas.Grind.{pow_more}
 use Rattle.std.proofs.Math.Pow.{pow_mono}
 use Rattle.bootstore_state.specs.Record.{Record, fresh}
 use Rattle.rehearse_terms.specs.Bounds.{are_bounds, are_few, few_failures, most_devices, most_run_devices, most_steps}
-use Rattle.rehearse_terms.specs.Outcomes.{OutcomeWord, Success, Failure, words, is_run_kind, is_within, few_of}
+use Rattle.rehearse_terms.specs.Outcomes.{OutcomeWord, Success, Failure, words, is_run_kind}
 use Rattle.rehearse_terms.specs.State.{Text}
-use Rattle.rehearse_rules.specs.Runs.{Task, kind, all_runs, runs, steps}
+use Rattle.rehearse_rules.specs.Runs.{Task, kind, all_runs, runs, steps, is_allowed}
 use Rattle.rehearse_runs.specs.Phases.{AreDigits, HasBudget, HasBegun}
 use Rattle.std.proofs.lemmas.Bool.{leb-true}
 use Rattle.rehearse_rules.proofs.FewFailures.{few_runs_if, power-le}
@@ -68,13 +68,9 @@ are_within task h = within_if task.limits.device_bound task.failures (fit task.l
 pub bounds_in : (task other : Task) → task ≡ other → AreBounds other → AreBounds task
 bounds_in task other e h = subst AreBounds (sym e) h
 
-few_less : (most : Option ℕ) (ws : List OutcomeWord) → length (few_of most ws) ≤ length ws
-few_less None ws = omega arith
-few_less (Some most) ws = filter_less (is_within (Some most)) ws
-
 few_devices : (task : Task) → task.limits.device_bound ≤ most_devices → length (runs task) ≤ 8589934591
 few_devices task h =
-    let g = few_less task.failures (all_runs task) in
+    let g = filter_less (is_allowed task) (all_runs task) in
     let f = filter_less (λ w. is_run_kind (kind task w)) (words task.limits.device_bound) in
     let l = words_length task.limits.device_bound in
     let k : task.limits.device_bound + 1 ≤ 33 = omega arith in

@@ -1,59 +1,41 @@
--- How many device commands of a word failed, and how many more may.
-use Rattle.std.proofs.Common.{◌≡◌, ℕ, zero, suc, ◌+◌, ◌-◌, ◌<◌, ◌∷◌, take, drop, length, get_or, Option, Some, None, refl, sym, ap, ◌∙◌, drop-cons, arith}
-use Rattle.std.specs.Prelude.{nat_lt}
-use Rattle.std.proofs.Math.Dec.{leb-suc-zero, leb-suc-suc}
-use Rattle.std.proofs.lemmas.List.{take_more}
-use Rattle.rehearse_terms.specs.Outcomes.{Outcome, failures, allows, one_less, has_success}
-use Rattle.rehearse_terms.specs.State.{Text}
-use Rattle.rehearse_runs.specs.RunsShown.{outcomes}
-use Rattle.rehearse_runs.proofs.SearchLemmas.{dropped_failures, failure_of, passed_failures}
+-- How many answers of a log are unexpected, and how many device commands took an outcome.
+use Rattle.std.proofs.Common.{◌≡◌, ◌∙◌, ℕ, suc, ◌+◌, ◌<◌, Bool, true, false, not, ◌&&◌, cond, List, [], ◌∷◌, ◌++◌, take, length, length-append, get_or, filter, map, refl, sym, ap, arith}
+use Rattle.std.proofs.lemmas.List.{take_more, map-append}
+use Rattle.std.proofs.lemmas.List.Elements.{filter-append}
+use Rattle.device_list.specs.DeviceList.{Devices}
+use Rattle.rehearse_terms.specs.State.{LoggedCommand, asked_of}
+use Rattle.rehearse_rules.specs.Expected.{Answered, asked_in, is_unexpected, unexpected_of}
 
--- one digit more
-pub counted_failure : (digits : Text) (i : ℕ) → i < length digits → (get_or digits i 0 ≡ 48 → ⊥) → failures (outcomes (take (i + 1) digits)) ≡ suc (failures (outcomes (take i digits)))
-counted_failure digits i l h = dropped_failures (take (i + 1) digits) (take i digits) (get_or digits i 0) (take_more digits i 0 l) h
+asked_append : (log more : List LoggedCommand) → asked_in (log ++ more) ≡ asked_in log ++ asked_in more
+asked_append log more = ap (map (λ e. (e.success, e.words))) (filter-append (λ e. not e.again) log more) ∙ map-append (λ e. (e.success, e.words)) (asked_of log) (asked_of more)
 
-pub counted_success : (digits : Text) (i : ℕ) → i < length digits → get_or digits i 0 ≡ 48 → failures (outcomes (take (i + 1) digits)) ≡ failures (outcomes (take i digits))
-counted_success digits i l h = passed_failures (take (i + 1) digits) (take i digits) (get_or digits i 0) (take_more digits i 0 l) h
+-- one command more
+asked_one : (e : LoggedCommand) (b : Bool) → e.again ≡ b → length (asked_in (e ∷ [])) ≡ cond b 0 1
+asked_one e true is = ap (λ (x : Bool). length (map (λ (c : LoggedCommand). (let a : Answered = (c.success, c.words) in a)) (cond (not x) (e ∷ []) []))) is
+asked_one e false is = ap (λ (x : Bool). length (map (λ (c : LoggedCommand). (let a : Answered = (c.success, c.words) in a)) (cond (not x) (e ∷ []) []))) is
 
--- how many more may fail behind so many failures
-abbrev pub less_by : ℕ → Option ℕ → Option ℕ
-less_by k None = None
-less_by k (Some most) = Some (most - k)
+pub asked_more : (before after : List LoggedCommand) (e : LoggedCommand) (b : Bool) (n : ℕ) → after ≡ before ++ e ∷ [] → e.again ≡ b → n ≡ length (asked_in before) → n + cond b 0 1 ≡ length (asked_in after)
+asked_more before after e b n same is h =
+    let a = ap (λ (l : List LoggedCommand). length (asked_in l)) same in
+    let c = ap length (asked_append before (e ∷ [])) in
+    let d = length-append (asked_in before) (asked_in (e ∷ [])) in
+    let f = asked_one e b is in
+    omega (arith, a, c, d, f, h)
 
-pub less_by_none : (most : Option ℕ) → less_by 0 most ≡ most
-less_by_none None = refl
-less_by_none (Some most) = ap Some (omega arith)
+abbrev one_if : Bool → ℕ
+one_if b = cond b 1 0
 
-less_by_more : (k : ℕ) (most : Option ℕ) → one_less (less_by k most) ≡ less_by (k + 1) most
-less_by_more k None = refl
-less_by_more k (Some most) = ap Some (omega arith)
+unexpected_one : (devices : Devices) (e : LoggedCommand) (again other : Bool) → e.again ≡ again → is_unexpected devices (e.success, e.words) ≡ other → length (unexpected_of devices (asked_in (e ∷ []))) ≡ cond (not again && other) 1 0
+unexpected_one devices e true other p q = rw p refl
+unexpected_one devices e false true p q = rw (p, q) refl
+unexpected_one devices e false false p q = rw (p, q) refl
 
-lt_by : (k most : ℕ) → nat_lt 0 (most - k) ≡ nat_lt k most
-lt_by zero most = ap (nat_lt 0) (omega arith)
-lt_by (suc k) zero = ap (nat_lt 0) (let e : 0 - suc k ≡ 0 = omega arith in e) ∙ sym (leb-suc-zero (suc k))
-lt_by (suc k) (suc most) = ap (nat_lt 0) (let e : suc most - suc k ≡ most - k = omega arith in e) ∙ lt_by k most ∙ sym (leb-suc-suc (suc k) most)
-
-allows_by : (k : ℕ) (most : Option ℕ) → allows (less_by k most) 0 ≡ allows most k
-allows_by k None = refl
-allows_by k (Some most) = lt_by k most
-
--- what is behind so many failures
-success_next : (most : Option ℕ) (b : ℕ) (digits : Text) → b ≡ 48 → has_success most (outcomes (b ∷ digits)) ≡ allows most 0
-success_next most b digits e = ap (λ (k : ℕ). has_success most (outcomes (k ∷ digits))) e
-
-failure_next : (most : Option ℕ) (b : ℕ) (digits : Text) → (b ≡ 48 → ⊥) → has_success most (outcomes (b ∷ digits)) ≡ has_success (one_less most) (outcomes digits)
-failure_next most b digits h = ap (λ (o : Outcome). has_success most (o ∷ outcomes digits)) (failure_of b h)
-
--- at a digit
-digit_at : (digits : Text) (k : ℕ) → k < length digits → drop k digits ≡ get_or digits k 0 ∷ drop (k + 1) digits
-digit_at digits k l = drop-cons digits k 0 l ∙ ap (λ (n : ℕ). get_or digits k 0 ∷ drop n digits) (let e : suc k ≡ k + 1 = omega arith in e)
-
-pub success_at : (most : Option ℕ) (digits : Text) (k : ℕ) → k < length digits → get_or digits k 0 ≡ 48 → has_success (less_by k most) (outcomes (drop k digits)) ≡ allows most k
-success_at most digits k l e =
-    ap (λ (t : Text). has_success (less_by k most) (outcomes t)) (digit_at digits k l) ∙ success_next (less_by k most) (get_or digits k 0) (drop (k + 1) digits) e ∙ allows_by k most
-
-pub failure_at : (most : Option ℕ) (digits : Text) (k : ℕ) → k < length digits → (get_or digits k 0 ≡ 48 → ⊥) → has_success (less_by k most) (outcomes (drop k digits)) ≡ has_success (less_by (k + 1) most) (outcomes (drop (k + 1) digits))
-failure_at most digits k l h =
-    ap (λ (t : Text). has_success (less_by k most) (outcomes t)) (digit_at digits k l)
-    ∙ failure_next (less_by k most) (get_or digits k 0) (drop (k + 1) digits) h
-    ∙ ap (λ (m : Option ℕ). has_success m (outcomes (drop (k + 1) digits))) (less_by_more k most)
+pub unexpected_more : (devices : Devices) (before after : List LoggedCommand) (e : LoggedCommand) (b : Bool) (n : ℕ) → after ≡ before ++ e ∷ [] → b ≡ (not e.again && is_unexpected devices (e.success, e.words)) → n ≡ length (unexpected_of devices (asked_in before)) → n + cond b 1 0 ≡ length (unexpected_of devices (asked_in after))
+unexpected_more devices before after e b n same is h =
+    let a = ap (λ (l : List LoggedCommand). length (unexpected_of devices (asked_in l))) same in
+    let c = ap (λ (l : List Answered). length (unexpected_of devices l)) (asked_append before (e ∷ [])) in
+    let d = ap length (filter-append (is_unexpected devices) (asked_in before) (asked_in (e ∷ []))) in
+    let f = length-append (unexpected_of devices (asked_in before)) (unexpected_of devices (asked_in (e ∷ []))) in
+    let g = unexpected_one devices e e.again (is_unexpected devices (e.success, e.words)) refl refl in
+    let i = ap one_if is in
+    omega (arith, a, c, d, f, g, i, h)

@@ -1,13 +1,15 @@
 -- A rehearsal and what is shown of it.
-use Rattle.std.proofs.Common.{◌≡◌, ◌≢◌, ◌↔◌, ◌≤◌, length, Bool, true, false, List, [], ◌∷◌, map, refl, sym, ap, subst, ◌∙◌, unwrap_or}
+use Rattle.std.specs.Prelude.{◌==◌}
+use Rattle.rehearse_terms.specs.Outcomes.{Failure}
+use Rattle.std.proofs.Common.{◌≡◌, ◌≢◌, ◌≤◌, length, Bool, true, false, not, List, [], ◌∷◌, ◌++◌, map, refl, sym, ap, subst, ◌∙◌, unwrap_or}
 use Rattle.bootstore_state.specs.Moment.{Moment}
 use Rattle.bootstore_state.specs.Record.{Record}
 use Rattle.bootstore_state.specs.declared.store.Store.{Ghosts}
 use Rattle.rehearse_terms.specs.Bounds.{most_run_devices}
-use Rattle.rehearse_terms.specs.Outcomes.{OutcomeWord, has_success}
+use Rattle.rehearse_terms.specs.Outcomes.{OutcomeWord}
 use Rattle.rehearse_terms.specs.State.{Text}
 use Rattle.bootstore_state.specs.StoredState.{state_at}
-use Rattle.rehearse_rules.specs.Runs.{Task, IsListed, rest, runs, run_on, state_of, ending_of}
+use Rattle.rehearse_rules.specs.Runs.{Task, IsListed, is_allowed, rest, runs, run_on, state_of, ending_of}
 use Rattle.rehearse_rules.specs.Listing.{outcome_digit}
 use Rattle.rehearse_runs.specs.RunsShown.{outcomes, given_if, to_come_after, has_words, successes}
 use Rattle.rehearse_runs.specs.Searching.{AreMarks}
@@ -18,9 +20,10 @@ use Rattle.rehearse_records.specs.RunViewShown.{shown_word, shown_moment, shown_
 use Rattle.rehearse_runs.specs.Giving.{ShowsRun}
 use Rattle.rehearse_rules.specs.declared.halt.Halt.{Halt}
 use Rattle.rehearse_runs.specs.declared.runs.Phase.{Phase}
-use Rattle.rehearse_runs.specs.declared.runs.Phase.TheVariants.{At}
+use Rattle.rehearse_runs.specs.declared.runs.Phase.TheVariants.{Fresh, At, Over}
 use Rattle.rehearse_records.specs.declared.run_view.RunView.{RunView}
-use Rattle.rehearse_rules.proofs.TaskChoices.{another_follows, runs_are_there}
+use Rattle.rehearse_rules.proofs.TaskChoices.{task_ends, task_goes_on, runs_are_there}
+use Rattle.rehearse_runs.proofs.SearchLemmas.{some_there}
 
 -- the run in a store is the one that is shown
 pub stood : {S : Type 0} (g : Ghosts S) (task : Task) (digits : Text) (has : Bool) (r : Record) (phase : Phase) (halt : Halt) (v : RunView S)
@@ -40,22 +43,29 @@ stood g task digits has r phase halt v e d s sw se sm ss run bound =
       },
     )
 
-pick : (ws : List OutcomeWord) (b : Bool) → (ws ≢ []) ↔ (b ≡ true) → b ≡ has_words ws
-pick [] true i = absurd (i.1 refl refl)
-pick [] false i = refl
-pick (w ∷ ws) true i = refl
-pick (w ∷ ws) false i = i.0 (λ e. cc)
+-- a word is followed exactly if something is marked
+more_marked : (task : Task) (w : OutcomeWord) (ms : List Moment) → IsListed task w → AreMarks task w ms → not (length ms == 0) ≡ has_words (rest task w)
+more_marked task w [] is h = sym (ap has_words (task_ends task w is h))
+more_marked task w (m ∷ ms) is h = some_there (length ms) ∙ sym (ap has_words (task_goes_on task w (h.0 ++ Failure ∷ []) is h.1))
 
--- a word is followed exactly if it has a success that may fail
-pub more_behind : (task : Task) (has : Bool) (w : OutcomeWord) → has ≡ true → IsRunIf has task w → has_success task.failures w ≡ has_words (to_come_after has task w)
-more_behind task true w e r = pick (rest task w) (has_success task.failures w) (another_follows task w r)
-more_behind task false w e r = absurd cc
+pub more_behind : (task : Task) (has : Bool) (w : OutcomeWord) (r : Record) (phase : Phase) (halt : Halt) → phase ≡ At halt → IsRunIf has task w → StandsAt task has w r phase → not (length r.marked == 0) ≡ has_words (to_come_after has task w)
+more_behind task has w r phase halt e is s =
+    let h : StandsAt task has w r (At halt) = subst (λ (p : Phase). StandsAt task has w r p) e s in
+    let run : IsListed task w = subst (λ (b : Bool). IsRunIf b task w) h.0 is in
+    more_marked task w r.marked run h.1.marks ∙ ap (λ (b : Bool). has_words (to_come_after b task w)) (sym h.0)
+
+-- none follows the last one
+pub none_behind : (task : Task) (has : Bool) (w : OutcomeWord) (r : Record) (phase : Phase) → phase ≡ Over → StandsAt task has w r phase → false ≡ has_words (to_come_after has task w)
+none_behind task has w r phase e s =
+    let h : StandsAt task has w r Over = subst (λ (p : Phase). StandsAt task has w r p) e s in
+    sym (ap has_words h.1) ∙ ap (λ (b : Bool). has_words (to_come_after b task w)) (sym h.0)
 
 some_words : (ws : List OutcomeWord) → ws ≢ [] → true ≡ has_words ws
 some_words [] h = absurd (h refl)
 some_words (w ∷ ws) h = refl
 
 -- and there is a run
-pub more_at_first : (task : Task) (has : Bool) (w : OutcomeWord) → has ≡ false → true ≡ has_words (to_come_after has task w)
-more_at_first task true w e = absurd cc
-more_at_first task false w e = some_words (runs task) (runs_are_there task)
+pub more_at_first : (task : Task) (has : Bool) (w : OutcomeWord) (r : Record) (phase : Phase) → phase ≡ Fresh → StandsAt task has w r phase → true ≡ has_words (to_come_after has task w)
+more_at_first task has w r phase e s =
+    let h : StandsAt task has w r Fresh = subst (λ (p : Phase). StandsAt task has w r p) e s in
+    some_words (runs task) (runs_are_there task) ∙ ap (λ (b : Bool). has_words (to_come_after b task w)) (sym h.0)

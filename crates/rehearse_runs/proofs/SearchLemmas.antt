@@ -1,77 +1,87 @@
 -- The search for the next run, over the words of runs.
-use Rattle.std.proofs.Common.{◌≡◌, ℕ, zero, suc, ◌+◌, ◌-◌, cond, ◌<◌, ◌≤◌, Bool, true, false, List, [], ◌∷◌, ◌++◌, length, map, Option, Some, None, option_map, pred, refl, sym, ap, subst, ◌∙◌, append_assoc, append-nil, arith, Result, Ok, Err}
+use Rattle.std.proofs.Common.{◌≡◌, ℕ, zero, suc, ◌+◌, ◌-◌, cond, ◌<◌, ◌≤◌, Bool, true, false, List, [], ◌∷◌, ◌++◌, length, map, Option, Some, None, option_map, pred, refl, sym, ap, subst, ◌∙◌, append_assoc, append-nil, arith, Result, Ok, Err, not, ◌&&◌, take, length-append}
 use Rattle.bootstore_state.specs.Moment.{Moment}
 use Rattle.rehearse_terms.specs.Bounds.{most_steps}
-use Rattle.rehearse_terms.specs.Outcomes.{OutcomeWord, Outcome, Success, Failure, WordKind, Run, Short, Long, failures, allows, one_less, turned, beyond, first_run, first_from, common_prefix}
+use Rattle.rehearse_terms.specs.Outcomes.{OutcomeWord, Outcome, Success, Failure, WordKind, Run, Short, Long, beyond, common_prefix}
 use Rattle.rehearse_terms.specs.State.{Text, State}
 use Rattle.bootstore_state.specs.StoredState.{state_at}
 use Rattle.rehearse_rules.specs.Execution.{Answer, Normal, Exit, Ended, Dry, Ending}
-use Rattle.rehearse_rules.specs.Runs.{Task, run_on, kind, kind_of, taken_kind, state_of, ending_of, runs, IsListed, rest, asked}
-use Rattle.std.proofs.Math.Dec.{leb-suc-zero, leb-suc-suc}
-use Rattle.std.proofs.lemmas.Bool.{ne_eqb}
+use Rattle.rehearse_rules.specs.Choosing.{allowed_beyond, first_outcome, first_run, first_from, turned}
+use Rattle.rehearse_rules.specs.Expected.{asked_in, unexpected_of}
+use Rattle.rehearse_rules.specs.Laws.{IsExpected}
+use Rattle.rehearse_rules.specs.Runs.{Task, run_on, kind, kind_of, taken_kind, state_of, ending_of, runs, unexpected, is_at_most, is_allowed, IsListed, rest, asked}
 use Rattle.rehearse_rules.specs.Listing.{outcome_digit}
 use Rattle.rehearse_runs.specs.RunsShown.{outcomes, outcome_of}
 use Rattle.rehearse_rules.specs.EndingsShown.{halt_shown}
 use Rattle.rehearse_runs.specs.Phases.{AreDigits}
 use Rattle.rehearse_machine.specs.Came.{Came, Over, Wants, settled}
 use Rattle.rehearse_machine.specs.Machine.{Stops, asked_at, outcome_when}
-use Rattle.std.specs.Prelude.{IfOk, nat_lt}
-use Rattle.std.proofs.lemmas.Option.{same_Some}
+use Rattle.std.specs.Prelude.{◌==◌, IfOk}
+use Rattle.std.proofs.Math.Seq.{take-append_seam}
+use Rattle.std.proofs.lemmas.List.{take-map}
 use Rattle.bootstore_state.specs.Record.{Record, gone_back, returned}
 use Rattle.bootstore_state.specs.declared.store.StoreError.{StoreError}
 use Rattle.rehearse_rules.specs.declared.halt.Halt.{Halt}
-use Rattle.rehearse_runs.specs.Searching.{AreMarks, MarksIf, Found, FoundFirst, FoundBehind, may_fail}
+use Rattle.rehearse_runs.specs.Searching.{AreMarks, MarksIf, Found, FoundFirst, FoundBehind, FoundNext, counted}
 use Rattle.rehearse_machine.specs.StoppedTexts.{StoppedAt}
 use Rattle.rehearse_machine.specs.declared.rehearsal.Stop.{Stop}
 use Rattle.rehearse_machine.specs.declared.rehearsal.Stop.TheVariants.{Asks, Ends}
 use Rattle.rehearse_machine.proofs.StoppedTextLemmas.{dry_there, asked_within, asked_kind, stopped_on}
-use Rattle.rehearse_rules.proofs.TaskChoices.{no_run_is_longer, task_begins, task_goes_on}
+use Rattle.rehearse_machine.specs.Expecting.{Expects, StillAsks}
+use Rattle.rehearse_machine.proofs.ExpectedLemmas.{expected_there}
+use Rattle.rehearse_rules.proofs.ChoiceTreeLemmas.{Test}
+use Rattle.rehearse_rules.proofs.UnexpectedAnswers.{asked_many, unexpected_within, none_unexpected}
+use Rattle.rehearse_rules.proofs.TaskChoices.{no_run_is_longer, task_begins, task_goes_on, task_ends}
 
--- after a failure one less may fail
-lt_less : (k most : ℕ) → nat_lt (suc k) most ≡ nat_lt k (most - 1)
-lt_less k zero = leb-suc-zero (suc k) ∙ sym (leb-suc-zero k)
-lt_less k (suc most) = let e : suc most - 1 ≡ most = omega arith in leb-suc-suc (suc k) most ∙ ap (nat_lt k) (sym e)
+pub turned_by_success : (allowed : Test) (p : OutcomeWord) → allowed (p ++ Failure ∷ []) ≡ true → turned allowed (p ++ Success ∷ []) ≡ Some (p ++ Failure ∷ [])
+turned_by_success allowed [] h = ap (λ (b : Bool). cond b (Some (Failure ∷ [])) None) h
+turned_by_success allowed (Success ∷ p) h = let e = turned_by_success (allowed_beyond Success allowed) p h in rw e refl
+turned_by_success allowed (Failure ∷ p) h = ap (option_map (λ v. Failure ∷ v)) (turned_by_success (allowed_beyond Failure allowed) p h)
 
-allows_less : (most : Option ℕ) (k : ℕ) → allows most (suc k) ≡ allows (one_less most) k
-allows_less None k = refl
-allows_less (Some most) k = lt_less k most
+-- a success that may be no failure
+pub turned_stays : (allowed : Test) (p : OutcomeWord) → allowed (p ++ Failure ∷ []) ≡ false → turned allowed (p ++ Success ∷ []) ≡ turned allowed p
+turned_stays allowed [] h = ap (λ (b : Bool). cond b (Some (Failure ∷ [])) None) h
+turned_stays allowed (Success ∷ p) h = let e = turned_stays (allowed_beyond Success allowed) p h in rw e refl
+turned_stays allowed (Failure ∷ p) h = ap (option_map (λ v. Failure ∷ v)) (turned_stays (allowed_beyond Failure allowed) p h)
 
-pub turned_by_success : (most : Option ℕ) (p : OutcomeWord) → allows most (failures p) ≡ true → turned most (p ++ Success ∷ []) ≡ Some (p ++ Failure ∷ [])
-turned_by_success most [] h = ap (λ (b : Bool). cond b (Some (Failure ∷ [])) None) h
-turned_by_success most (Success ∷ p) h = let e = turned_by_success most p h in rw e refl
-turned_by_success most (Failure ∷ p) h = let e = turned_by_success (one_less most) p (sym (allows_less most (failures p)) ∙ h) in rw e refl
-
--- a success that may not fail
-pub turned_stays : (most : Option ℕ) (p : OutcomeWord) → allows most (failures p) ≡ false → turned most (p ++ Success ∷ []) ≡ turned most p
-turned_stays most [] h = ap (λ (b : Bool). cond b (Some (Failure ∷ [])) None) h
-turned_stays most (Success ∷ p) h = let e = turned_stays most p h in rw e refl
-turned_stays most (Failure ∷ p) h = ap (option_map (λ v. Failure ∷ v)) (turned_stays (one_less most) p (sym (allows_less most (failures p)) ∙ h))
-
-pub turned_by_failure : (most : Option ℕ) (p : OutcomeWord) → turned most (p ++ Failure ∷ []) ≡ turned most p
-turned_by_failure most [] = refl
-turned_by_failure most (Success ∷ p) = let e = turned_by_failure most p in rw e refl
-turned_by_failure most (Failure ∷ p) = ap (option_map (λ v. Failure ∷ v)) (turned_by_failure (one_less most) p)
+pub turned_by_failure : (allowed : Test) (p : OutcomeWord) → turned allowed (p ++ Failure ∷ []) ≡ turned allowed p
+turned_by_failure allowed [] = refl
+turned_by_failure allowed (Success ∷ p) = let e = turned_by_failure (allowed_beyond Success allowed) p in rw e refl
+turned_by_failure allowed (Failure ∷ p) = ap (option_map (λ v. Failure ∷ v)) (turned_by_failure (allowed_beyond Failure allowed) p)
 
 abbrev first_pick : WordKind → OutcomeWord → OutcomeWord
 first_pick k w = elim k [ Run ↦ [] | Long ↦ [] | Short ↦ w ]
 
--- a device command asks after p
-pub first_from_asked : (kinds : OutcomeWord → WordKind) (n : ℕ) (p : OutcomeWord) → length p < n → kinds p ≡ Short → first_from kinds n p ≡ first_from kinds n (p ++ Success ∷ [])
-first_from_asked kinds zero p h k = absurd (omega arith)
-first_from_asked kinds (suc n) [] h k = ap (λ (t : WordKind). first_pick t (Success ∷ first_run (beyond Success kinds) n)) k
-first_from_asked kinds (suc n) (d ∷ p) h k = ap (λ (w : OutcomeWord). d ∷ w) (first_from_asked (beyond d kinds) n p (omega arith) k)
+-- after an outcome
+abbrev first_behind : Test → (OutcomeWord → WordKind) → ℕ → Outcome → OutcomeWord
+first_behind allowed kinds n d = d ∷ first_run (allowed_beyond d allowed) (beyond d kinds) n
+
+-- a device command asks after p, and this is its first outcome that is allowed
+pub first_from_asked : (allowed : Test) (kinds : OutcomeWord → WordKind) (n : ℕ) (p : OutcomeWord) (d : Outcome) → length p < n → kinds p ≡ Short → cond (allowed (p ++ Success ∷ [])) Success Failure ≡ d → first_from allowed kinds n p ≡ first_from allowed kinds n (p ++ d ∷ [])
+first_from_asked allowed kinds zero p d h k e = absurd (omega arith)
+first_from_asked allowed kinds (suc n) [] d h k e = ap (λ (t : WordKind). first_pick t (first_behind allowed kinds n (first_outcome allowed))) k ∙ ap (first_behind allowed kinds n) e
+first_from_asked allowed kinds (suc n) (c ∷ p) d h k e = ap (λ (w : OutcomeWord). c ∷ w) (first_from_asked (allowed_beyond c allowed) (beyond c kinds) n p d (omega arith) k e)
 
 -- the run ends
-pub first_from_run : (kinds : OutcomeWord → WordKind) (n : ℕ) (p : OutcomeWord) → length p ≤ n → kinds p ≡ Run → first_from kinds n p ≡ p
-first_from_run kinds zero [] h k = refl
-first_from_run kinds (suc n) [] h k = ap (λ (t : WordKind). first_pick t (Success ∷ first_run (beyond Success kinds) n)) k
-first_from_run kinds zero (d ∷ p) h k = absurd (omega arith)
-first_from_run kinds (suc n) (d ∷ p) h k = ap (λ (w : OutcomeWord). d ∷ w) (first_from_run (beyond d kinds) n p (omega arith) k)
+pub first_from_run : (allowed : Test) (kinds : OutcomeWord → WordKind) (n : ℕ) (p : OutcomeWord) → length p ≤ n → kinds p ≡ Run → first_from allowed kinds n p ≡ p
+first_from_run allowed kinds zero [] h k = refl
+first_from_run allowed kinds (suc n) [] h k = ap (λ (t : WordKind). first_pick t (first_behind allowed kinds n (first_outcome allowed))) k
+first_from_run allowed kinds zero (d ∷ p) h k = absurd (omega arith)
+first_from_run allowed kinds (suc n) (d ∷ p) h k = ap (λ (w : OutcomeWord). d ∷ w) (first_from_run (allowed_beyond d allowed) (beyond d kinds) n p (omega arith) k)
 
--- with one more success
-pub outcomes_success : (digits : Text) → outcomes (digits ++ 48 ∷ []) ≡ outcomes digits ++ Success ∷ []
-outcomes_success [] = refl
-outcomes_success (b ∷ digits) = ap (λ (w : OutcomeWord). outcomes (b ∷ []) ++ w) (outcomes_success digits)
+-- ---- digits
+
+pub read_digit : (d : Outcome) → outcome_of (outcome_digit d) ≡ d
+read_digit Success = refl
+read_digit Failure = refl
+
+pub outcomes_more : (digits : Text) (b : ℕ) → outcomes (digits ++ b ∷ []) ≡ outcomes digits ++ outcome_of b ∷ []
+outcomes_more [] b = refl
+outcomes_more (d ∷ digits) b = ap (λ (w : OutcomeWord). outcome_of d ∷ w) (outcomes_more digits b)
+
+-- with one more outcome
+pub outcomes_on : (digits digits' : Text) (d : Outcome) → digits' ≡ digits ++ outcome_digit d ∷ [] → outcomes digits' ≡ outcomes digits ++ d ∷ []
+outcomes_on digits digits' d e = ap outcomes e ∙ outcomes_more digits (outcome_digit d) ∙ ap (λ (x : Outcome). outcomes digits ++ x ∷ []) (read_digit d)
 
 pub outcomes_length : (digits : Text) → length (outcomes digits) ≡ length digits
 outcomes_length [] = refl
@@ -81,8 +91,9 @@ map_digits : (v w : OutcomeWord) → map outcome_digit (v ++ w) ≡ map outcome_
 map_digits [] w = refl
 map_digits (d ∷ v) w = ap (λ (t : Text). outcome_digit d ∷ t) (map_digits v w)
 
-pub digits_success : (digits : Text) → AreDigits digits → AreDigits (digits ++ 48 ∷ [])
-digits_success digits h = ap (map outcome_digit) (outcomes_success digits) ∙ map_digits (outcomes digits) (Success ∷ []) ∙ ap (λ (t : Text). t ++ 48 ∷ []) h
+pub digits_on : (digits digits' : Text) (d : Outcome) → digits' ≡ digits ++ outcome_digit d ∷ [] → AreDigits digits → AreDigits digits'
+digits_on digits digits' d e h =
+    ap (map outcome_digit) (outcomes_on digits digits' d e) ∙ map_digits (outcomes digits) (d ∷ []) ∙ ap (λ (t : Text). t ++ outcome_digit d ∷ []) h ∙ sym e
 
 -- an answer that ends the run with this ending, in this state
 record IsAnswer (ending : Ending) (s : State) (a : Answer) : Type 0 where
@@ -106,15 +117,20 @@ is_over (Ended other t) ending s e = let f : t ≡ s = ap (λ c. over_state c s)
 is_over (Dry t) ending s e = absurd (let f = e in cc)
 
 -- the marks of a word are those of another that is turned into the same
-marked_same : (task : Task) (u p : OutcomeWord) (ms : List Moment) → turned task.failures u ≡ turned task.failures p → AreMarks task p ms → AreMarks task u ms
+marked_same : (task : Task) (u p : OutcomeWord) (ms : List Moment) → turned (is_allowed task) u ≡ turned (is_allowed task) p → AreMarks task p ms → AreMarks task u ms
 marked_same task u p [] e h = e ∙ h
 marked_same task u p (m ∷ ms) e h = (h.0, e ∙ h.1, h.2, h.3)
 
--- the marks after a success
-marked_success : (may : Bool) (task : Task) (p : OutcomeWord) (old new : Record) → may ≡ may_fail task p → MarksIf may old new → StoppedAt task p Asks old.present → AreMarks task p old.marked → AreMarks task (p ++ Success ∷ []) new.marked
-marked_success true task p old new e m h k = subst (λ (x : Record). AreMarks task (p ++ Success ∷ []) x.marked) (sym m) (p, turned_by_success task.failures p (sym e), h, k)
-marked_success false task p old new e m h k =
-    subst (λ (x : Record). AreMarks task (p ++ Success ∷ []) x.marked) (sym m) (marked_same task (p ++ Success ∷ []) p old.marked (turned_stays task.failures p (sym e)) k)
+pub marked_failure : (task : Task) (p : OutcomeWord) (ms : List Moment) → AreMarks task p ms → AreMarks task (p ++ Failure ∷ []) ms
+marked_failure task p ms h = marked_same task (p ++ Failure ∷ []) p ms (turned_by_failure (is_allowed task) p) h
+
+-- the marks after an outcome, if a success is marked just if it may be a failure
+marked_on : (success may : Bool) (task : Task) (p : OutcomeWord) (old new : Record) → may ≡ (success && is_allowed task (p ++ Failure ∷ [])) → MarksIf may old new → StoppedAt task p Asks old.present → AreMarks task p old.marked → AreMarks task (p ++ outcome_when success ∷ []) new.marked
+marked_on true true task p old new e m h k = subst (λ (x : Record). AreMarks task (p ++ Success ∷ []) x.marked) (sym m) (p, turned_by_success (is_allowed task) p (sym e), h, k)
+marked_on true false task p old new e m h k =
+    subst (λ (x : Record). AreMarks task (p ++ Success ∷ []) x.marked) (sym m) (marked_same task (p ++ Success ∷ []) p old.marked (turned_stays (is_allowed task) p (sym e)) k)
+marked_on false true task p old new e m h k = absurd (let f = e in cc)
+marked_on false false task p old new e m h k = subst (λ (x : Record). AreMarks task (p ++ Failure ∷ []) x.marked) (sym m) (marked_failure task p old.marked k)
 
 -- a mark changes nothing else
 pub marks_keep : (may : Bool) (old new : Record) → MarksIf may old new → (new.present ≡ old.present) × (new.begun ≡ old.begun)
@@ -132,67 +148,88 @@ found_end task p halt r h k n =
       moment = sym a.state_is;
       ending = sym a.ending_is;
       marks = k;
-      first = first_from_run (kind task) task.limits.device_bound p (no_run_is_longer task p a.kind_is) a.kind_is;
+      first = first_from_run (is_allowed task) (kind task) task.limits.device_bound p (no_run_is_longer task p a.kind_is) a.kind_is;
       begun = refl;
       within = n;
       grows = omega arith;
     }
 
 -- a device command asked, and the search went on with its success
-found_more : (task : Task) (p q w : OutcomeWord) (halt : Halt) (r₀ r₁ r₂ : Record) → Found task q w halt r₁ r₂ → first_from (kind task) task.limits.device_bound p ≡ first_from (kind task) task.limits.device_bound q
+found_more : (task : Task) (p q w : OutcomeWord) (halt : Halt) (r₀ r₁ r₂ : Record) → Found task q w halt r₁ r₂ → first_from (is_allowed task) (kind task) task.limits.device_bound p ≡ first_from (is_allowed task) (kind task) task.limits.device_bound q
     → r₁.begun + r₀.present.steps ≡ r₀.begun + r₁.present.steps → r₀.present.steps ≤ r₁.present.steps → Found task p w halt r₀ r₂
 found_more task p q w halt r₀ r₁ r₂ f e b l =
     let c = f.begun in
     let k = f.grows in
     record { run = f.run; moment = f.moment; ending = f.ending; marks = f.marks; first = e ∙ f.first; begun = omega arith; within = f.within; grows = omega arith }
 
-pub all_more : (result : Result Halt StoreError) (task : Task) (p q w : OutcomeWord) (r₀ r₁ r₂ : Record) → first_from (kind task) task.limits.device_bound p ≡ first_from (kind task) task.limits.device_bound q
+pub all_more : (result : Result Halt StoreError) (task : Task) (p q w : OutcomeWord) (r₀ r₁ r₂ : Record) → first_from (is_allowed task) (kind task) task.limits.device_bound p ≡ first_from (is_allowed task) (kind task) task.limits.device_bound q
     → r₁.begun + r₀.present.steps ≡ r₀.begun + r₁.present.steps → r₀.present.steps ≤ r₁.present.steps → IfOk result (λ halt. Found task q w halt r₁ r₂) → IfOk result (λ halt. Found task p w halt r₀ r₂)
 all_more (Ok halt) task p q w r₀ r₁ r₂ e b l f = found_more task p q w halt r₀ r₁ r₂ f e b l
 all_more (Err x) task p q w r₀ r₁ r₂ e b l f = f
 
+-- ---- an outcome is given
+
 -- what is known when a device command asks
-pub record Asked (task : Task) (digits : Text) (stop : Stop) (m : Moment) : Type 0 where
+pub record Asked (task : Task) (digits : Text) (m : Moment) : Type 0 where
   pub asks : StoppedAt task (outcomes digits) Asks m
+  pub short : kind task (outcomes digits) ≡ Short
   pub room : length digits < task.limits.device_bound
-  pub first : first_from (kind task) task.limits.device_bound (outcomes digits) ≡ first_from (kind task) task.limits.device_bound (outcomes (digits ++ 48 ∷ []))
+  pub few : unexpected task (outcomes digits) ≤ length digits
 
-pub asked_here : (task : Task) (digits : Text) (stop : Stop) (m : Moment) → stop ≡ Asks → StoppedAt task (outcomes digits) stop m → Asked task digits stop m
-asked_here task digits stop m e h =
-    let p = outcomes digits in
-    let a : StoppedAt task p Asks m = subst (λ (s : Stop). StoppedAt task p s m) e h in
-    let k = asked_within task p m a in
+pub asked_now : (task : Task) (digits : Text) (m : Moment) → StoppedAt task (outcomes digits) Asks m → Asked task digits m
+asked_now task digits m h =
+    let k = asked_within task (outcomes digits) m h in
     let l = outcomes_length digits in
-    record {
-      asks = a;
-      room = omega arith;
-      first = first_from_asked (kind task) task.limits.device_bound p k (asked_kind task p m a) ∙ ap (first_from (kind task) task.limits.device_bound) (sym (outcomes_success digits));
-    }
+    let short = asked_kind task (outcomes digits) m h in
+    record { asks = h; short = short; room = omega arith; few = let f = unexpected_within task (outcomes digits) short in omega (arith, f, l) }
 
--- where the search goes on
-pub goes_on : (may : Bool) (task : Task) (digits : Text) (stop next : Stop) (r₀ r r₁ : Record) (digits' : Text) → Asked task digits stop r₀.present → MarksIf may r₀ r → digits' ≡ digits ++ 48 ∷ []
-    → Stops task.limits next (λ w. asked_at task.limits r.present (outcome_when true ∷ w)) r₁.present → StoppedAt task (outcomes digits') next r₁.present
-goes_on may task digits stop next r₀ r r₁ digits' a e d k =
-    let k' : Stops task.limits next (λ w. asked_at task.limits r₀.present (Success ∷ w)) r₁.present = subst (λ (m : Moment). Stops task.limits next (λ w. asked_at task.limits m (Success ∷ w)) r₁.present) (marks_keep may r₀ r e).0 k in
-    subst (λ (p : OutcomeWord). StoppedAt task p next r₁.present) (sym (ap outcomes d ∙ outcomes_success digits)) (stopped_on task (outcomes digits) r₀.present r₁.present Success next a.asks k')
+pub asked_here : (task : Task) (digits : Text) (stop : Stop) (m : Moment) → stop ≡ Asks → StoppedAt task (outcomes digits) stop m → StoppedAt task (outcomes digits) Asks m
+asked_here task digits stop m e h = subst (λ (s : Stop). StoppedAt task (outcomes digits) s m) e h
 
-pub marks_go_on : (may : Bool) (task : Task) (digits : Text) (stop : Stop) (r₀ r r₁ : Record) (digits' : Text) → Asked task digits stop r₀.present → may ≡ may_fail task (outcomes digits) → MarksIf may r₀ r → digits' ≡ digits ++ 48 ∷ []
+-- how many answers are unexpected after it
+counted_both : (task : Task) (p : OutcomeWord) (expected success : Bool) → IsExpected task p (outcome_when expected) (outcome_when (not expected)) → unexpected task (p ++ outcome_when success ∷ []) ≡ counted (unexpected task p) expected success
+counted_both task p true true h = h.0
+counted_both task p true false h = h.1
+counted_both task p false true h = h.1
+counted_both task p false false h = h.0
+
+pub counted_there : (task : Task) (digits : Text) (m : Moment) (expected success : Bool) (count : ℕ) → StoppedAt task (outcomes digits) Asks m → Expects task.limits m expected → count ≡ unexpected task (outcomes digits) → counted count expected success ≡ unexpected task (outcomes digits ++ outcome_when success ∷ [])
+counted_there task digits m expected success count h e n =
+    ap (λ (k : ℕ). counted k expected success) n ∙ sym (counted_both task (outcomes digits) expected success (expected_there task (outcomes digits) m expected h e))
+
+pub counted_on : (task : Task) (digits digits' : Text) (m : Moment) (expected success : Bool) (count : ℕ) → StoppedAt task (outcomes digits) Asks m → Expects task.limits m expected → count ≡ unexpected task (outcomes digits) → digits' ≡ digits ++ outcome_digit (outcome_when success) ∷ [] → counted count expected success ≡ unexpected task (outcomes digits')
+counted_on task digits digits' m expected success count h e n d =
+    counted_there task digits m expected success count h e n ∙ ap (unexpected task) (sym (outcomes_on digits digits' (outcome_when success) d))
+
+-- whether an outcome is allowed
+pub allowed_there : (task : Task) (digits : Text) (m : Moment) (expected success : Bool) (count : ℕ) (most : Option ℕ) → StoppedAt task (outcomes digits) Asks m → Expects task.limits m expected → count ≡ unexpected task (outcomes digits) → most ≡ task.failures → is_at_most most (counted count expected success) ≡ is_allowed task (outcomes digits ++ outcome_when success ∷ [])
+allowed_there task digits m expected success count most h e n is = λ i. is_at_most (is i) (counted_there task digits m expected success count h e n i)
+
+-- where the text stops then
+pub goes_on : (may success : Bool) (task : Task) (digits digits' : Text) (next : Stop) (r₀ r r₁ : Record) → StoppedAt task (outcomes digits) Asks r₀.present → MarksIf may r₀ r → digits' ≡ digits ++ outcome_digit (outcome_when success) ∷ []
+    → Stops task.limits next (λ w. asked_at task.limits r.present (outcome_when success ∷ w)) r₁.present → StoppedAt task (outcomes digits') next r₁.present
+goes_on may success task digits digits' next r₀ r r₁ h m d k =
+    let k' : Stops task.limits next (λ w. asked_at task.limits r₀.present (outcome_when success ∷ w)) r₁.present = subst (λ (n : Moment). Stops task.limits next (λ w. asked_at task.limits n (outcome_when success ∷ w)) r₁.present) (marks_keep may r₀ r m).0 k in
+    subst (λ (p : OutcomeWord). StoppedAt task p next r₁.present) (sym (outcomes_on digits digits' (outcome_when success) d)) (stopped_on task (outcomes digits) r₀.present r₁.present (outcome_when success) next h k')
+
+pub marks_go_on : (may success : Bool) (task : Task) (digits digits' : Text) (r₀ r r₁ : Record) → StoppedAt task (outcomes digits) Asks r₀.present → may ≡ (success && is_allowed task (outcomes digits ++ Failure ∷ [])) → MarksIf may r₀ r → digits' ≡ digits ++ outcome_digit (outcome_when success) ∷ []
     → r₁.marked ≡ r.marked → AreMarks task (outcomes digits) r₀.marked → AreMarks task (outcomes digits') r₁.marked
-marks_go_on may task digits stop r₀ r r₁ digits' a is e d m k =
-    let all : AreMarks task (outcomes digits ++ Success ∷ []) r.marked = marked_success may task (outcomes digits) r₀ r is e a.asks k in
-    subst (λ (p : OutcomeWord). AreMarks task p r₁.marked) (sym (ap outcomes d ∙ outcomes_success digits)) (subst (λ (xs : List Moment). AreMarks task (outcomes digits ++ Success ∷ []) xs) (sym m) all)
+marks_go_on may success task digits digits' r₀ r r₁ h is e d m k =
+    let all : AreMarks task (outcomes digits ++ outcome_when success ∷ []) r.marked = marked_on success may task (outcomes digits) r₀ r is e h k in
+    subst (λ (p : OutcomeWord). AreMarks task p r₁.marked) (sym (outcomes_on digits digits' (outcome_when success) d)) (subst (λ (xs : List Moment). AreMarks task (outcomes digits ++ outcome_when success ∷ []) xs) (sym m) all)
 
--- a success more
-failures_success : (p : OutcomeWord) → failures (p ++ Success ∷ []) ≡ failures p
-failures_success [] = refl
-failures_success (Success ∷ p) = failures_success p
-failures_success (Failure ∷ p) = ap suc (failures_success p)
+-- the first outcome that is allowed
+cond_is : (b : Bool) → cond b Success Failure ≡ outcome_when b
+cond_is true = refl
+cond_is false = refl
 
-pub may_fail_on : (may : Bool) (task : Task) (digits digits' : Text) → may ≡ may_fail task (outcomes digits) → digits' ≡ digits ++ 48 ∷ [] → may ≡ may_fail task (outcomes digits')
-may_fail_on may task digits digits' e d = e ∙ ap (allows task.failures) (sym (ap (λ (t : Text). failures (outcomes t)) d ∙ ap failures (outcomes_success digits) ∙ failures_success (outcomes digits)))
-
-pub digits_go_on : (digits digits' : Text) → digits' ≡ digits ++ 48 ∷ [] → AreDigits digits → AreDigits digits'
-digits_go_on digits digits' d h = subst AreDigits (sym d) (digits_success digits h)
+pub first_goes_on : (task : Task) (digits digits' : Text) (m : Moment) (success : Bool) → Asked task digits m → success ≡ is_allowed task (outcomes digits ++ Success ∷ []) → digits' ≡ digits ++ outcome_digit (outcome_when success) ∷ []
+    → first_from (is_allowed task) (kind task) task.limits.device_bound (outcomes digits) ≡ first_from (is_allowed task) (kind task) task.limits.device_bound (outcomes digits')
+first_goes_on task digits digits' m success a e d =
+    let l = outcomes_length digits in
+    let k = a.room in
+    first_from_asked (is_allowed task) (kind task) task.limits.device_bound (outcomes digits) (outcome_when success) (omega (arith, l, k)) a.short (ap (λ (b : Bool). cond b Success Failure) (sym e) ∙ cond_is success)
+    ∙ ap (first_from (is_allowed task) (kind task) task.limits.device_bound) (sym (outcomes_on digits digits' (outcome_when success) d))
 
 -- ---- the first run
 
@@ -210,88 +247,6 @@ first_found (Ok halt) task w r₀ r₁ r₂ b f =
     }
 first_found (Err e) task w r₀ r₁ r₂ b f = f
 
--- ---- words that are cut
-
-front_digits : (digits : Text) (b : ℕ) → AreDigits (digits ++ b ∷ []) → AreDigits digits
-front_digits [] b h = refl
-front_digits (d ∷ digits) b h = let e = h in let f : map outcome_digit (outcomes (digits ++ b ∷ [])) ≡ digits ++ b ∷ [] = cc in let g : outcome_digit (outcome_of d) ≡ d = cc in let i = front_digits digits b f in cc
-
-pub cut_digits : (all digits : Text) (b : ℕ) → all ≡ digits ++ b ∷ [] → AreDigits all → AreDigits digits
-cut_digits all digits b e h = front_digits digits b (subst AreDigits e h)
-
-pub outcomes_more : (digits : Text) (b : ℕ) → outcomes (digits ++ b ∷ []) ≡ outcomes digits ++ outcome_of b ∷ []
-outcomes_more [] b = refl
-outcomes_more (d ∷ digits) b = ap (λ (w : OutcomeWord). outcome_of d ∷ w) (outcomes_more digits b)
-
-pub failure_of : (b : ℕ) → (b ≡ 48 → ⊥) → outcome_of b ≡ Failure
-failure_of b h = ap (λ (t : Bool). elim t [ true ↦ Success | false ↦ Failure ]) (ne_eqb b 48 h)
-
--- the digit that is dropped was a failure
-pub dropped : (most : Option ℕ) (all digits : Text) (b : ℕ) → all ≡ digits ++ b ∷ [] → (b ≡ 48 → ⊥) → turned most (outcomes digits) ≡ turned most (outcomes all)
-dropped most all digits b e h = sym (ap (λ (t : Text). turned most (outcomes t)) e ∙ ap (turned most) (outcomes_more digits b ∙ ap (λ (o : Outcome). outcomes digits ++ o ∷ []) (failure_of b h)) ∙ turned_by_failure most (outcomes digits))
-
-failures_behind : (p : OutcomeWord) → failures (p ++ Failure ∷ []) ≡ suc (failures p)
-failures_behind [] = refl
-failures_behind (Success ∷ p) = failures_behind p
-failures_behind (Failure ∷ p) = ap suc (failures_behind p)
-
-pub dropped_failures : (all digits : Text) (b : ℕ) → all ≡ digits ++ b ∷ [] → (b ≡ 48 → ⊥) → failures (outcomes all) ≡ suc (failures (outcomes digits))
-dropped_failures all digits b e h = ap (λ (t : Text). failures (outcomes t)) e ∙ ap failures (outcomes_more digits b ∙ ap (λ (o : Outcome). outcomes digits ++ o ∷ []) (failure_of b h)) ∙ failures_behind (outcomes digits)
-
--- it was a success
-with_success : (all digits : Text) (b : ℕ) → all ≡ digits ++ b ∷ [] → b ≡ 48 → outcomes all ≡ outcomes digits ++ Success ∷ []
-with_success all digits b e h = ap outcomes (e ∙ ap (λ (k : ℕ). digits ++ k ∷ []) h) ∙ outcomes_more digits 48
-
-pub passed_failures : (all digits : Text) (b : ℕ) → all ≡ digits ++ b ∷ [] → b ≡ 48 → failures (outcomes all) ≡ failures (outcomes digits)
-passed_failures all digits b e h = ap failures (with_success all digits b e h) ∙ failures_success (outcomes digits)
-
--- that may not fail
-pub passed : (most : Option ℕ) (all digits : Text) (b : ℕ) → all ≡ digits ++ b ∷ [] → b ≡ 48 → allows most (failures (outcomes digits)) ≡ false → turned most (outcomes digits) ≡ turned most (outcomes all)
-passed most all digits b e h n = sym (ap (turned most) (with_success all digits b e h) ∙ turned_stays most (outcomes digits) n)
-
--- no digit is left
-pub none_left : (most : Option ℕ) (all digits : Text) → (0 < length digits → ⊥) → turned most (outcomes digits) ≡ turned most (outcomes all) → turned most (outcomes all) ≡ None
-none_left most all [] h e = sym e
-none_left most all (d ∷ digits) h e = absurd (h (omega arith))
-
--- a success became a failure
-pub turned_here : (most : Option ℕ) (all digits new : Text) (b : ℕ) → all ≡ digits ++ b ∷ [] → b ≡ 48 → allows most (failures (outcomes digits)) ≡ true → new ≡ digits ++ 49 ∷ [] → turned most (outcomes all) ≡ Some (outcomes new)
-turned_here most all digits new b e h may n =
-    ap (turned most) (with_success all digits b e h) ∙ turned_by_success most (outcomes digits) may ∙ ap Some (sym (ap outcomes n ∙ outcomes_more digits 49))
-
-pub digits_failure : (digits new : Text) → new ≡ digits ++ 49 ∷ [] → AreDigits digits → AreDigits new
-digits_failure digits new n h = subst AreDigits (sym n) (ap (map outcome_digit) (outcomes_more digits 49) ∙ map_digits (outcomes digits) (Failure ∷ []) ∙ ap (λ (t : Text). t ++ 49 ∷ []) h)
-
--- ---- the next run
-
-pub marked_failure : (task : Task) (p : OutcomeWord) (ms : List Moment) → AreMarks task p ms → AreMarks task (p ++ Failure ∷ []) ms
-marked_failure task p ms h = marked_same task (p ++ Failure ∷ []) p ms (turned_by_failure task.failures p) h
-
--- the last mark
-pub record BackAt (task : Task) (q : OutcomeWord) (r back : Record) : Type 0 where
-  pub parted : OutcomeWord
-  pub word : q ≡ parted ++ Failure ∷ []
-  pub asks : StoppedAt task parted Asks back.present
-  pub marks : AreMarks task parted back.marked
-  pub begun : back.begun ≡ r.begun
-
-back_in : (task : Task) (u q : OutcomeWord) (present : Moment) (begun : ℕ) (marked : List Moment) → AreMarks task u marked → turned task.failures u ≡ Some q → BackAt task q (record { present = present; marked = marked; begun = begun }) (returned present begun marked)
-back_in task u q present begun [] h e = let k = h in absurd cc
-back_in task u q present begun (m ∷ ms) h e = record { parted = h.0; word = same_Some q (h.0 ++ Failure ∷ []) (sym e ∙ h.1); asks = h.2; marks = h.3; begun = refl }
-
-pub back_at : (task : Task) (u q : OutcomeWord) (r back : Record) → AreMarks task u r.marked → turned task.failures u ≡ Some q → back ≡ gone_back r → BackAt task q r back
-back_at task u q r back h e b = subst (λ (x : Record). BackAt task q r x) (sym b) (back_in task u q r.present r.begun r.marked h e)
-
--- the steps at the mark
-asked_steps : (task : Task) (p : OutcomeWord) (m : Moment) → StoppedAt task p Asks m → asked task p ≡ m.steps
-asked_steps task p m h = ap (λ (a : Answer). (state_of a).steps) (dry_there task p m h)
-
-pub goes_behind : (task : Task) (q : OutcomeWord) (stop : Stop) (r back r₁ : Record) → BackAt task q r back → Stops task.limits stop (λ w. asked_at task.limits back.present (outcome_when false ∷ w)) r₁.present → StoppedAt task q stop r₁.present
-goes_behind task q stop r back r₁ a k = subst (λ (p : OutcomeWord). StoppedAt task p stop r₁.present) (sym a.word) (stopped_on task a.parted back.present r₁.present Failure stop a.asks k)
-
-pub marks_behind : (task : Task) (q : OutcomeWord) (r back r₁ : Record) → BackAt task q r back → r₁.marked ≡ back.marked → AreMarks task q r₁.marked
-marks_behind task q r back r₁ a m = subst (λ (p : OutcomeWord). AreMarks task p r₁.marked) (sym a.word) (subst (λ (ms : List Moment). AreMarks task (a.parted ++ Failure ∷ []) ms) (sym m) (marked_failure task a.parted back.marked a.marks))
-
 -- ---- where two runs differ first
 
 none_empty : (p : OutcomeWord) → [] ≡ p ++ Failure ∷ [] → ⊥
@@ -307,10 +262,10 @@ turned_failure_some : (t : Option OutcomeWord) (v : OutcomeWord) → option_map 
 turned_failure_some (Some w) v e h = cc
 turned_failure_some None v e h = cc
 
-turned_some : (most : Option ℕ) (u v : OutcomeWord) → turned most u ≡ Some v → [] ≡ v → ⊥
-turned_some most [] v e h = cc
-turned_some most (Success ∷ u) v e h = turned_success_some (allows most 0) (turned most u) v e h
-turned_some most (Failure ∷ u) v e h = turned_failure_some (turned (one_less most) u) v e h
+turned_some : (allowed : Test) (u v : OutcomeWord) → turned allowed u ≡ Some v → [] ≡ v → ⊥
+turned_some allowed [] v e h = cc
+turned_some allowed (Success ∷ u) v e h = turned_success_some (allowed (Failure ∷ [])) (turned (allowed_beyond Success allowed) u) v e h
+turned_some allowed (Failure ∷ u) v e h = turned_failure_some (turned (allowed_beyond Failure allowed) u) v e h
 
 cut_success : (may : Bool) (t : Option OutcomeWord) (u p : OutcomeWord) → elim t [ Some v ↦ Some (Success ∷ v) | None ↦ cond may (Some (Failure ∷ [])) None ] ≡ Some (p ++ Failure ∷ []) → ((q : OutcomeWord) → t ≡ Some (q ++ Failure ∷ []) → (x : OutcomeWord) × (u ≡ q ++ Success ∷ x)) → (x : OutcomeWord) × (Success ∷ u ≡ p ++ Success ∷ x)
 cut_success may (Some v) u [] e next = absurd cc
@@ -329,31 +284,117 @@ cut_failure (Some v) u (Success ∷ p) some e next = absurd cc
 cut_failure (Some v) u (Failure ∷ p) some e next = let f : v ≡ p ++ Failure ∷ [] = cc in let n = next p (ap Some f) in (n.0, ap (λ (w : OutcomeWord). Failure ∷ w) n.1)
 
 -- a word that is cut goes on there with a success
-pub cut_of : (most : Option ℕ) (u p : OutcomeWord) → turned most u ≡ Some (p ++ Failure ∷ []) → (x : OutcomeWord) × (u ≡ p ++ Success ∷ x)
-cut_of most [] p e = absurd cc
-cut_of most (Success ∷ u) p e = cut_success (allows most 0) (turned most u) u p e (λ q h. cut_of most u q h)
-cut_of most (Failure ∷ u) p e = cut_failure (turned (one_less most) u) u p (λ v h. turned_some (one_less most) u v h) e (λ q h. cut_of (one_less most) u q h)
+pub cut_of : (allowed : Test) (u p : OutcomeWord) → turned allowed u ≡ Some (p ++ Failure ∷ []) → (x : OutcomeWord) × (u ≡ p ++ Success ∷ x)
+cut_of allowed [] p e = absurd cc
+cut_of allowed (Success ∷ u) p e = cut_success (allowed (Failure ∷ [])) (turned (allowed_beyond Success allowed) u) u p e (λ q h. cut_of (allowed_beyond Success allowed) u q h)
+cut_of allowed (Failure ∷ u) p e = cut_failure (turned (allowed_beyond Failure allowed) u) u p (λ v h. turned_some (allowed_beyond Failure allowed) u v h) e (λ q h. cut_of (allowed_beyond Failure allowed) u q h)
 
-begins_with : (kinds : OutcomeWord → WordKind) (n : ℕ) (q : OutcomeWord) → (y : OutcomeWord) × (first_from kinds n q ≡ q ++ y)
-begins_with kinds n [] = (first_run kinds n, refl)
-begins_with kinds n (d ∷ q) = let r = begins_with (beyond d kinds) (pred n) q in (r.0, ap (λ (w : OutcomeWord). d ∷ w) r.1)
+begins_with : (allowed : Test) (kinds : OutcomeWord → WordKind) (n : ℕ) (q : OutcomeWord) → (y : OutcomeWord) × (first_from allowed kinds n q ≡ q ++ y)
+begins_with allowed kinds n [] = (first_run allowed kinds n, refl)
+begins_with allowed kinds n (d ∷ q) = let r = begins_with (allowed_beyond d allowed) (beyond d kinds) (pred n) q in (r.0, ap (λ (w : OutcomeWord). d ∷ w) r.1)
 
 shared : (p x y : OutcomeWord) → common_prefix (p ++ Success ∷ x) (p ++ Failure ∷ y) ≡ p
 shared [] x y = refl
 shared (Success ∷ p) x y = ap (λ (w : OutcomeWord). Success ∷ w) (shared p x y)
 shared (Failure ∷ p) x y = ap (λ (w : OutcomeWord). Failure ∷ w) (shared p x y)
 
-parts_there : (most : Option ℕ) (kinds : OutcomeWord → WordKind) (n : ℕ) (u p w : OutcomeWord) → turned most u ≡ Some (p ++ Failure ∷ []) → first_from kinds n (p ++ Failure ∷ []) ≡ w → common_prefix u w ≡ p
-parts_there most kinds n u p w e f =
-    let x = cut_of most u p e in
-    let y = begins_with kinds n (p ++ Failure ∷ []) in
+parts_there : (allowed : Test) (kinds : OutcomeWord → WordKind) (n : ℕ) (u p w : OutcomeWord) → turned allowed u ≡ Some (p ++ Failure ∷ []) → first_from allowed kinds n (p ++ Failure ∷ []) ≡ w → common_prefix u w ≡ p
+parts_there allowed kinds n u p w e f =
+    let x = cut_of allowed u p e in
+    let y = begins_with allowed kinds n (p ++ Failure ∷ []) in
     let w' : w ≡ p ++ Failure ∷ y.0 = sym f ∙ y.1 ∙ append_assoc p (Failure ∷ []) y.0 in
     ap (λ (v : OutcomeWord). common_prefix v w) x.1 ∙ ap (λ (v : OutcomeWord). common_prefix (p ++ Success ∷ x.0) v) w' ∙ shared p x.0 y.0
 
-pub found_behind : (task : Task) (u q w : OutcomeWord) (halt : Halt) (r back r₁ r₂ : Record) → IsListed task u → turned task.failures u ≡ Some q → BackAt task q r back → r₁.begun + back.present.steps ≡ back.begun + r₁.present.steps → back.present.steps ≤ r₁.present.steps → Found task q w halt r₁ r₂ → FoundBehind task u w halt r r₂
-found_behind task u q w halt r back r₁ r₂ run t a b l f =
+-- ---- the next run
+
+-- the last mark
+pub record BackAt (task : Task) (u : OutcomeWord) (r back : Record) : Type 0 where
+  pub parted : OutcomeWord
+  pub cut : turned (is_allowed task) u ≡ Some (parted ++ Failure ∷ [])
+  pub asks : StoppedAt task parted Asks back.present
+  pub marks : AreMarks task parted back.marked
+  pub begun : back.begun ≡ r.begun
+
+back_in : (task : Task) (u : OutcomeWord) (present : Moment) (begun : ℕ) (marked : List Moment) → AreMarks task u marked → true ≡ not (length marked == 0) → BackAt task u (record { present = present; marked = marked; begun = begun }) (returned present begun marked)
+back_in task u present begun [] h some = absurd (let f = some in cc)
+back_in task u present begun (m ∷ ms) h some = record { parted = h.0; cut = h.1; asks = h.2; marks = h.3; begun = refl }
+
+pub back_at : (task : Task) (u : OutcomeWord) (r back : Record) → AreMarks task u r.marked → true ≡ not (length r.marked == 0) → back ≡ gone_back r → BackAt task u r back
+back_at task u r back h some b = subst (λ (x : Record). BackAt task u r x) (sym b) (back_in task u r.present r.begun r.marked h some)
+
+pub some_there : (n : ℕ) → not (suc n == 0) ≡ true
+some_there n = grind arith
+
+-- there is no mark
+none_in : (task : Task) (u : OutcomeWord) (marked : List Moment) → AreMarks task u marked → false ≡ not (length marked == 0) → turned (is_allowed task) u ≡ None
+none_in task u [] h none = h
+none_in task u (m ∷ ms) h none = absurd (let f : false ≡ true = none ∙ some_there (length ms) in cc)
+
+pub none_marked : (task : Task) (u w : OutcomeWord) (r : Record) → IsListed task u → AreMarks task u r.marked → false ≡ not (length r.marked == 0) → FoundNext task u w None r r
+none_marked task u w r is h none = (task_ends task u is (none_in task u r.marked h none), refl)
+
+-- the steps at the mark
+asked_steps : (task : Task) (p : OutcomeWord) (m : Moment) → StoppedAt task p Asks m → asked task p ≡ m.steps
+asked_steps task p m h = ap (λ (a : Answer). (state_of a).steps) (dry_there task p m h)
+
+-- and the commands that took an outcome
+asked_logged : (task : Task) (p : OutcomeWord) (m : Moment) → StoppedAt task p Asks m → length (asked_in m.log) ≡ length p
+asked_logged task p m h = sym (ap (λ (a : Answer). length (asked_in (state_of a).log)) (dry_there task p m h)) ∙ asked_many task p (asked_kind task p m h)
+
+-- the log of a text that stopped is that of the run
+pub unexpected_logged : (task : Task) (p : OutcomeWord) (stop : Stop) (m : Moment) → StoppedAt task p stop m → length (unexpected_of task.limits.devices (asked_in m.log)) ≡ unexpected task p
+unexpected_logged task p Asks m h = sym (ap (λ (a : Answer). length (unexpected_of task.limits.devices (asked_in (state_of a).log))) (dry_there task p m h))
+unexpected_logged task p (Ends halt) m h =
+    let a : IsAnswer (halt_shown halt) (state_at m []) (run_on task p) = is_over (run_on task p) (halt_shown halt) (state_at m []) (ap (λ (v : OutcomeWord). settled (run_on task v)) (sym (append-nil p)) ∙ h []) in
+    sym (ap (λ (s : State). length (unexpected_of task.limits.devices (asked_in s.log))) a.state_is)
+
+outcomes_take : (n : ℕ) (digits : Text) → outcomes (take n digits) ≡ take n (outcomes digits)
+outcomes_take n digits = sym (take-map outcome_of n digits)
+
+-- the digits before the mark
+pub record CutThere (task : Task) (digits cut digits' : Text) (p : OutcomeWord) : Type 0 where
+  pub word : outcomes digits' ≡ p ++ Failure ∷ []
+  pub front : outcomes cut ≡ p
+
+cut_within : (digits : Text) (p x : OutcomeWord) → outcomes digits ≡ p ++ Success ∷ x → length p ≤ length digits
+cut_within digits p x e = let a = ap length e in let b = length-append p (Success ∷ x) in let c = outcomes_length digits in omega arith
+
+pub count_within : (task : Task) (digits : Text) (r back : Record) → BackAt task (outcomes digits) r back → length (asked_in back.present.log) ≤ length digits
+count_within task digits r back a =
+    let x = cut_of (is_allowed task) (outcomes digits) a.parted a.cut in
+    let l = cut_within digits a.parted x.0 x.1 in
+    let n = asked_logged task a.parted back.present a.asks in
+    omega (arith, l, n)
+
+pub cut_there : (task : Task) (digits cut digits' : Text) (r back : Record) → (a : BackAt task (outcomes digits) r back) → cut ≡ take (length (asked_in back.present.log)) digits → digits' ≡ cut ++ 49 ∷ [] → CutThere task digits cut digits' a.parted
+cut_there task digits cut digits' r back a e d =
+    let x = cut_of (is_allowed task) (outcomes digits) a.parted a.cut in
+    let n = asked_logged task a.parted back.present a.asks in
+    let front : outcomes cut ≡ a.parted =
+    ap outcomes e ∙ outcomes_take (length (asked_in back.present.log)) digits ∙ ap (λ (k : ℕ). take k (outcomes digits)) n ∙ ap (take (length a.parted)) x.1 ∙ take-append_seam a.parted (Success ∷ x.0) in
+    record { word = outcomes_on cut digits' Failure d ∙ ap (λ (w : OutcomeWord). w ++ Failure ∷ []) front; front = front }
+
+-- there is room for one more
+pub room_behind : (task : Task) (digits cut : Text) (r back : Record) (a : BackAt task (outcomes digits) r back) → cut ≡ take (length (asked_in back.present.log)) digits → length cut < task.limits.device_bound
+room_behind task digits cut r back a e =
+    let front = ap length (cut_there task digits cut (cut ++ 49 ∷ []) r back a e refl).front in
+    let l = outcomes_length cut in
+    let k = asked_within task a.parted back.present a.asks in
+    omega (arith, front, l, k)
+
+pub digits_taken : (n : ℕ) (digits : Text) → AreDigits digits → AreDigits (take n digits)
+digits_taken n digits h = ap (map outcome_digit) (outcomes_take n digits) ∙ sym (take-map outcome_digit n (outcomes digits)) ∙ ap (take n) h
+
+pub goes_behind : (task : Task) (q : OutcomeWord) (stop : Stop) (back r₁ : Record) (p : OutcomeWord) → StoppedAt task p Asks back.present → q ≡ p ++ Failure ∷ [] → Stops task.limits stop (λ w. asked_at task.limits back.present (outcome_when false ∷ w)) r₁.present → StoppedAt task q stop r₁.present
+goes_behind task q stop back r₁ p asks e k = subst (λ (w : OutcomeWord). StoppedAt task w stop r₁.present) (sym e) (stopped_on task p back.present r₁.present Failure stop asks k)
+
+pub marks_behind : (task : Task) (q : OutcomeWord) (back r₁ : Record) (p : OutcomeWord) → AreMarks task p back.marked → q ≡ p ++ Failure ∷ [] → r₁.marked ≡ back.marked → AreMarks task q r₁.marked
+marks_behind task q back r₁ p marks e m = subst (λ (w : OutcomeWord). AreMarks task w r₁.marked) (sym e) (subst (λ (ms : List Moment). AreMarks task (p ++ Failure ∷ []) ms) (sym m) (marked_failure task p back.marked marks))
+
+pub found_behind : (task : Task) (u q w : OutcomeWord) (halt : Halt) (r back r₁ r₂ : Record) → IsListed task u → (a : BackAt task u r back) → q ≡ a.parted ++ Failure ∷ [] → r₁.begun + back.present.steps ≡ back.begun + r₁.present.steps → back.present.steps ≤ r₁.present.steps → Found task q w halt r₁ r₂ → FoundBehind task u w halt r r₂
+found_behind task u q w halt r back r₁ r₂ run a is b l f =
     let g = f.grows in
-    let parted = parts_there task.failures (kind task) task.limits.device_bound u a.parted w (t ∙ ap Some a.word) (ap (first_from (kind task) task.limits.device_bound) (sym a.word) ∙ f.first) in
+    let parted = parts_there (is_allowed task) (kind task) task.limits.device_bound u a.parted w a.cut (ap (first_from (is_allowed task) (kind task) task.limits.device_bound) (sym is) ∙ f.first) in
     let c = f.begun in
     let d = a.begun in
     let k = asked_steps task a.parted back.present a.asks in
@@ -362,7 +403,7 @@ found_behind task u q w halt r back r₁ r₂ run t a b l f =
       moment = f.moment;
       ending = f.ending;
       marks = f.marks;
-      follows = subst (λ (v : OutcomeWord). rest task u ≡ v ∷ rest task v) f.first (task_goes_on task u q run t);
+      follows = subst (λ (v : OutcomeWord). rest task u ≡ v ∷ rest task v) f.first (task_goes_on task u q run (a.cut ∙ ap Some (sym is)));
       begun = ap (λ (p : OutcomeWord). r₂.begun + asked task p) parted ∙ (let z : r₂.begun + asked task a.parted ≡ r.begun + r₂.present.steps = omega arith in z);
       within = f.within;
       shared = subst (λ (p : OutcomeWord). asked task p ≤ r₂.present.steps) (sym parted) (let z : asked task a.parted ≤ r₂.present.steps = omega arith in z);

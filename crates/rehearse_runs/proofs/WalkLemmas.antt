@@ -21,24 +21,8 @@ use Rattle.rehearse_rules.specs.declared.halt.Halt.{Halt}
 use Rattle.rehearse_machine.specs.declared.rehearsal.Stop.{Stop}
 use Rattle.rehearse_machine.specs.declared.rehearsal.Stop.TheVariants.{Asks, Ends}
 use Rattle.rehearse_rules.proofs.TaskChoices.{longer_is_long}
-use Rattle.rehearse_runs.proofs.SearchLemmas.{Asked, asked_here, found_end, marked_failure, outcomes_more}
+use Rattle.rehearse_runs.proofs.SearchLemmas.{found_end, read_digit, outcomes_on}
 use Rattle.rehearse_machine.proofs.StoppedTextLemmas.{asked_kind, stopped_on}
-
--- ---- an outcome is given
-
-pub asked_now : (task : Task) (digits : Text) (m : Moment) → StoppedAt task (outcomes digits) Asks m → Asked task digits Asks m
-asked_now task digits m h = asked_here task digits Asks m refl h
-
-pub room_here : (task : Task) (digits : Text) (m : Moment) (room : ℕ) → StoppedAt task (outcomes digits) Asks m → task.limits.device_bound ≤ room → length digits < room
-room_here task digits m room h b = let a = (asked_now task digits m h).room in omega arith
-
-pub fails_on : (task : Task) (digits digits' : Text) (next : Stop) (r r₁ : Record) → StoppedAt task (outcomes digits) Asks r.present → digits' ≡ digits ++ 49 ∷ []
-    → Stops task.limits next (λ w. asked_at task.limits r.present (outcome_when false ∷ w)) r₁.present → StoppedAt task (outcomes digits') next r₁.present
-fails_on task digits digits' next r r₁ h d k = subst (λ (p : OutcomeWord). StoppedAt task p next r₁.present) (sym (ap outcomes d ∙ outcomes_more digits 49)) (stopped_on task (outcomes digits) r.present r₁.present Failure next h k)
-
-pub marks_fail_on : (task : Task) (digits digits' : Text) (r r₁ : Record) → digits' ≡ digits ++ 49 ∷ [] → r₁.marked ≡ r.marked → AreMarks task (outcomes digits) r.marked → AreMarks task (outcomes digits') r₁.marked
-marks_fail_on task digits digits' r r₁ d m k =
-    subst (λ (p : OutcomeWord). AreMarks task p r₁.marked) (sym (ap outcomes d ∙ outcomes_more digits 49)) (subst (λ (ms : List Moment). AreMarks task (outcomes digits ++ Failure ∷ []) ms) (sym m) (marked_failure task (outcomes digits) r.marked k))
 
 -- ---- where the walk ends
 
@@ -71,10 +55,6 @@ no_digit_here task p text ne n (d ∷ w) e = absurd (n d w e)
 
 -- ---- where it goes on
 
-read_digit : (d : Outcome) → outcome_of (outcome_digit d) ≡ d
-read_digit Success = refl
-read_digit Failure = refl
-
 same_outcome : (c d : Outcome) → outcome_digit c ≡ outcome_digit d → c ≡ d
 same_outcome c d e = sym (read_digit c) ∙ ap outcome_of e ∙ read_digit d
 
@@ -84,9 +64,6 @@ long_on task p d behind h (c ∷ w) e =
     let f : outcome_digit d ≡ outcome_digit c = cc in
     let g : behind ≡ map outcome_digit w = cc in
     sym (ap (kind task) (append_assoc p (d ∷ []) w ∙ ap (λ (x : Outcome). p ++ x ∷ w) (same_outcome d c f))) ∙ h w g
-
-outcomes_on : (digits digits' : Text) (d : Outcome) → digits' ≡ digits ++ outcome_digit d ∷ [] → outcomes digits' ≡ outcomes digits ++ d ∷ []
-outcomes_on digits digits' d e = ap outcomes e ∙ outcomes_more digits (outcome_digit d) ∙ ap (λ (x : Outcome). outcomes digits ++ x ∷ []) (read_digit d)
 
 pub walked_on : (result : Result Walked StoreError) (task : Task) (digits digits' text behind all : Text) (d : Outcome) (r₀ r₁ r₂ : Record) → digits' ≡ digits ++ outcome_digit d ∷ [] → text ≡ outcome_digit d ∷ behind
     → r₁.begun + r₀.present.steps ≡ r₀.begun + r₁.present.steps → IfOk result (λ found. Walks task (outcomes digits') digits' behind all (outcomes all) found r₁ r₂) → IfOk result (λ found. Walks task (outcomes digits) digits text all (outcomes all) found r₀ r₂)

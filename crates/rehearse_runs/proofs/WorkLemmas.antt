@@ -4,7 +4,7 @@ use Rattle.bootstore_state.specs.Moment.{Moment}
 use Rattle.rehearse_rules.specs.Listing.{last_of}
 use Rattle.rehearse_terms.specs.Bounds.{most_run_devices}
 use Rattle.rehearse_terms.specs.Outcomes.{OutcomeWord, Success, Failure, Run, common_prefix}
-use Rattle.rehearse_rules.specs.Runs.{Task, kind, runs, rest, steps, asked, work_from}
+use Rattle.rehearse_rules.specs.Runs.{Task, kind, runs, rest, steps, asked, work_from, is_allowed}
 use Rattle.rehearse_runs.specs.RunsShown.{words_made, in_front_of, work_of, steps_shared, successes, last_answer}
 use Rattle.rehearse_runs.specs.Phases.{HasBegun}
 use Rattle.rehearse_runs.specs.Searching.{AreMarks}
@@ -88,7 +88,7 @@ successes_front (Failure ∷ p) x = successes_front p x
 pub few_marks : (task : Task) (w : OutcomeWord) (ms : List Moment) → AreMarks task w ms → length ms ≤ successes w
 few_marks task w [] h = omega arith
 few_marks task w (m ∷ ms) h =
-    let x = cut_of task.failures w h.0 h.1 in
+    let x = cut_of (is_allowed task) w h.0 h.1 in
     let l = few_marks task h.0 ms h.3 in
     let k : successes h.0 < successes w = subst (λ (v : OutcomeWord). successes h.0 < successes v) (sym x.1) (successes_front h.0 x.0) in
     omega (arith, l, k)

@@ -3,22 +3,27 @@ use Rattle.std.specs.Prelude.{ℕ, ◌≡◌, ◌+◌, ◌≤◌, Bool, true, fa
 use Rattle.bootstore_state.specs.Moment.{Moment}
 use Rattle.bootstore_state.specs.Record.{Record, with_mark}
 use Rattle.rehearse_terms.specs.Bounds.{most_steps}
-use Rattle.rehearse_terms.specs.Outcomes.{OutcomeWord, Failure, Run, failures, allows, turned, first_from, common_prefix}
+use Rattle.rehearse_terms.specs.Outcomes.{OutcomeWord, Failure, Run, common_prefix}
 use Rattle.bootstore_state.specs.StoredState.{state_at}
-use Rattle.rehearse_rules.specs.Runs.{Task, run_on, state_of, ending_of, kind, runs, rest, asked}
+use Rattle.rehearse_rules.specs.Choosing.{turned, first_from}
+use Rattle.rehearse_rules.specs.Runs.{Task, run_on, state_of, ending_of, kind, runs, is_allowed, rest, asked}
 use Rattle.rehearse_rules.specs.EndingsShown.{halt_shown}
 use Rattle.rehearse_machine.specs.StoppedTexts.{StoppedAt}
 use Rattle.rehearse_rules.specs.declared.halt.Halt.{Halt}
 use Rattle.rehearse_machine.specs.declared.rehearsal.Stop.TheVariants.{Asks}
 
--- whether one more device command may fail after a word
-abbrev pub may_fail : Task → OutcomeWord → Bool
-may_fail task w = allows task.failures (failures w)
+-- how many answers are unexpected after one more, if so many were before it
+abbrev pub counted : ℕ → (expected success : Bool) → ℕ
+counted n true true = n
+counted n false false = n
+counted n true false = n + 1
+counted n false true = n + 1
 
--- the marked moments are those at which device commands asked for the successes of a word that may fail, the last first
+-- the marked moments are those at which device commands asked for the successes of a word that may be failures, the last
+-- first
 abbrev pub AreMarks : Task → OutcomeWord → List Moment → Type 0
-AreMarks task w [] = turned task.failures w ≡ None
-AreMarks task w (m ∷ ms) = (p : OutcomeWord) × (turned task.failures w ≡ Some (p ++ Failure ∷ []))
+AreMarks task w [] = turned (is_allowed task) w ≡ None
+AreMarks task w (m ∷ ms) = (p : OutcomeWord) × (turned (is_allowed task) w ≡ Some (p ++ Failure ∷ []))
     × StoppedAt task p Asks m × AreMarks task p ms
 
 -- the moment was marked, or nothing changed
@@ -32,7 +37,7 @@ pub record Found (task : Task) (p w : OutcomeWord) (halt : Halt) (old new : Reco
   pub moment : state_at new.present [] ≡ state_of (run_on task w)
   pub ending : halt_shown halt ≡ ending_of (run_on task w)
   pub marks : AreMarks task w new.marked
-  pub first : first_from (kind task) task.limits.device_bound p ≡ w
+  pub first : first_from (is_allowed task) (kind task) task.limits.device_bound p ≡ w
   pub begun : new.begun + old.present.steps ≡ old.begun + new.present.steps
   pub within : new.present.steps ≤ most_steps
   pub grows : old.present.steps ≤ new.present.steps
@@ -46,11 +51,6 @@ pub record FoundFirst (task : Task) (w : OutcomeWord) (halt : Halt) (old new : R
   pub begins : runs task ≡ w ∷ rest task w
   pub begun : new.begun ≡ old.begun + new.present.steps
   pub within : new.present.steps ≤ most_steps
-
--- the word was cut after its last success that may fail, which became a failure; or it has no such success
-abbrev pub Turns : (most : Option ℕ) → Bool → (old new : OutcomeWord) → Type 0
-Turns most true old new = turned most old ≡ Some new
-Turns most false old new = turned most old ≡ None
 
 -- the store holds the run that follows the run on u; the steps that both runs share were begun before
 pub record FoundBehind (task : Task) (u w : OutcomeWord) (halt : Halt) (old new : Record) : Type 0 where

@@ -1,52 +1,56 @@
-//! How many device commands of a run may fail.
-ghost use Rattle.std.specs.Prelude.{◌≡◌, ◌≤◌, length};
-ghost use Rattle.rehearse_terms.specs.Outcomes.{allows, failures, is_within};
-ghost use Rattle.rehearse_machine.specs.Tasks.{task_in};
-ghost use Rattle.rehearse_runs.specs.RunsShown.{outcomes};
-ghost use Rattle.rehearse_runs.specs.Searching.{may_fail};
+//! How many answers of a run may be unexpected.
+ghost use Rattle.std.specs.Prelude.{◌≡◌, ◌+◌, ◌<◌, ◌≤◌, ◌^◌, length, take};
+ghost use Rattle.rehearse_rules.specs.Expected.{asked_in, unexpected_of};
+ghost use Rattle.rehearse_rules.specs.Runs.{is_at_most};
+ghost use Rattle.rehearse_runs.specs.Searching.{counted};
 
-use rehearse_machine::Rehearsal;
+use bootstore_state::LogEntry;
+use device_list::Devices;
+use rehearse_machine::is_unexpected;
 
-/// How many device commands of a word failed.
-pub(crate) fn failures(digits: &[u8]) -> usize
-    ensures count { result ≡ failures (outcomes digits.now) }
-    ensures within { result ≤ length digits.now }
+/// How many answers in a log are not the expected ones.
+pub(crate) fn unexpected(devices: &Devices, log: &[LogEntry]) -> usize
+    ensures { result ≡ length (unexpected_of devices.now (asked_in log.now)) }
 {
     let mut count = 0;
-    for digit in digits {
-        if *digit != b'0' {
+    for entry in log {
+        if is_unexpected(devices, entry) {
             count += 1;
         }
     }
     count
 }
 
-/// Whether one more may fail if so many did.
-pub(crate) fn allows(most: Option<u32>, failed: usize) -> bool
-    ensures { result ≡ allows most failed }
+/// How many device commands of a log took an outcome.
+pub(crate) fn asked(log: &[LogEntry]) -> usize
+    ensures { result ≡ length (asked_in log.now) }
 {
-    match most {
-        Some(most) => failed < most as usize,
-        None => true,
+    let mut count = 0;
+    for entry in log {
+        if !entry.again {
+            count += 1;
+        }
+    }
+    count
+}
+
+/// How many are unexpected after one more, if so many were before it.
+pub(crate) fn after(count: usize, expected: bool, success: bool) -> usize
+    requires { count + 1 < 2 ^ 64 }
+    ensures { result ≡ counted count expected success }
+{
+    match (expected, success) {
+        (true, true) | (false, false) => count,
+        (true, false) | (false, true) => count + 1,
     }
 }
 
-/// Whether one more may fail after a word.
-pub(crate) fn may_fail(rehearsal: &Rehearsal<'_>, digits: &[u8]) -> bool
-    ensures { result ≡ may_fail (task_in rehearsal.now) (outcomes digits.now) }
-{
-    match rehearsal.bounds.failures() {
-        Some(most) => failures(digits) < most as usize,
-        None => true,
-    }
-}
-
-/// Whether no more device commands of a word failed than may.
-pub(crate) fn is_within(most: Option<u32>, digits: &[u8]) -> bool
-    ensures { result ≡ is_within most (outcomes digits.now) }
+/// Whether so many are no more than may be.
+pub(crate) fn is_at_most(most: Option<u32>, count: usize) -> bool
+    ensures { result ≡ is_at_most most count }
 {
     match most {
-        Some(most) => failures(digits) <= most as usize,
+        Some(most) => count <= most as usize,
         None => true,
     }
 }

@@ -3,13 +3,12 @@ ghost use Rattle.std.specs.Prelude.{◌≡◌, [], false, true, map, option_map,
 ghost use Rattle.text.specs.TextsShown.{option_bytes};
 ghost use Rattle.rehearse_terms.specs.Bounds.{are_bounds};
 ghost use Rattle.rehearse_rules.specs.Listing.{outcome_digit};
-ghost use Rattle.rehearse_terms.specs.Outcomes.{has_success};
 ghost use Rattle.envtools.specs.Environment.{value_of};
 ghost use Rattle.rehearse_machine.specs.Tasks.{source_shown, task_found, task_from, task_in, task_set, task_shown, text_in};
 ghost use Rattle.rehearse_runs.specs.RunsShown.{has_words, last_given, outcomes, words_made, work_of};
 ghost use Rattle.std.specs.Borrow.{sem};
 
-use crate::failing::{allows, is_within};
+use crate::failing::{is_at_most, unexpected};
 use crate::searching::{Digits, first_run, next_run};
 use crate::walking::{Walked, walk_to};
 use bootstore_state::Store;
@@ -67,19 +66,7 @@ fn copy_of(digits: &Digits) -> Digits
     copy
 }
 
-/// Whether a device command succeeded that may fail: the first one that did, if any.
-fn has_success(digits: &[u8], most: Option<u32>) -> bool
-    ensures { result ≡ has_success most (outcomes digits.now) }
-{
-    for (failed, digit) in digits.iter().enumerate() {
-        if *digit == b'0' {
-            return allows(most, failed);
-        }
-    }
-    false
-}
-
-/// The runs of a text in which no more device commands fail than the bounds allow, in dictionary order of their words,
+/// The runs of a text of which no more answers are unexpected than the bounds allow, in dictionary order of their words,
 /// success before failure.
 #[derive(Drop)]
 pub struct Runs<'a, S: Store> {
@@ -174,7 +161,7 @@ impl<'a, S: Store> Runs<'a, S> {
     }
 
     /// The runs that follow the run of a word, whose digits are handed over. It is run first. Errors: `NoSuchVariable`;
-    /// `NotARun` if the word is no run, or if more device commands fail in it than the bounds allow; `Memory`.
+    /// `NotARun` if the word is no run, or if more of its answers are unexpected than the bounds allow; `Memory`.
     pub fn after(
         alloc: Global,
         env: &'a Env,
@@ -220,26 +207,26 @@ impl<'a, S: Store> Runs<'a, S> {
         let Some(rehearsal) = rehearsal_of(alloc, env, devices, source, bounds) else {
             return Err(RehearseError::NoSuchVariable);
         };
-        if !is_within(bounds.failures(), word) {
-            return Err(RehearseError::NotARun);
-        }
         let mut store = S::new(alloc);
         let mut digits = Digits::new();
         let Ok(walked) = walk_to(&rehearsal, &mut store, &mut digits, word) else {
             return Err(RehearseError::Memory);
         };
-        match walked {
-            Walked::Ends(halt) => Ok(Runs {
-                rehearsal,
-                start: Some(copy_of(&digits)),
-                store,
-                word: digits,
-                has_given: true,
-                phase: Phase::At(halt),
-            }),
-            Walked::Short => Err(RehearseError::NotARun),
-            Walked::Long => Err(RehearseError::NotARun),
+        let Walked::Ends(halt) = walked else {
+            return Err(RehearseError::NotARun);
+        };
+        let count = unexpected(devices, store.log());
+        if !is_at_most(bounds.failures(), count) {
+            return Err(RehearseError::NotARun);
         }
+        Ok(Runs {
+            rehearsal,
+            start: Some(copy_of(&digits)),
+            store,
+            word: digits,
+            has_given: true,
+            phase: Phase::At(halt),
+        })
     }
 
     /// Moves to the next run. Returns false if there is none. Errors: `Memory`, and `Failed` if
@@ -297,6 +284,13 @@ impl<'a, S: Store> Runs<'a, S> {
         Ok(self.get())
     }
 
+    /// The device commands.
+    pub fn devices(&self) -> &'a Devices
+        ensures { result.now ≡ (self.now.task).limits.devices }
+    {
+        self.rehearsal.devices
+    }
+
     /// Whether memory ran out, which ends the rehearsal.
     pub(crate) fn has_failed(&self) -> bool
         ensures { result ≡ self.now.failed }
@@ -304,14 +298,16 @@ impl<'a, S: Store> Runs<'a, S> {
         matches!(self.phase, Phase::Failed)
     }
 
-    /// Whether words are still to come.
+    /// Whether words are still to come, if memory did not run out.
     pub(crate) fn has_more(&self) -> bool
+        requires { self.now.failed ≡ false }
         ensures { result ≡ has_words self.now.to_come }
     {
-        if self.has_given {
-            has_success(self.word.as_slice(), self.rehearsal.bounds.failures())
-        } else {
-            true
+        match self.phase {
+            Phase::Fresh => true,
+            Phase::At(_) => self.store.has_mark(),
+            Phase::Over => false,
+            Phase::Failed => unreachable!(),
         }
     }
 

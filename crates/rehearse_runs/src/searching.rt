@@ -1,24 +1,28 @@
 //! The search for the next run.
-ghost use Rattle.std.specs.Prelude.{◌≡◌, ◌+◌, ◌-◌, ◌*◌, ◌<◌, ◌≤◌, ◌^◌, IfOk, OnOk};
+ghost use Rattle.std.specs.Prelude.{◌≡◌, ◌+◌, ◌-◌, ◌*◌, ◌<◌, ◌≤◌, ◌^◌, ◌∷◌, [], ◌++◌, ◌&&◌, length, take, IfOk, OnOk};
 ghost use Rattle.rehearse_runs.specs.RunsShown.{outcomes};
 ghost use Rattle.rehearse_runs.specs.Phases.{AreDigits};
-ghost use Rattle.rehearse_runs.specs.Searching.{AreMarks, MarksIf, Found, FoundFirst, FoundNext, Turns, may_fail};
+ghost use Rattle.rehearse_runs.specs.Searching.{AreMarks, MarksIf, Found, FoundFirst, FoundNext};
+ghost use Rattle.rehearse_machine.specs.Expecting.{Expects};
+ghost use Rattle.rehearse_machine.specs.Machine.{outcome_when};
+ghost use Rattle.rehearse_machine.specs.declared.rehearsal.Stop.TheVariants.{Asks};
+ghost use Rattle.rehearse_rules.specs.Listing.{outcome_digit};
 ghost use Rattle.rehearse_machine.specs.StoppedTexts.{StoppedAt};
 ghost use Rattle.rehearse_machine.specs.Tasks.{task_in};
 ghost use Rattle.rehearse_terms.specs.Bounds.{most_run_devices, most_steps};
-ghost use Rattle.rehearse_rules.specs.Runs.{IsListed};
+ghost use Rattle.rehearse_rules.specs.Runs.{IsListed, is_at_most, unexpected};
 
-use crate::failing::{allows, failures, may_fail};
+use crate::failing::{after, asked, is_at_most, unexpected};
 use bootstore_state::{Store, StoreError};
 use output::Bytes;
-use rehearse_machine::{Rehearsal, Stop, begin, resume};
+use rehearse_machine::{Rehearsal, Stop, begin, expected_success, resume};
 use rehearse_rules::Halt;
 
 /// The digits of a word.
 pub(crate) type Digits = Bytes<1000>;
 
-/// Marks the state in which a device command asks, if the command may fail.
-pub(crate) fn mark_if<S: Store>(store: &mut S, may: bool) -> Result<(), StoreError>
+/// Marks the state in which a device command asks, if its success may be a failure.
+fn mark_if<S: Store>(store: &mut S, may: bool) -> Result<(), StoreError>
     ensures { OnOk result (MarksIf may (S.record_of store.old) (S.record_of store.new)) }
 {
     if may {
@@ -27,15 +31,71 @@ pub(crate) fn mark_if<S: Store>(store: &mut S, may: bool) -> Result<(), StoreErr
     Ok(())
 }
 
-/// Goes on with success at each device command that asks, each marked if it may fail, until the run ends.
+/// The digit of an outcome.
+fn digit_of(success: bool) -> u8
+    ensures { result ≡ outcome_digit (outcome_when success) }
+{
+    if success { b'0' } else { b'1' }
+}
+
+/// Whether an outcome is a success that may be a failure, after which so many answers are unexpected.
+fn may_turn(most: Option<u32>, lost: usize, success: bool) -> bool
+    ensures { result ≡ (success && is_at_most most lost) }
+{
+    success && is_at_most(most, lost)
+}
+
+/// Gives the device command that asks an outcome, and marks a success that may be a failure. So many answers were unexpected
+/// before it.
+pub(crate) fn choose<S: Store, const N: usize>(
+    rehearsal: &Rehearsal<'_>,
+    store: &mut S,
+    digits: &mut Bytes<N>,
+    count: usize,
+    expected: bool,
+    success: bool,
+) -> Result<Stop, StoreError>
+    requires asks { StoppedAt (task_in rehearsal.now) (outcomes digits.old.items) Asks
+        (S.record_of store.old).present }
+    requires expects { Expects (task_in rehearsal.now).limits (S.record_of store.old).present expected }
+    requires count { count ≡ unexpected (task_in rehearsal.now) (outcomes digits.old.items) }
+    requires marks { AreMarks (task_in rehearsal.now) (outcomes digits.old.items)
+        (S.record_of store.old).marked }
+    requires begun { (S.record_of store.old).begun + most_steps + 1 < 2 ^ 64 }
+    requires bound { (task_in rehearsal.now).limits.device_bound ≤ N }
+    ensures stopped { IfOk result
+        (λ stop. StoppedAt (task_in rehearsal.now) (outcomes digits.new.items) stop
+        (S.record_of store.new).present) }
+    ensures marks { OnOk result
+        (AreMarks (task_in rehearsal.now) (outcomes digits.new.items)
+        (S.record_of store.new).marked) }
+    ensures digits { digits.new.items ≡ digits.old.items ++ outcome_digit (outcome_when success) ∷ [] }
+    ensures begun { OnOk result
+        ((S.record_of store.new).begun + (S.record_of store.old).present.steps
+        ≡ (S.record_of store.old).begun + (S.record_of store.new).present.steps) }
+    ensures within { OnOk result ((S.record_of store.new).present.steps ≤ most_steps) }
+    ensures grows { OnOk result
+        ((S.record_of store.old).present.steps ≤ (S.record_of store.new).present.steps) }
+{
+    let _bound = rehearsal.bounds.devices();
+    let lost = after(count, expected, false);
+    let may = may_turn(rehearsal.bounds.failures(), lost, success);
+    digits.push(digit_of(success));
+    mark_if(store, may)?;
+    let next = resume(rehearsal, store, success)?;
+    Ok(next)
+}
+
+/// Goes on with the first outcome that is allowed at each device command that asks, each marked if it is a success that may
+/// be a failure, until the run ends. So many answers were unexpected before it.
 pub(crate) fn search<S: Store>(
     rehearsal: &Rehearsal<'_>,
     store: &mut S,
     digits: &mut Digits,
     stop: Stop,
-    may: bool,
+    count: usize,
 ) -> Result<Halt, StoreError>
-    requires may { may ≡ may_fail (task_in rehearsal.now) (outcomes digits.old.items) }
+    requires count { count ≡ unexpected (task_in rehearsal.now) (outcomes digits.old.items) }
     requires stopped { StoppedAt (task_in rehearsal.now) (outcomes digits.old.items) stop
         (S.record_of store.old).present }
     requires marks { AreMarks (task_in rehearsal.now) (outcomes digits.old.items)
@@ -52,10 +112,12 @@ pub(crate) fn search<S: Store>(
     match stop {
         Stop::Ends(halt) => Ok(halt),
         Stop::Asks => {
-            mark_if(store, may)?;
-            digits.push(b'0');
-            let next = resume(rehearsal, store, true)?;
-            search(rehearsal, store, digits, next, may)
+            let expected = expected_success(rehearsal, store)?;
+            let won = after(count, expected, true);
+            let success = is_at_most(rehearsal.bounds.failures(), won);
+            let next = choose(rehearsal, store, digits, count, expected, success)?;
+            let more = after(count, expected, success);
+            search(rehearsal, store, digits, next, more)
         }
     }
 }
@@ -73,28 +135,18 @@ pub(crate) fn first_run<S: Store>(
     ensures digits { AreDigits digits.new.items }
 {
     digits.clear();
-    let may = may_fail(rehearsal, digits.as_slice());
     let stop = begin(rehearsal, store)?;
-    search(rehearsal, store, digits, stop, may)
+    search(rehearsal, store, digits, stop, 0)
 }
 
-/// Cuts a word after its last success that may fail, which becomes a failure. Returns false if it
-/// has no such success.
-fn turn(digits: &mut Digits, most: Option<u32>) -> bool
-    requires { AreDigits digits.old.items }
-    ensures turns { Turns most result (outcomes digits.old.items) (outcomes digits.new.items) }
-    ensures digits { AreDigits digits.new.items }
+/// Keeps the first digits of a word, and drops the others.
+fn cut(digits: &mut Digits, count: usize)
+    requires { count ≤ length digits.old.items }
+    ensures { digits.new.items ≡ take count digits.old.items }
 {
-    let mut failed = failures(digits.as_slice());
-    while let Some(digit) = digits.pop() {
-        if digit != b'0' {
-            failed -= 1;
-        } else if allows(most, failed) {
-            digits.push(b'1');
-            return true;
-        }
+    while digits.len() > count {
+        digits.pop();
     }
-    false
 }
 
 /// Finds the run after the one that the store holds: goes back to the last mark, where the command
@@ -114,12 +166,14 @@ pub(crate) fn next_run<S: Store>(
         (outcomes digits.new.items) found (S.record_of store.old) (S.record_of store.new)) }
     ensures digits { AreDigits digits.new.items }
 {
-    if !turn(digits, rehearsal.bounds.failures()) {
+    if !store.has_mark() {
         return Ok(None);
     }
-    let may = may_fail(rehearsal, digits.as_slice());
     store.back();
+    cut(digits, asked(store.log()));
+    digits.push(b'1');
     let stop = resume(rehearsal, store, false)?;
-    let halt = search(rehearsal, store, digits, stop, may)?;
+    let count = unexpected(rehearsal.devices, store.log());
+    let halt = search(rehearsal, store, digits, stop, count)?;
     Ok(Some(halt))
 }

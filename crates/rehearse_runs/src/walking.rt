@@ -8,13 +8,13 @@ ghost use Rattle.rehearse_runs.specs.Searching.{AreMarks};
 ghost use Rattle.rehearse_machine.specs.StoppedTexts.{StoppedAt};
 ghost use Rattle.rehearse_machine.specs.Tasks.{task_in};
 ghost use Rattle.rehearse_runs.specs.Walking.{BeginsWithDigit, Walks, WalksTo};
-ghost use Rattle.rehearse_machine.specs.declared.rehearsal.Stop.TheVariants.{Asks};
+ghost use Rattle.rehearse_rules.specs.Runs.{unexpected};
 
-use crate::failing::may_fail;
-use crate::searching::mark_if;
+use crate::failing::after;
+use crate::searching::choose;
 use bootstore_state::{Store, StoreError};
 use output::Bytes;
-use rehearse_machine::{Rehearsal, Stop, begin, resume};
+use rehearse_machine::{Rehearsal, Stop, begin, expected_success};
 use rehearse_rules::Halt;
 
 /// Where a walk ends.
@@ -28,45 +28,6 @@ pub(crate) enum Walked {
     Long,
 }
 
-/// Gives the device command that asks an outcome, and marks a success if it may fail.
-fn choose<S: Store, const N: usize>(
-    rehearsal: &Rehearsal<'_>,
-    store: &mut S,
-    digits: &mut Bytes<N>,
-    success: bool,
-) -> Result<Stop, StoreError>
-    requires asks { StoppedAt (task_in rehearsal.now) (outcomes digits.old.items) Asks
-        (S.record_of store.old).present }
-    requires marks { AreMarks (task_in rehearsal.now) (outcomes digits.old.items)
-        (S.record_of store.old).marked }
-    requires begun { (S.record_of store.old).begun + most_steps + 1 < 2 ^ 64 }
-    requires bound { (task_in rehearsal.now).limits.device_bound ≤ N }
-    ensures stopped { IfOk result
-        (λ stop. StoppedAt (task_in rehearsal.now) (outcomes digits.new.items) stop
-        (S.record_of store.new).present) }
-    ensures marks { OnOk result
-        (AreMarks (task_in rehearsal.now) (outcomes digits.new.items)
-        (S.record_of store.new).marked) }
-    ensures digits { OnOk result
-        (digits.new.items ≡ digits.old.items ++ outcome_digit (outcome_when success) ∷ []) }
-    ensures begun { OnOk result
-        ((S.record_of store.new).begun + (S.record_of store.old).present.steps
-        ≡ (S.record_of store.old).begun + (S.record_of store.new).present.steps) }
-    ensures within { OnOk result ((S.record_of store.new).present.steps ≤ most_steps) }
-{
-    if success {
-        let may = may_fail(rehearsal, digits.as_slice());
-        mark_if(store, may)?;
-        digits.push(b'0');
-        let next = resume(rehearsal, store, true)?;
-        Ok(next)
-    } else {
-        digits.push(b'1');
-        let next = resume(rehearsal, store, false)?;
-        Ok(next)
-    }
-}
-
 /// The outcome that a text starts with, and the digits after it.
 fn next_outcome(text: &[u8]) -> Option<(bool, &[u8])>
     ensures { BeginsWithDigit text.now result }
@@ -78,14 +39,16 @@ fn next_outcome(text: &[u8]) -> Option<(bool, &[u8])>
     }
 }
 
-/// Goes on along the digits of a text.
+/// Goes on along the digits of a text. So many answers were unexpected before it.
 fn walk<S: Store, const N: usize>(
     rehearsal: &Rehearsal<'_>,
     store: &mut S,
     digits: &mut Bytes<N>,
     stop: Stop,
     text: &[u8],
+    count: usize,
 ) -> Result<Walked, StoreError>
+    requires count { count ≡ unexpected (task_in rehearsal.now) (outcomes digits.old.items) }
     requires stopped { StoppedAt (task_in rehearsal.now) (outcomes digits.old.items) stop
         (S.record_of store.old).present }
     requires marks { AreMarks (task_in rehearsal.now) (outcomes digits.old.items)
@@ -113,8 +76,11 @@ fn walk<S: Store, const N: usize>(
             let Some((success, behind)) = next_outcome(text) else {
                 return Ok(Walked::Long);
             };
-            let next = choose(rehearsal, store, digits, success)?;
-            walk(rehearsal, store, digits, next, behind)
+            let _bound = rehearsal.bounds.devices();
+            let expected = expected_success(rehearsal, store)?;
+            let next = choose(rehearsal, store, digits, count, expected, success)?;
+            let more = after(count, expected, success);
+            walk(rehearsal, store, digits, next, behind, more)
         }
     }
 }
@@ -134,5 +100,5 @@ pub(crate) fn walk_to<S: Store, const N: usize>(
 {
     digits.clear();
     let stop = begin(rehearsal, store)?;
-    walk(rehearsal, store, digits, stop, text)
+    walk(rehearsal, store, digits, stop, text, 0)
 }

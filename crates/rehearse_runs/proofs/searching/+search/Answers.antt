@@ -1,65 +1,104 @@
-use Rattle.std.proofs.Common.{◌≡◌, List, [], ◌∷◌, length, length-append, arith, ap, sym, ◌∙◌, ℕ, ◌+◌}
-use Rattle.rehearse_terms.specs.Outcomes.{first_from}
-use Rattle.rehearse_rules.specs.Runs.{kind}
-use Rattle.rehearse_runs.specs.RunsShown.{outcomes}
-use Rattle.rehearse_runs.specs.Searching.{MarksIf}
+use Rattle.std.proofs.Common.{rules, ◌≡◌, ◌∙◌, ◌++◌, sym, ap, subst, arith, ℕ, ◌+◌, Bool, true, false, Option, List, [], ◌∷◌, length, length-append}
+use Rattle.bootstore_state.specs.Moment.{Moment}
+use Rattle.bootstore_state.specs.Record.{Record}
+use Rattle.rehearse_terms.specs.Outcomes.{Success}
+use Rattle.rehearse_terms.specs.State.{State}
+use Rattle.rehearse_rules.specs.Listing.{outcome_digit}
+use Rattle.rehearse_rules.specs.Runs.{is_at_most, is_allowed}
+use Rattle.rehearse_machine.specs.Machine.{outcome_when}
 use Rattle.rehearse_machine.specs.Tasks.{task_in}
-use Rattle.rehearse_runs.proofs.SearchLemmas.{found_end, all_more, asked_here, goes_on, marks_go_on, marks_keep, may_fail_on, digits_go_on}
+use Rattle.rehearse_machine.proofs.ExpectedLemmas.{still_stopped}
+use Rattle.rehearse_runs.specs.RunsShown.{outcomes}
+use Rattle.rehearse_runs.specs.Searching.{AreMarks}
+use Rattle.rehearse_runs.proofs.SearchLemmas.{found_end, all_more, asked_here, asked_now, allowed_there, counted_on, first_goes_on, digits_on}
 use Rattle.rehearse_runs.proofs.searching.+search.Goals as goal
-
-pub push-requires : goal.push-requires
-push-requires g t c =
-    let a = asked_here (task_in c.args.rehearsal.now) c.args.digits.now.items c.args.stop (g.S.Store.record_of c.args.store.now).present c.in-Asks.is c.requires.stopped in
-    let b = c.requires.bound in
-    let k = a.room in
-    omega arith
 
 pub returns-in-Ends-clause-ok : goal.returns-in-Ends-clause-ok
 returns-in-Ends-clause-ok g t c =
     let h = rw c.in-Ends.is at c.requires.stopped in
     found_end (task_in c.args.rehearsal.now) (outcomes c.args.digits.now.items) c.in-Ends.halt (g.S.Store.record_of c.args.store.now) h c.requires.marks c.requires.within
 
+pub after-won-requires : goal.after-won-requires
+after-won-requires g t c =
+    let task = task_in c.args.rehearsal.now in
+    let a = asked_now task c.args.digits.now.items (g.S.Store.record_of c.args.store.now).present (asked_here task c.args.digits.now.items c.args.stop (g.S.Store.record_of c.args.store.now).present c.in-Asks.is c.requires.stopped) in
+    let few = a.few in
+    let room = a.room in
+    let n = c.requires.count in
+    let b = c.requires.bound in
+    omega arith
+
+pub after-more-requires : goal.after-more-requires
+after-more-requires g t c =
+    let task = task_in c.args.rehearsal.now in
+    let a = asked_now task c.args.digits.now.items (g.S.Store.record_of c.args.store.now).present (asked_here task c.args.digits.now.items c.args.stop (g.S.Store.record_of c.args.store.now).present c.in-Asks.is c.requires.stopped) in
+    let few = a.few in
+    let room = a.room in
+    let n = c.requires.count in
+    let b = c.requires.bound in
+    omega arith
+
+pub choose-requires : goal.choose-requires
+choose-requires g t c =
+    let task = task_in c.args.rehearsal.now in
+    let digits = c.args.digits.now.items in
+    let r = g.S.Store.record_of c.args.store.now in
+    let still = c.in_ok-expected-in-Asks.ensures.still in
+    let asks = still_stopped task (outcomes digits) r (g.S.Store.record_of c.expected_success.new.store) (asked_here task digits c.args.stop r.present c.in-Asks.is c.requires.stopped) still in
+    let marks = subst (λ (ms : List Moment). AreMarks task (outcomes digits) ms) (sym still.marked) c.requires.marks in
+    let b = still.begun in
+    let u = c.requires.begun in
+    (search rules, (asks, (c.in_ok-expected-in-Asks.ensures.expects, (c.requires.count, (marks, (omega arith, c.requires.bound))))))
+
 pub returns-in_ok-next-in-Asks-clause-ok : goal.returns-in_ok-next-in-Asks-clause-ok
 returns-in_ok-next-in-Asks-clause-ok g t c =
     let task = task_in c.args.rehearsal.now in
     let r = g.S.Store.record_of c.args.store.now in
-    let a = asked_here task c.args.digits.now.items c.args.stop r.present c.in-Asks.is c.requires.stopped in
-    let n : MarksIf c.args.may r (g.S.Store.record_of c.mark_if.new.store) = c.in_ok-mark_if-in-Asks.ensures in
-    let m = marks_keep c.args.may r (g.S.Store.record_of c.mark_if.new.store) n in
-    let b = rw (m.0, m.1) at c.in_ok-next-in-Asks.ensures.begun in
-    all_more c.search.result task (outcomes c.args.digits.now.items) (outcomes c.push.new.self.items) (outcomes c.search.new.digits.items) r (g.S.Store.record_of c.resume.new.store) (g.S.Store.record_of c.search.new.store) (a.first ∙ ap (λ (ds : List ℕ). first_from (kind task) task.limits.device_bound (outcomes ds)) (sym c.push.ensures)) b (rw m.0 at c.in_ok-next-in-Asks.ensures.grows) c.search.ensures.ok
+    let m = g.S.Store.record_of c.expected_success.new.store in
+    let digits = c.args.digits.now.items in
+    let more = c.choose.new.digits.items in
+    let stopped = asked_here task digits c.args.stop r.present c.in-Asks.is c.requires.stopped in
+    let still = c.in_ok-expected-in-Asks.ensures.still in
+    let there = still_stopped task (outcomes digits) r m stopped still in
+    let allowed : c.is_at_most-success.result ≡ is_allowed task (outcomes digits ++ Success ∷ []) =
+    c.is_at_most-success.ensures ∙ (λ i. is_at_most (c.failures.result) (c.after-won.ensures i)) ∙ allowed_there task digits m.present c.in_ok-expected-in-Asks.expected true c.args.count c.failures.result there c.in_ok-expected-in-Asks.ensures.expects c.requires.count c.failures.ensures in
+    let steps : m.present.steps ≡ r.present.steps = ap (λ (s : State). s.steps) still.state in
+    let begun = still.begun in
+    let b = c.in_ok-next-in-Asks.ensures.begun in
+    let l = c.in_ok-next-in-Asks.ensures.grows in
+    all_more c.search.result task (outcomes digits) (outcomes more) (outcomes c.search.new.digits.items) r (g.S.Store.record_of c.choose.new.store) (g.S.Store.record_of c.search.new.store)
+    (first_goes_on task digits more r.present c.is_at_most-success.result (asked_now task digits r.present stopped) allowed c.choose.ensures.digits)
+    (omega arith) (omega arith) c.search.ensures.ok
 
 pub search-requires : goal.search-requires
 search-requires g t c =
     let task = task_in c.args.rehearsal.now in
     let r = g.S.Store.record_of c.args.store.now in
-    let a = asked_here task c.args.digits.now.items c.args.stop r.present c.in-Asks.is c.requires.stopped in
-    let m : MarksIf c.args.may r (g.S.Store.record_of c.mark_if.new.store) = c.in_ok-mark_if-in-Asks.ensures in
-    let p = marks_keep c.args.may r (g.S.Store.record_of c.mark_if.new.store) m in
-    let b = rw (p.0, p.1) at c.in_ok-next-in-Asks.ensures.begun in
-    let d = c.push.ensures in
-    let l : length c.push.new.self.items ≡ length c.args.digits.now.items + 1 = ap length d ∙ length-append c.args.digits.now.items (48 ∷ []) in
+    let m = g.S.Store.record_of c.expected_success.new.store in
+    let digits = c.args.digits.now.items in
+    let stopped = asked_here task digits c.args.stop r.present c.in-Asks.is c.requires.stopped in
+    let still = c.in_ok-expected-in-Asks.ensures.still in
+    let a = asked_now task digits r.present stopped in
+    let made = c.in_ok-next-in-Asks.ensures in
+    let d = c.choose.ensures.digits in
+    let l : length c.choose.new.digits.items ≡ length digits + 1 = ap length d ∙ length-append digits (outcome_digit (outcome_when c.is_at_most-success.result) ∷ []) in
     let k = a.room in
     let n = c.requires.bound in
     let u = c.requires.begun in
     let v = c.requires.within in
-    let w = c.in_ok-next-in-Asks.ensures.within in
+    let w = made.within in
+    let b = made.begun in
+    let steps : m.present.steps ≡ r.present.steps = ap (λ (s : State). s.steps) still.state in
+    let begun = still.begun in
+    let grows = made.grows in
+    let count = c.after-more.ensures ∙ counted_on task digits c.choose.new.digits.items m.present c.in_ok-expected-in-Asks.expected c.is_at_most-success.result c.args.count (still_stopped task (outcomes digits) r m stopped still) c.in_ok-expected-in-Asks.ensures.expects c.requires.count d in
     λ κs h. (
       omega (arith, c.decreases),
       (
         h,
         (
-          may_fail_on c.args.may task c.args.digits.now.items c.push.new.self.items c.requires.may d,
-          (
-            goes_on c.args.may task c.args.digits.now.items c.args.stop c.in_ok-next-in-Asks.next r (g.S.Store.record_of c.mark_if.new.store) (g.S.Store.record_of c.resume.new.store) c.push.new.self.items a m d c.in_ok-next-in-Asks.ensures.stops,
-            (
-              marks_go_on c.args.may task c.args.digits.now.items c.args.stop r (g.S.Store.record_of c.mark_if.new.store) (g.S.Store.record_of c.resume.new.store) c.push.new.self.items a c.requires.may m d c.in_ok-next-in-Asks.ensures.marks c.requires.marks,
-              (
-                digits_go_on c.args.digits.now.items c.push.new.self.items d c.requires.digits,
-                (w, (omega arith, n)),
-              ),
-            ),
-          ),
+          count,
+          (made.stopped, (made.marks, (digits_on digits c.choose.new.digits.items (outcome_when c.is_at_most-success.result) d c.requires.digits, (w, (omega arith, n))))),
         ),
       ),
     )

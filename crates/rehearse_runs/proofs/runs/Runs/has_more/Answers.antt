@@ -1,19 +1,20 @@
-use Rattle.std.proofs.Common.{ℕ, Option, ◌∙◌, ap}
-use Rattle.rehearse_terms.specs.State.{Text}
-use Rattle.rehearse_terms.specs.Outcomes.{has_success}
+use Rattle.std.proofs.Common.{◌∙◌}
 use Rattle.rehearse_runs.specs.RunsShown.{outcomes}
 use Rattle.rehearse_machine.specs.Tasks.{task_in}
-use Rattle.rehearse_runs.proofs.RunsLemmas.{more_behind, more_at_first}
+use Rattle.rehearse_runs.proofs.RunsLemmas.{more_behind, none_behind, more_at_first}
 use Rattle.rehearse_runs.proofs.runs.Runs.has_more.Goals as goal
 
-pub returns-then-self : goal.returns-then-self
-returns-then-self g c =
+pub returns-in-At : goal.returns-in-At
+returns-in-At g c =
     let r = c.self.inside in
-    let task = task_in r.rehearsal in
-    rw (← c.self.view_is) (c.has_success.ensures ∙ ap (λ (m : Option ℕ). has_success m (outcomes c.as_slice.result.now)) c.failures.ensures ∙ ap (λ (t : Text). has_success task.failures (outcomes t)) c.as_slice.ensures ∙ more_behind task r.has_given (outcomes r.word.items) c.if-self.true c.self.invariant.1)
+    rw (← c.self.view_is) (c.has_mark.ensures ∙ more_behind (task_in r.rehearsal) r.has_given (outcomes r.word.items) (g.S.Store.record_of r.store) r.phase c.in-At.field-0 c.in-At.is c.self.invariant.1 c.self.invariant.2)
 
-pub returns-else-self : goal.returns-else-self
-returns-else-self g c =
+pub returns-in-Over : goal.returns-in-Over
+returns-in-Over g c =
     let r = c.self.inside in
-    let task = task_in r.rehearsal in
-    rw (← c.self.view_is) (more_at_first task r.has_given (outcomes r.word.items) c.if-self.false)
+    rw (← c.self.view_is) (none_behind (task_in r.rehearsal) r.has_given (outcomes r.word.items) (g.S.Store.record_of r.store) r.phase c.in-Over.is c.self.invariant.2)
+
+pub returns-in-Fresh : goal.returns-in-Fresh
+returns-in-Fresh g c =
+    let r = c.self.inside in
+    rw (← c.self.view_is) (more_at_first (task_in r.rehearsal) r.has_given (outcomes r.word.items) (g.S.Store.record_of r.store) r.phase c.in-Fresh.is c.self.invariant.2)
