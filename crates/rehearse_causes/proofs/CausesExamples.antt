@@ -10,6 +10,7 @@ use Rattle.device_list.specs.DeviceList.{only}
 use Rattle.rehearse_terms.specs.State.{Text}
 use Rattle.rehearse_terms.specs.declared.shell.Shell.TheVariants.{Profile}
 use Rattle.rehearse_rules.specs.Execution.{End}
+use Rattle.rehearse_rules.specs.Expected.{Answered}
 use Rattle.rehearse_rules.specs.Runs.{Task}
 use Rattle.rehearse_rules.proofs.ExampleRehearsals.{limits, bootcmd}
 use Rattle.rehearse_machine.specs.Tasks.{task_found}
@@ -94,6 +95,19 @@ of_a_given_text : option_map (λ t. causes_text (causes t)) (task_found ((codes 
 unfolding tree_of fields joined atoms digits
 of_a_given_text = refl
 
+-- the device list `call load ** : normal 1` and `final boot`
+abbrev expected : ℕ → Text → Task
+expected failures text = record (bootcmd (limits (only ((codes "load", record quiet { normal = true }) ∷ (codes "boot", record quiet { ends = Some Boots }) ∷ [])) 4 20) text) { failures = Some failures }
+
+-- a failure of `load` is nothing that has to fail, and its success is
+success_is_a_cause : causes_text (causes (expected 1 (codes "load a && exit 3; boot"))) ≡ codes "cause 1 end 3\nsucceeds load a\ncause 0 booted boot\ncause 1 end 1\nfails boot\n"
+unfolding tree_of fields joined atoms digits
+success_is_a_cause = refl
+
+as_expected : checked_of (expected 0 (codes "load a && exit 3; boot")) ≡ ([], true)
+unfolding tree_of fields joined atoms digits
+as_expected = refl
+
 -- ---- checks
 
 -- what boots is not told
@@ -121,6 +135,9 @@ b = codes "load" ∷ codes "b" ∷ []
 counted : times a (a ∷ b ∷ a ∷ []) ≡ 2
 counted = refl
 
+abbrev fails : List Text → Answered
+fails words = (false, words)
+
 -- as often, and in any order
 among_as_often : are_among (b ∷ a ∷ []) (a ∷ b ∷ []) ≡ true
 among_as_often = refl
@@ -128,11 +145,11 @@ among_as_often = refl
 not_as_often : are_among (a ∷ a ∷ []) (a ∷ b ∷ []) ≡ false
 not_as_often = refl
 
-another_ending : covers (record { ending = End 0; fails = [] }) (record { ending = End 1; fails = a ∷ [] }) ≡ false
+another_ending : covers (record { ending = End 0; fails = [] }) (record { ending = End 1; fails = fails a ∷ [] }) ≡ false
 another_ending = refl
 
-needs_as_much : needs_less (record { ending = End 0; fails = a ∷ b ∷ [] }) (record { ending = End 0; fails = b ∷ a ∷ [] }) ≡ false
+needs_as_much : needs_less (record { ending = End 0; fails = fails a ∷ fails b ∷ [] }) (record { ending = End 0; fails = fails b ∷ fails a ∷ [] }) ≡ false
 needs_as_much = refl
 
-needs_nothing : needs_less (record { ending = End 0; fails = [] }) (record { ending = End 0; fails = b ∷ [] }) ≡ true
+needs_nothing : needs_less (record { ending = End 0; fails = [] }) (record { ending = End 0; fails = fails b ∷ [] }) ≡ true
 needs_nothing = refl

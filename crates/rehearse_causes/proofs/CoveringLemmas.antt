@@ -6,10 +6,10 @@ use Rattle.std.specs.List.{list_all}
 use Rattle.std.specs.Str.{bytes_eq}
 use Rattle.rehearse_terms.specs.State.{LoggedCommand, Text, same_words}
 use Rattle.rehearse_states.specs.Endings.{ending_eq}
-use Rattle.rehearse_states.specs.EndingLines.{failed}
-use Rattle.rehearse_states.specs.Flow.{asked_in}
+use Rattle.device_list.specs.DeviceList.{Devices}
+use Rattle.rehearse_rules.specs.Expected.{Answered, asked_in, is_unexpected, unexpected_of}
 use Rattle.rehearse_states.proofs.RowsOfRuns.{ending_same, ending_itself}
-use Rattle.rehearse_causes.specs.Causes.{Cause, times, are_among, covers}
+use Rattle.rehearse_causes.specs.Causes.{Cause, times, are_among, covers, calls}
 
 pub both_left : (a b : Bool) → (a && b) ≡ true → a ≡ true
 both_left true b h = refl
@@ -90,15 +90,15 @@ among_on xs ys zs h k = all_pass (λ c. nat_le (times c xs) (times c zs)) xs eac
 -- ---- causes
 
 pub covers_itself : (c : Cause) → covers c c ≡ true
-covers_itself c = both_true (ending_eq c.ending c.ending) (are_among c.fails c.fails) (ending_itself c.ending) (among_themselves c.fails)
+covers_itself c = both_true (ending_eq c.ending c.ending) (are_among (calls c) (calls c)) (ending_itself c.ending) (among_themselves (calls c))
 
 pub covers_on : (a b c : Cause) → covers a b ≡ true → covers b c ≡ true → covers a c ≡ true
 covers_on a b c h k =
-    let one = ending_same a.ending b.ending (both_left (ending_eq a.ending b.ending) (are_among a.fails b.fails) h) in
-    let two = ending_same b.ending c.ending (both_left (ending_eq b.ending c.ending) (are_among b.fails c.fails) k) in
-    both_true (ending_eq a.ending c.ending) (are_among a.fails c.fails)
+    let one = ending_same a.ending b.ending (both_left (ending_eq a.ending b.ending) (are_among (calls a) (calls b)) h) in
+    let two = ending_same b.ending c.ending (both_left (ending_eq b.ending c.ending) (are_among (calls b) (calls c)) k) in
+    both_true (ending_eq a.ending c.ending) (are_among (calls a) (calls c))
     (rw (one ∙ two) (ending_itself c.ending))
-    (among_on a.fails b.fails c.fails (both_right (ending_eq a.ending b.ending) (are_among a.fails b.fails) h) (both_right (ending_eq b.ending c.ending) (are_among b.fails c.fails) k))
+    (among_on (calls a) (calls b) (calls c) (both_right (ending_eq a.ending b.ending) (are_among (calls a) (calls b)) h) (both_right (ending_eq b.ending c.ending) (are_among (calls b) (calls c)) k))
 
 -- ---- entries of a log, by their words
 
@@ -111,14 +111,19 @@ counted_entries c (e ∷ entries) = by (same_words c e.words) refl (counted_entr
     by true s on = rw s (ap (λ (n : ℕ). suc n) on)
     by false s on = rw s on
 
--- those of a log that failed and were asked
-pub failing_words : (log : List LoggedCommand) → map (λ e. e.words) (filter (λ e. not e.again && not e.success) log) ≡ failed (asked_in log)
-failing_words [] = refl
-failing_words (e ∷ log) = by e.again e.success refl refl (failing_words log)
+-- those of a log that were asked and whose answers are unexpected
+pub failing_answers : (devices : Devices) (log : List LoggedCommand) → map (λ e. (e.success, e.words)) (filter (λ e. not e.again && is_unexpected devices (e.success, e.words)) log) ≡ unexpected_of devices (asked_in log)
+failing_answers devices [] = refl
+failing_answers devices (e ∷ log) = by e.again (is_unexpected devices (e.success, e.words)) refl refl (failing_answers devices log)
   where
-    by : (again success : Bool) → e.again ≡ again → e.success ≡ success
-        → map (λ e. e.words) (filter (λ e. not e.again && not e.success) log) ≡ failed (asked_in log)
-        → map (λ e. e.words) (filter (λ e. not e.again && not e.success) (e ∷ log)) ≡ failed (asked_in (e ∷ log))
-    by true success p q on = rw p on
-    by false true p q on = rw (p, q) on
-    by false false p q on = rw (p, q) (ap (λ (ws : List (List Text)). e.words ∷ ws) on)
+    by : (again other : Bool) → e.again ≡ again → is_unexpected devices (e.success, e.words) ≡ other
+        → map (λ e. (e.success, e.words)) (filter (λ e. not e.again && is_unexpected devices (e.success, e.words)) log) ≡ unexpected_of devices (asked_in log)
+        → map (λ e. (e.success, e.words)) (filter (λ e. not e.again && is_unexpected devices (e.success, e.words)) (e ∷ log)) ≡ unexpected_of devices (asked_in (e ∷ log))
+    by true other p q on = rw p on
+    by false true p q on = rw (p, q) (ap (λ (answers : List Answered). (e.success, e.words) ∷ answers) on)
+    by false false p q on = rw (p, q) on
+
+-- the words of answers
+pub words_of_answers : (log : List LoggedCommand) → map (λ (a : Answered). a.1) (map (λ (e : LoggedCommand). (e.success, e.words)) log) ≡ map (λ e. e.words) log
+words_of_answers [] = refl
+words_of_answers (e ∷ log) = ap (λ (words : List (List Text)). e.words ∷ words) (words_of_answers log)

@@ -1,5 +1,5 @@
 -- Worked examples, computed: the numbers of causes, their places, and those that none before them covers.
-use Rattle.std.proofs.Common.{[], ◌∷◌, List, codes, refl, ◌≡◌}
+use Rattle.std.proofs.Common.{false, [], ◌∷◌, List, codes, refl, ◌≡◌}
 use Rattle.rehearse_terms.specs.State.{Text}
 use Rattle.rehearse_rules.specs.Execution.{End}
 use Rattle.rehearse_causes.specs.Causes.{Cause, least}
@@ -13,13 +13,13 @@ abbrev b : List Text
 b = codes "load" ∷ codes "b" ∷ []
 
 abbrev on_a : Cause
-on_a = record { ending = End 3; fails = a ∷ [] }
+on_a = record { ending = End 3; fails = (false, a) ∷ [] }
 
 abbrev on_both : Cause
-on_both = record { ending = End 3; fails = b ∷ a ∷ [] }
+on_both = record { ending = End 3; fails = (false, b) ∷ (false, a) ∷ [] }
 
 abbrev elsewhere : Cause
-elsewhere = record { ending = End 4; fails = b ∷ a ∷ [] }
+elsewhere = record { ending = End 4; fails = (false, b) ∷ (false, a) ∷ [] }
 
 -- ---- numbers, as another program computes them
 

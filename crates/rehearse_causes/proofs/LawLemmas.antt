@@ -8,7 +8,7 @@ use Rattle.rehearse_rules.specs.Runs.{Task, runs, rest, IsListed}
 use Rattle.rehearse_rules.proofs.TaskChoices.{runs_are_runs, task_stands}
 use Rattle.rehearse_states.specs.Endings.{ending, ending_eq}
 use Rattle.rehearse_states.proofs.RowsOfRuns.{ending_same}
-use Rattle.rehearse_causes.specs.Causes.{Cause, are_among, cause_on, causes, covers, needs_less, least, least_behind}
+use Rattle.rehearse_causes.specs.Causes.{Cause, are_among, cause_on, causes, covers, needs_less, least, least_behind, calls}
 use Rattle.rehearse_causes.specs.CauseLines.{is_booted, is_fine, reported}
 use Rattle.rehearse_causes.specs.Laws.{StandsIn, CausesAreRuns, RunsHaveCauses, CausesStandAlone, ChecksAreRight}
 use Rattle.rehearse_causes.proofs.CoveringLemmas.{both_left, covers_itself}
@@ -206,7 +206,7 @@ checks_are_right task = (all_boot, one_fails)
     all_boot : is_fine true (reported true (causes task)) ≡ true → (w : OutcomeWord) → IsListed task w → is_booted (ending task w) ≡ true
     all_boot h w listed =
         let c = has_cause task w listed in
-        let same = ending_same c.0.ending (ending task w) (both_left (ending_eq c.0.ending (ending task w)) (are_among c.0.fails (cause_on task w).fails) c.2) in
+        let same = ending_same c.0.ending (ending task w) (both_left (ending_eq c.0.ending (ending task w)) (are_among (calls c.0) (calls (cause_on task w))) c.2) in
         subst (λ (e : Ending). is_booted e ≡ true) same (boots (causes task) c.0 h c.1)
 
     one_fails : is_fine true (reported true (causes task)) ≡ false → (w : OutcomeWord) × IsListed task w × (is_booted (ending task w) ≡ false)

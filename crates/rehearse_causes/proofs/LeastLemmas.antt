@@ -10,7 +10,7 @@ use Rattle.rehearse_rules.specs.Runs.{Task, ending_of, run_on}
 use Rattle.rehearse_records.specs.RunViewShown.{shown_ending, shown_moment}
 use Rattle.rehearse_records.specs.declared.run_view.RunView.{RunView}
 use Rattle.rehearse_runs.specs.Giving.{ShowsRun}
-use Rattle.rehearse_states.specs.EndingLines.{failed}
+use Rattle.rehearse_rules.specs.Expected.{Answered, unexpected_of}
 use Rattle.rehearse_states.specs.Flow.{asked_in}
 use Rattle.rehearse_causes.specs.Causes.{Cause, cause_on, covers, needs_less, least_behind, least}
 use Rattle.rehearse_causes.proofs.CoveringLemmas.{both_left, both_right, both_true, covers_on}
@@ -239,10 +239,10 @@ kept_step cs c = least_more [] cs c ∙ by (covered c cs) refl
 -- ---- what is seen of a run
 
 pub cause_shown : {S : Type 0} (g : Ghosts S) (task : Task) (w : OutcomeWord) (v : RunView S) → ShowsRun g task w v
-    → record { ending = shown_ending v; fails = failed (asked_in (shown_moment g v).log) } ≡ cause_on task w
+    → record { ending = shown_ending v; fails = unexpected_of task.limits.devices (asked_in (shown_moment g v).log) } ≡ cause_on task w
 cause_shown g task w v h =
-    ap (λ (e : Ending). made e (failed (asked_in (shown_moment g v).log))) h.ending
-    ∙ ap (λ (s : State). made (ending_of (run_on task w)) (failed (asked_in s.log))) h.moment
+    ap (λ (e : Ending). made e (unexpected_of task.limits.devices (asked_in (shown_moment g v).log))) h.ending
+    ∙ ap (λ (s : State). made (ending_of (run_on task w)) (unexpected_of task.limits.devices (asked_in s.log))) h.moment
   where
-    made : Ending → List (List Text) → Cause
+    made : Ending → List Answered → Cause
     made ending fails = record { ending = ending; fails = fails }

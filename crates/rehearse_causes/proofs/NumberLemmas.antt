@@ -5,7 +5,7 @@ use Rattle.std.proofs.lemmas.Bool.{eq-eqb, eqb-true, le-leb, leb-true}
 use Rattle.std.specs.List.{list_any}
 use Rattle.rehearse_terms.specs.State.{Text, same_words}
 use Rattle.rehearse_states.specs.Endings.{ending_eq}
-use Rattle.rehearse_causes.specs.Causes.{Cause, times, are_among, covers}
+use Rattle.rehearse_causes.specs.Causes.{Cause, times, are_among, covers, calls}
 use Rattle.rehearse_causes.specs.Keeping.{is_covered, is_covered_by}
 use Rattle.rehearse_causes.specs.Numbers.{cause_number, command_number, each_fail, each_with, part_numbers, with_fail, with_number}
 use Rattle.rehearse_causes.proofs.CoveringLemmas.{IsOne, first, later, all_pass, passes_all, one_counts, counted_is_one, words_same, words_themselves, both_right}
@@ -134,8 +134,8 @@ part_found ss s (c ∷ cs) ds is h =
       | inr none ↦ part_found (each_fail ss c) s cs ds (each_keeps (command_number c) s ss is) (among_rest c ds cs none h)
     ]
 
-covering_number : (k c : Cause) → covers k c ≡ true → list_any (nat_eq (cause_number k)) (part_numbers c.fails) ≡ true
-covering_number k c h = part_found (0 ∷ []) 0 c.fails k.fails refl (both_right (ending_eq k.ending c.ending) (are_among k.fails c.fails) h)
+covering_number : (k c : Cause) → covers k c ≡ true → list_any (nat_eq (cause_number k)) (part_numbers (calls c)) ≡ true
+covering_number k c h = part_found (0 ∷ []) 0 (calls c) (calls k) refl (both_right (ending_eq k.ending c.ending) (are_among (calls k) (calls c)) h)
 
 -- ---- those with one of these numbers
 
@@ -170,21 +170,21 @@ any_and_false : (p : ℕ → Bool) (ns : List ℕ) → list_any (λ n. p n && fa
 any_and_false p [] = refl
 any_and_false p (n ∷ ns) = ap (λ (b : Bool). b || list_any (λ m. p m && false) ns) (and_false (p n)) ∙ any_and_false p ns
 
-found_by_number : (k c : Cause) → list_any (λ n. nat_eq (cause_number k) n && covers k c) (part_numbers c.fails) ≡ covers k c
+found_by_number : (k c : Cause) → list_any (λ n. nat_eq (cause_number k) n && covers k c) (part_numbers (calls c)) ≡ covers k c
 found_by_number k c = by (covers k c) refl
   where
-    by : (b : Bool) → covers k c ≡ b → list_any (λ n. nat_eq (cause_number k) n && covers k c) (part_numbers c.fails) ≡ covers k c
+    by : (b : Bool) → covers k c ≡ b → list_any (λ n. nat_eq (cause_number k) n && covers k c) (part_numbers (calls c)) ≡ covers k c
     by true e =
-        ap (λ (b : Bool). list_any (λ n. nat_eq (cause_number k) n && b) (part_numbers c.fails)) e
-        ∙ any_and_true (nat_eq (cause_number k)) (part_numbers c.fails) ∙ covering_number k c e ∙ sym e
+        ap (λ (b : Bool). list_any (λ n. nat_eq (cause_number k) n && b) (part_numbers (calls c))) e
+        ∙ any_and_true (nat_eq (cause_number k)) (part_numbers (calls c)) ∙ covering_number k c e ∙ sym e
     by false e =
-        ap (λ (b : Bool). list_any (λ n. nat_eq (cause_number k) n && b) (part_numbers c.fails)) e
-        ∙ any_and_false (nat_eq (cause_number k)) (part_numbers c.fails) ∙ sym e
+        ap (λ (b : Bool). list_any (λ n. nat_eq (cause_number k) n && b) (part_numbers (calls c))) e
+        ∙ any_and_false (nat_eq (cause_number k)) (part_numbers (calls c)) ∙ sym e
 
 -- no other needs to be compared
-pub covered_by_numbers : (ks : List Cause) (c : Cause) → list_any (λ n. is_covered_by n ks c) (part_numbers c.fails) ≡ is_covered ks c
-covered_by_numbers [] c = any_none (part_numbers c.fails)
+pub covered_by_numbers : (ks : List Cause) (c : Cause) → list_any (λ n. is_covered_by n ks c) (part_numbers (calls c)) ≡ is_covered ks c
+covered_by_numbers [] c = any_none (part_numbers (calls c))
 covered_by_numbers (k ∷ ks) c =
-    any_either (λ n. nat_eq (cause_number k) n && covers k c) (λ n. is_covered_by n ks c) (part_numbers c.fails)
-    ∙ ap (λ (b : Bool). b || list_any (λ n. is_covered_by n ks c) (part_numbers c.fails)) (found_by_number k c)
+    any_either (λ n. nat_eq (cause_number k) n && covers k c) (λ n. is_covered_by n ks c) (part_numbers (calls c))
+    ∙ ap (λ (b : Bool). b || list_any (λ n. is_covered_by n ks c) (part_numbers (calls c))) (found_by_number k c)
     ∙ ap (λ (b : Bool). covers k c || b) (covered_by_numbers ks c)

@@ -1,4 +1,4 @@
--- The lines that say what has to fail. Ours.
+-- The lines that say what it takes. Ours.
 use Rattle.std.specs.Prelude.{Bool, true, false, not, cond, List, [], ◌∷◌, ◌++◌, filter, flat_map, length, codes, decimal}
 use Rattle.device_list.specs.declared.finish.BoardEnd.TheVariants.{Boots, Restarts, Halts}
 use Rattle.rehearse_terms.specs.State.{Text}
@@ -7,7 +7,7 @@ use Rattle.rehearse_rules.specs.Listing.{line, last_line}
 use Rattle.rehearse_states.specs.EndingLines.{fails_lines}
 use Rattle.rehearse_causes.specs.Causes.{Cause}
 
--- how many commands fail, and how the run then ends
+-- how many answers are unexpected, and how the run then ends
 abbrev pub cause_line : Cause → Text
 cause_line c = line (codes "cause " ++ decimal (length c.fails) ++ codes " " ++ last_line c.ending)
 

@@ -4,14 +4,19 @@ use Rattle.std.specs.List.{list_all, list_any}
 use Rattle.rehearse_terms.specs.Outcomes.{OutcomeWord}
 use Rattle.rehearse_terms.specs.State.{Text, same_words}
 use Rattle.rehearse_rules.specs.Execution.{Ending}
+use Rattle.rehearse_rules.specs.Expected.{Answered}
 use Rattle.rehearse_rules.specs.Runs.{Task, runs}
 use Rattle.rehearse_states.specs.Endings.{ending, ending_eq}
 use Rattle.rehearse_states.specs.EndingLines.{failing}
 
--- how a run ends, and the device commands that fail in it, in its order
+-- how a run ends, and the device commands whose answers are unexpected in it, in its order
 pub record Cause : Type 0 where
   pub ending : Ending
-  pub fails : List (List Text)
+  pub fails : List Answered
+
+-- the words of these commands: which answer is unexpected, depends on the words alone
+abbrev pub calls : Cause → List (List Text)
+calls c = map (λ a. a.1) c.fails
 
 -- how often a command is among others
 abbrev pub times : (command : List Text) → List (List Text) → ℕ
@@ -21,9 +26,9 @@ times command commands = length (filter (same_words command) commands)
 abbrev pub are_among : (fewer more : List (List Text)) → Bool
 are_among fewer more = list_all (λ command. nat_le (times command fewer) (times command more)) fewer
 
--- the same ending, and nothing fails that does not fail in the other one too
+-- the same ending, and nothing is unexpected that is not unexpected in the other one too
 abbrev pub covers : (one other : Cause) → Bool
-covers one other = ending_eq one.ending other.ending && are_among one.fails other.fails
+covers one other = ending_eq one.ending other.ending && are_among (calls one) (calls other)
 
 -- the same ending, and less fails
 abbrev pub needs_less : (one other : Cause) → Bool
@@ -39,7 +44,7 @@ least_behind before (c ∷ cs) =
 abbrev pub least : List Cause → List Cause
 least cs = least_behind [] cs
 
--- how the run on a word ends, and what fails in it
+-- how the run on a word ends, and what is unexpected in it
 abbrev pub cause_on : Task → OutcomeWord → Cause
 cause_on task w = record { ending = ending task w; fails = failing task w }
 

@@ -2,7 +2,7 @@
 use Rattle.std.specs.Prelude.{ℕ, ◌+◌, ◌*◌, ◌/◌, ◌%◌, ◌^◌, bit_xor, List, [], ◌∷◌, fold}
 use Rattle.std.specs.List.{flat_map}
 use Rattle.rehearse_terms.specs.State.{Text}
-use Rattle.rehearse_causes.specs.Causes.{Cause}
+use Rattle.rehearse_causes.specs.Causes.{Cause, calls}
 
 -- one more byte
 abbrev pub mixed : (hash byte : ℕ) → ℕ
@@ -29,7 +29,7 @@ abbrev pub fails_number : List (List Text) → ℕ
 fails_number fails = fold with_fail 0 fails
 
 abbrev pub cause_number : Cause → ℕ
-cause_number c = fails_number c.fails
+cause_number c = fails_number (calls c)
 
 -- each without the number of one more and with it
 abbrev pub each_with : (sums : List ℕ) → (number : ℕ) → List ℕ

@@ -1,27 +1,28 @@
-//! How a run ends, and what fails in it.
+//! How a run ends, and what is unexpected in it.
 ghost use Rattle.std.specs.Prelude.{◌≡◌, ◌++◌, IfOk, OnOk, codes, decimal, map, filter, length, nat_le, not, ◌&&◌};
 ghost use Rattle.std.specs.List.{list_all};
 ghost use Rattle.rehearse_rules.specs.EndingsShown.{ending_shown, halt_shown};
 ghost use Rattle.rehearse_rules.specs.Listing.{line, last_line};
 ghost use Rattle.rehearse_terms.specs.State.{same_words};
 ghost use Rattle.rehearse_records.specs.RunViewShown.{shown_ending, shown_moment};
-ghost use Rattle.rehearse_states.specs.EndingLines.{fails_lines, failed};
-ghost use Rattle.rehearse_states.specs.Flow.{asked_in};
-ghost use Rattle.rehearse_causes.specs.Causes.{are_among, covers, times};
+ghost use Rattle.rehearse_states.specs.EndingLines.{fails_lines};
+ghost use Rattle.rehearse_rules.specs.Expected.{asked_in, is_unexpected, unexpected_of};
+ghost use Rattle.rehearse_causes.specs.Causes.{are_among, calls, covers, times};
 ghost use Rattle.rehearse_causes.specs.CauseLines.{cause_line, cause_lines, causes_text, is_booted};
 ghost use Rattle.rehearse_causes.specs.Numbers.{cause_number, part_numbers};
 ghost use Rattle.text.specs.TextsShown.{bytes_of_words};
 
 use crate::number::{fails_number, part_numbers};
 use bootstore_state::{LogEntry, Store, StoreError};
-use device_list::BoardEnd;
+use device_list::{BoardEnd, Devices};
+use rehearse_machine::is_unexpected;
 use rehearse_rules::{Ending, Halt};
 use rehearse_runs::RunView;
 use rehearse_states::{put_ending, put_fail, put_number, same_halt};
 use std::alloc::Global;
 use std::marker::Model;
 
-/// How a run ends, and the device commands that fail in it.
+/// How a run ends, and the device commands whose answers are unexpected in it.
 #[derive(Drop)]
 pub struct Cause {
     halt: Halt,
@@ -37,7 +38,7 @@ impl Model for Cause {
 
     ghost view = { λ cause. record {
       ending = halt_shown cause.halt;
-      fails = map (λ entry. entry.words) cause.fails.items;
+      fails = map (λ entry. (entry.success, entry.words)) cause.fails.items;
     } };
 }
 
@@ -57,15 +58,19 @@ fn halt_of(alloc: Global, ending: Ending<'_>) -> Result<Halt, StoreError>
     })
 }
 
-/// Copies of the device commands of a log that fail. One that is told again that it failed is left
+/// Copies of the device commands of a log whose answers are unexpected. One that is told an answer is left
 /// out. Errors: `Memory`.
-fn failing(alloc: Global, log: &[LogEntry]) -> Result<Vec<LogEntry>, StoreError>
-    ensures { IfOk result (λ fails. fails.items
-        ≡ filter (λ entry. not entry.again && not entry.success) log.now) }
+fn failing(
+    alloc: Global,
+    devices: &Devices,
+    log: &[LogEntry],
+) -> Result<Vec<LogEntry>, StoreError>
+    ensures { IfOk result (λ fails. fails.items ≡ filter (λ entry. not entry.again
+        && is_unexpected devices.now (entry.success, entry.words)) log.now) }
 {
     let mut fails = Vec::new(alloc);
     for entry in log {
-        if !entry.again && !entry.success {
+        if is_unexpected(devices, entry) {
             fails.push(entry.copy()?)?;
         }
     }
@@ -106,38 +111,42 @@ fn are_among(fewer: &[LogEntry], more: &[LogEntry]) -> bool
     fewer.iter().all(|entry| is_within(entry, fewer, more))
 }
 
-/// Adds the lines of device commands that failed. Errors: `Memory`.
+/// Adds the lines of device commands with their answers. Errors: `Memory`.
 fn put_fails(text: &mut Vec<u8>, fails: &[LogEntry]) -> Result<(), StoreError>
     ensures { OnOk result (text.new.items
-        ≡ text.old.items ++ fails_lines (map (λ e. e.words) fails.now)) }
+        ≡ text.old.items ++ fails_lines (map (λ e. (e.success, e.words)) fails.now)) }
 {
     for entry in fails {
-        put_fail(text, &entry.words)?;
+        put_fail(text, entry.success, &entry.words)?;
     }
     Ok(())
 }
 
 impl Cause {
-    /// How the run of a view ends, and what fails in it. Errors: `Memory`.
-    pub fn of<S: Store>(alloc: Global, view: &RunView<'_, S>) -> Result<Cause, StoreError>
+    /// How the run of a view ends, and what is unexpected in it. Errors: `Memory`.
+    pub fn of<S: Store>(
+        alloc: Global,
+        devices: &Devices,
+        view: &RunView<'_, S>,
+    ) -> Result<Cause, StoreError>
         ensures { IfOk result (λ cause. cause ≡ record {
           ending = shown_ending view.now;
-          fails = failed (asked_in (shown_moment S.Store view.now).log);
+          fails = unexpected_of devices.now (asked_in (shown_moment S.Store view.now).log);
         }) }
     {
         let halt = halt_of(alloc, view.ending())?;
-        let fails = failing(alloc, view.log())?;
+        let fails = failing(alloc, devices, view.log())?;
         Ok(Cause { halt, fails })
     }
 
-    /// Whether the other one has the same ending, and all that fails here fails there too.
+    /// Whether the other one has the same ending, and all that is unexpected here is unexpected there too.
     pub fn covers(&self, other: &Cause) -> bool
         ensures { result ≡ covers self.now other.now }
     {
         same_halt(&self.halt, &other.halt) && are_among(&self.fails, &other.fails)
     }
 
-    /// How many commands fail.
+    /// How many answers are unexpected.
     pub(crate) fn count(&self) -> usize
         ensures { result ≡ length self.now.fails }
     {
@@ -153,7 +162,7 @@ impl Cause {
 
     /// The number of each part of what fails. Errors: `Memory`.
     pub(crate) fn part_numbers(&self, alloc: Global) -> Result<Vec<u64>, StoreError>
-        ensures { IfOk result (λ made. made.items ≡ part_numbers self.now.fails) }
+        ensures { IfOk result (λ made. made.items ≡ part_numbers (calls self.now)) }
     {
         part_numbers(alloc, &self.fails)
     }

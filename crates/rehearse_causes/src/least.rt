@@ -30,9 +30,10 @@ fn gathered<S: Store>(alloc: Global, runs: &mut Runs<'_, S>) -> Result<Vec<Cause
         ≡ foremost (map (cause_on runs.old.task) runs.old.to_come)) }
     ensures err { IfErr result (λ e. e ≡ Memory) }
 {
+    let devices = runs.devices();
     let mut kept = Kept::new(alloc);
     while let Some(view) = runs.next()? {
-        let Ok(cause) = Cause::of(alloc, &view) else {
+        let Ok(cause) = Cause::of(alloc, devices, &view) else {
             return Err(RehearseError::Memory);
         };
         let Ok(()) = kept.keep(alloc, cause) else {

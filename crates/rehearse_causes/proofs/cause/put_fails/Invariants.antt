@@ -4,4 +4,4 @@ use Rattle.rehearse_causes.proofs.cause.put_fails.Given as goal
 
 -- the lines of the commands so far were added
 abbrev pub invariant-loop-entry : goal.invariant-loop-entry
-invariant-loop-entry l = l.text.items ≡ l.fn.text.items ++ fails_lines (map (λ e. e.words) (take l.entry-index l.fails))
+invariant-loop-entry l = l.text.items ≡ l.fn.text.items ++ fails_lines (map (λ e. (e.success, e.words)) (take l.entry-index l.fails))
