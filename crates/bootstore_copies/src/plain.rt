@@ -102,6 +102,10 @@ impl Store for Plain {
         &self.present
     }
 
+    fn has_mark(&self) -> bool {
+        !self.marked.is_empty()
+    }
+
     fn begun(&self) -> u64 {
         self.begun
     }
