@@ -1,5 +1,5 @@
 -- What is kept of a run, starting from the last.
-use Rattle.std.proofs.Common.{◌≡◌, ℕ, ◌+◌, ◌-◌, ◌≤◌, ◌<◌, Bool, true, false, cond, List, [], ◌∷◌, ◌++◌, ◌&&◌, ◌⊎◌, ⊎_elim, inl, inr, leb, eqb, Option, Some, None, is_some, length, length-append, get_or, set, take, reverse, refl, sym, ap, subst, ◌∙◌, arith, vec_len, vec_capacity}
+use Rattle.std.proofs.Common.{◌≡◌, ℕ, suc, ◌+◌, ◌-◌, ◌≤◌, ◌<◌, Bool, true, false, cond, List, [], ◌∷◌, ◌++◌, ◌&&◌, ◌⊎◌, ⊎_elim, inl, inr, leb, eqb, nat_eq, not, Option, Some, None, is_some, length, length-append, get_or, set, take, reverse, refl, sym, ap, subst, ◌∙◌, arith, vec_len, vec_capacity}
 use Rattle.std.specs.declared.alloc.Global.{Global}
 use Rattle.std.specs.declared.vec.Vec.{Vec}
 use Rattle.std.specs.Ordering.{nat_cmp, is_eq}
@@ -35,6 +35,19 @@ nothing_marked m [] rooted none = refl
 nothing_marked m (Mark mark ∷ kept) rooted none = cc
 nothing_marked m (Change i ∷ []) rooted none = cc
 nothing_marked m (Change i ∷ j ∷ kept) rooted none = let gone = nothing_marked (undone i m) (j ∷ kept) rooted none in cc
+
+more_than_none : (n : ℕ) → not (nat_eq (suc n) 0) ≡ true
+more_than_none n = grind arith
+
+-- a moment is marked just if something is kept
+marked_at_all : (m : Moment) (kept : List Kept) → begins_with_mark kept ≡ true → not (nat_eq (length kept) 0) ≡ not (nat_eq (length (marked_before m kept)) 0)
+marked_at_all m [] rooted = refl
+marked_at_all m (Mark mark ∷ kept) rooted = more_than_none (length kept) ∙ sym (more_than_none (length (marked_before (at_mark mark m) kept)))
+marked_at_all m (Change i ∷ []) rooted = cc
+marked_at_all m (Change i ∷ j ∷ kept) rooted = more_than_none (suc (length kept)) ∙ sym (more_than_none (length kept)) ∙ marked_at_all (undone i m) (j ∷ kept) rooted
+
+pub marked_if_kept : (m : Moment) (kept : Vec Kept Global) → begins_with_mark (reverse kept.items) ≡ true → not (nat_eq (vec_len kept) 0) ≡ not (nat_eq (length (marked_before m (reverse kept.items))) 0)
+marked_if_kept m kept rooted = ap (λ (n : ℕ). not (nat_eq n 0)) (kept.ok.0 ∙ sym (length-reverse kept.items)) ∙ marked_at_all m (reverse kept.items) rooted
 
 -- a list that ends with x, starting from the last element
 pub reverse_last : {A : Type 0} (xs ys : List A) (x : A) → xs ≡ ys ++ x ∷ [] → reverse xs ≡ x ∷ reverse ys

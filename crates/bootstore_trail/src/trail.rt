@@ -188,6 +188,10 @@ impl Store for Trail {
         &self.present
     }
 
+    fn has_mark(&self) -> bool {
+        !self.kept.is_empty()
+    }
+
     fn begun(&self) -> u64 {
         self.begun
     }
