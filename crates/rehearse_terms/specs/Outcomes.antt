@@ -1,5 +1,5 @@
 -- Outcome words: what the device commands of a run answered, in their order. Ours.
-use Rattle.std.specs.Prelude.{ℕ, zero, suc, pred, ◌-◌, nat_le, nat_lt, Bool, true, false, cond, ◌&&◌, List, [], ◌∷◌, ◌++◌, map, filter, Option, Some, None, option_map, ◌≡◌, ◌⊎◌}
+use Rattle.std.specs.Prelude.{ℕ, zero, suc, Bool, true, false, cond, ◌&&◌, List, [], ◌∷◌, ◌++◌, map, filter, ◌≡◌, ◌⊎◌}
 
 -- what a device command answers, printed as `0` and `1`
 pub data Outcome : Type 0 where
@@ -32,16 +32,6 @@ failures [] = 0
 failures (Success ∷ w) = failures w
 failures (Failure ∷ w) = suc (failures w)
 
--- whether at most so many failed; without a number, any may
-abbrev pub is_within : (most : Option ℕ) → OutcomeWord → Bool
-is_within None w = true
-is_within (Some most) w = nat_le (failures w) most
-
--- the words in which at most so many failed, in the same order
-abbrev pub few_of : (most : Option ℕ) → List OutcomeWord → List OutcomeWord
-few_of None ws = ws
-few_of (Some most) ws = filter (is_within (Some most)) ws
-
 abbrev pub outcome_eq : Outcome → Outcome → Bool
 outcome_eq Success Success = true
 outcome_eq Failure Failure = true
@@ -65,23 +55,6 @@ common_prefix [] w = []
 common_prefix (c ∷ v) [] = []
 common_prefix (c ∷ v) (d ∷ w) = cond (outcome_eq c d) (c ∷ common_prefix v w) []
 
--- whether one more may fail if so many did
-abbrev pub allows : (most : Option ℕ) → (failed : ℕ) → Bool
-allows None failed = true
-allows (Some most) failed = nat_lt failed most
-
--- how many more may fail after a failure
-abbrev pub one_less : Option ℕ → Option ℕ
-one_less None = None
-one_less (Some most) = Some (most - 1)
-
--- whether one of its successes may fail while what comes before it stays: the first one, since no other has fewer
--- failures before it
-abbrev pub has_success : (most : Option ℕ) → OutcomeWord → Bool
-has_success most [] = false
-has_success most (Success ∷ w) = allows most 0
-has_success most (Failure ∷ w) = has_success (one_less most) w
-
 -- dictionary order, success before failure
 abbrev pub comes_before : OutcomeWord → OutcomeWord → Bool
 comes_before [] [] = false
@@ -94,29 +67,9 @@ comes_before (Failure ∷ v) (Failure ∷ w) = comes_before v w
 
 -- ---- in which words the laws say what follows a run
 
--- the word cut after its last success that may fail, which becomes a failure; none if no success may fail
-abbrev pub turned : (most : Option ℕ) → OutcomeWord → Option OutcomeWord
-turned most [] = None
-turned most (Success ∷ w) =
-    elim (turned most w) [
-      | Some v ↦ Some (Success ∷ v)
-      | None ↦ cond (allows most 0) (Some (Failure ∷ [])) None
-    ]
-turned most (Failure ∷ w) = option_map (λ v. Failure ∷ v) (turned (one_less most) w)
-
 -- the kinds of words, after one outcome
 abbrev pub beyond : Outcome → (OutcomeWord → WordKind) → OutcomeWord → WordKind
 beyond outcome kind w = kind (outcome ∷ w)
-
--- success at each device command
-abbrev pub first_run : (OutcomeWord → WordKind) → ℕ → OutcomeWord
-first_run kind zero = []
-first_run kind (suc n) = elim (kind []) [ Run ↦ [] | Long ↦ [] | Short ↦ Success ∷ first_run (beyond Success kind) n ]
-
--- p, and success at each further device command
-abbrev pub first_from : (OutcomeWord → WordKind) → ℕ → OutcomeWord → OutcomeWord
-first_from kind n [] = first_run kind n
-first_from kind n (d ∷ p) = d ∷ first_from (beyond d kind) (pred n) p
 
 -- kinds of words that come from choices, at most n of them one after another: either the run ends here, or each outcome
 -- leads on
