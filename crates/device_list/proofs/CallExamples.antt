@@ -157,6 +157,18 @@ normal_elsewhere : map (λ line. listed line) (codes "normal" ∷ codes "normal 
     ≡ Ok (only ((codes "normal", quiet) ∷ [])) ∷ Err (BadLine 1) ∷ Err (BadLine 1) ∷ []
 normal_elsewhere = refl
 
+-- of built-in commands only that a failure of `test -e` is normal
+test_fails_normally : listed (codes "call test -e ** : normal 1") ≡ Ok (one (codes "test") (record { words = Exactly (codes "-e") ∷ []; more = true }) (record quiet { normal = true }))
+test_fails_normally = refl
+
+only_normal_of_test : map (λ line. listed line) (codes "call test ** :" ∷ codes "call test ** : steady" ∷ codes "call test ** : normal 1 steady" ∷ codes "call test ** : always 1" ∷ codes "call test ** : normal 0" ∷ codes "call echo ** : normal 1" ∷ codes "absent test" ∷ [])
+    ≡ Err (BuiltIn 1) ∷ Err (BuiltIn 1) ∷ Err (BuiltIn 1) ∷ Err (BuiltIn 1) ∷ Err (BadLine 1) ∷ Err (BuiltIn 1) ∷ Err (BuiltIn 1) ∷ []
+only_normal_of_test = refl
+
+normal_tests : elim (listed (codes "call test -e mmc * /x* : normal 1")) [ Ok devices ↦ map (λ call. fails_normally devices call) ((codes "test" ∷ codes "-e" ∷ codes "mmc" ∷ codes "0:1" ∷ codes "/xy" ∷ []) ∷ (codes "test" ∷ codes "-e" ∷ codes "mmc" ∷ codes "0:1" ∷ codes "/y" ∷ []) ∷ []) | Err fault ↦ [] ]
+    ≡ true ∷ false ∷ []
+normal_tests = refl
+
 -- the first line that fits decides, as of all that is said of a call; what is not listed does not fail normally
 normal_calls : elim (listed (codes "call tftp boot : normal 1\ntftp\ncall tftp ** :\nload")) [ Ok devices ↦ map (λ call. fails_normally devices call) ((codes "tftp" ∷ codes "boot" ∷ []) ∷ (codes "tftp" ∷ codes "kernel" ∷ []) ∷ (codes "tftp" ∷ []) ∷ (codes "load" ∷ []) ∷ (codes "dhcp" ∷ []) ∷ [] ∷ []) | Err fault ↦ [] ]
     ≡ true ∷ false ∷ false ∷ false ∷ false ∷ false ∷ []

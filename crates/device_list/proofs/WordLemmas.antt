@@ -3,7 +3,7 @@ use Rattle.std.proofs.Common.{◌≡◌, ℕ, ◌+◌, ◌-◌, ◌≤◌, ◌<�
 use Rattle.std.proofs.lemmas.List.{take-map, drop-map, take_all, length-map, length-drop}
 use Rattle.std.proofs.lemmas.Bool.Decides.{nat_tests}
 use Rattle.text.specs.Lines.{Text}
-use Rattle.device_list.specs.CallLines.{Call, colon_place, call_between, call_line, ends_in_rest, fixed_words}
+use Rattle.device_list.specs.CallLines.{Call, colon_place, call_parts, call_line, ends_in_rest, fixed_words}
 use Rattle.device_list.specs.declared.devices_error.DevicesError.{DevicesError}
 use Rattle.device_list.specs.declared.devices_error.DevicesError.TheVariants.{BadLine}
 
@@ -12,11 +12,11 @@ bytes_of = map (λ w. w.now)
 
 -- the words on both sides of the `:`
 pub call_line_at : (number : ℕ) (ws : List (Bor Text)) (at : ℕ) → at ≡ colon_place (bytes_of ws) → nat_le (length (bytes_of ws)) at ≡ false
-    → call_between number (bytes_of (take at ws)) (bytes_of (drop (at + 1) ws)) ≡ call_line number (bytes_of ws)
+    → call_parts number (bytes_of (take at ws)) (bytes_of (drop (at + 1) ws)) ≡ call_line number (bytes_of ws)
 call_line_at number ws at place whole =
-    (λ i. call_between number (sym (take-map (λ (w : Bor Text). w.now) at ws) i) (sym (drop-map (λ (w : Bor Text). w.now) (at + 1) ws) i))
-    ∙ sym (ap (λ (b : Bool). cond b (Err (BadLine number)) (call_between number (take at (bytes_of ws)) (drop (at + 1) (bytes_of ws)))) whole)
-    ∙ ap (λ (n : ℕ). let r : Result Call DevicesError = cond (nat_le (length (bytes_of ws)) n) (Err (BadLine number)) (call_between number (take n (bytes_of ws)) (drop (n + 1) (bytes_of ws))) in r) place
+    (λ i. call_parts number (sym (take-map (λ (w : Bor Text). w.now) at ws) i) (sym (drop-map (λ (w : Bor Text). w.now) (at + 1) ws) i))
+    ∙ sym (ap (λ (b : Bool). cond b (Err (BadLine number)) (call_parts number (take at (bytes_of ws)) (drop (at + 1) (bytes_of ws)))) whole)
+    ∙ ap (λ (n : ℕ). let r : Result Call DevicesError = cond (nat_le (length (bytes_of ws)) n) (Err (BadLine number)) (call_parts number (take n (bytes_of ws)) (drop (n + 1) (bytes_of ws))) in r) place
 
 pub length_now : (ws : List (Bor Text)) → length (bytes_of ws) ≡ length ws
 length_now ws = length-map ws (λ (w : Bor Text). w.now)

@@ -203,12 +203,12 @@ pub record Call : Type 0 where
   pub pattern : Pattern
   pub effect : Effect
 
-abbrev pub call_with : ℕ → (name : Text) → Option Pattern → Option Clauses → Result Call DevicesError
-call_with number name None clauses = Err (BadLine number)
-call_with number name (Some pattern) None = Err (BadLine number)
-call_with number name (Some pattern) (Some clauses) =
+abbrev pub call_with : ℕ → (name : Text) → (of_test : Bool) → Option Pattern → Option Clauses → Result Call DevicesError
+call_with number name of_test None clauses = Err (BadLine number)
+call_with number name of_test (Some pattern) None = Err (BadLine number)
+call_with number name of_test (Some pattern) (Some clauses) =
     if list_any is_star name then Err (BadLine number)
-    else (if is_built_in name then Err (BuiltIn number)
+    else (if is_built_in name && not of_test then Err (BuiltIn number)
     else Ok (record { name = name; pattern = pattern; effect = effect_said clauses }))
 
 -- A value may have quotes, and a pattern none.
@@ -216,10 +216,19 @@ abbrev pub has_quote : (words : List Text) → Bool
 has_quote words = list_any (λ word. list_any is_quote word) words
 
 -- the words on both sides of the `:`, the name of the command first
-abbrev pub call_between : ℕ → (pattern clauses : List Text) → Result Call DevicesError
-call_between number [] clauses = Err (BadLine number)
-call_between number (name ∷ pattern) clauses =
-    if has_quote (name ∷ pattern) then Err (BadLine number) else call_with number name (pattern_of pattern) (clauses_of no_clause clauses)
+abbrev pub call_between : ℕ → (of_test : Bool) → (pattern clauses : List Text) → Result Call DevicesError
+call_between number of_test [] clauses = Err (BadLine number)
+call_between number of_test (name ∷ pattern) clauses =
+    if has_quote (name ∷ pattern) then Err (BadLine number) else call_with number name of_test (pattern_of pattern) (clauses_of no_clause clauses)
+
+-- Of a built-in command a line can say one thing: that a failure of `test -e` is nothing wrong.
+abbrev pub is_of_test : (pattern clauses : List Text) → Bool
+is_of_test (name ∷ pattern) (first ∷ second ∷ []) =
+    bytes_eq name (codes "test") && bytes_eq first (codes "normal") && bytes_eq second (codes "1")
+is_of_test pattern clauses = false
+
+abbrev pub call_parts : ℕ → (pattern clauses : List Text) → Result Call DevicesError
+call_parts number pattern clauses = call_between number (is_of_test pattern clauses) pattern clauses
 
 -- how many words come before the first `:`
 abbrev pub colon_place : (words : List Text) → ℕ
@@ -233,7 +242,7 @@ lacks_colon words = nat_le (length words) (colon_place words)
 abbrev pub call_line : ℕ → (words : List Text) → Result Call DevicesError
 call_line number words =
     if lacks_colon words then Err (BadLine number)
-    else call_between number (take (colon_place words) words) (drop (colon_place words + 1) words)
+    else call_parts number (take (colon_place words) words) (drop (colon_place words + 1) words)
 
 -- `absent NAME` is `call NAME ** : always 1`
 abbrev pub absent_words : (words : List Text) → List Text

@@ -2,7 +2,7 @@
 ghost use Rattle.std.specs.Prelude.{◌≡◌, map, option_map, IfOk};
 ghost use Rattle.std.specs.List.{list_any};
 ghost use Rattle.commands.specs.TextsShown.{texts};
-ghost use Rattle.device_list.specs.CallLines.{colon_place, call_between, call_line, absent_words, call_said, is_call, has_quote, is_colon, is_star, first_fitting};
+ghost use Rattle.device_list.specs.CallLines.{colon_place, call_between, call_parts, call_line, absent_words, call_said, is_call, is_of_test, has_quote, is_colon, is_star, first_fitting};
 ghost use Rattle.device_list.specs.CommandsShown.{call_lines_shown, found_shown};
 ghost use Rattle.device_list.specs.DeviceListAnswers.{SaysCall};
 
@@ -98,10 +98,11 @@ fn colon_place(words: &[&[u8]]) -> usize
 fn call_between<'a>(
     alloc: Global,
     number: usize,
+    of_test: bool,
     pattern: &[&'a [u8]],
     clauses: &[&[u8]],
 ) -> Result<Call<'a>, DevicesError>
-    ensures { SaysCall (call_between number (map (λ w. w.now) pattern.now) (map (λ w. w.now) clauses.now))
+    ensures { SaysCall (call_between number of_test (map (λ w. w.now) pattern.now) (map (λ w. w.now) clauses.now))
         result }
 {
     let [name, words @ ..] = pattern else {
@@ -119,11 +120,39 @@ fn call_between<'a>(
     if has_star(name) {
         return Err(DevicesError::BadLine(number));
     }
-    if is_built_in(name) {
+    if is_built_in(name) && !of_test {
         return Err(DevicesError::BuiltIn(number));
     }
     let line = CallLine { pattern, listed };
     Ok(Call { name, line })
+}
+
+/// Whether a line of these parts says of `test` what it may: that a failure is nothing wrong.
+fn is_of_test(pattern: &[&[u8]], clauses: &[&[u8]]) -> bool
+    ensures { result ≡ is_of_test (map (λ w. w.now) pattern.now) (map (λ w. w.now) clauses.now) }
+{
+    match (pattern, clauses) {
+        ([name, ..], [first, second]) => {
+            *name == b"test".as_slice()
+                && *first == b"normal".as_slice()
+                && *second == b"1".as_slice()
+        }
+        _ => false,
+    }
+}
+
+/// The line of these parts, about `test` too. Errors: `BadLine`, `BuiltIn`, `Memory`.
+fn call_parts<'a>(
+    alloc: Global,
+    number: usize,
+    pattern: &[&'a [u8]],
+    clauses: &[&[u8]],
+) -> Result<Call<'a>, DevicesError>
+    ensures { SaysCall (call_parts number (map (λ w. w.now) pattern.now) (map (λ w. w.now) clauses.now))
+        result }
+{
+    let of_test = is_of_test(pattern, clauses);
+    call_between(alloc, number, of_test, pattern, clauses)
 }
 
 /// What a line `call` says, by the words after that. Errors: `BadLine`, `BuiltIn`, `Memory`.
@@ -134,7 +163,7 @@ fn call_line<'a>(alloc: Global, number: usize, words: &[&'a [u8]]) -> Result<Cal
     if words.len() <= at {
         return Err(DevicesError::BadLine(number));
     }
-    call_between(alloc, number, &words[..at], &words[at + 1..])
+    call_parts(alloc, number, &words[..at], &words[at + 1..])
 }
 
 /// The words of the line `call` that a line `absent` stands for.

@@ -1,5 +1,5 @@
 use Rattle.std.proofs.Common.{◌≡◌, false, nat_le, length, Result, List, Bor, take, ◌+◌, subst}
-use Rattle.device_list.specs.CallLines.{Call, call_between}
+use Rattle.device_list.specs.CallLines.{Call, call_parts}
 use Rattle.text.specs.Lines.{Text}
 use Rattle.device_list.specs.DeviceListAnswers.{SaysCall}
 use Rattle.device_list.specs.declared.devices_error.DevicesError.{DevicesError}
@@ -11,6 +11,6 @@ returns c =
     let words = c.args.words.now in
     let at = c.colon_place-at.result in
     let there : nat_le (length (bytes_of words)) at ≡ false = not_below words at c.if-words-at.false in
-    subst (λ (said : Result Call DevicesError). SaysCall said c.call_between.result)
+    subst (λ (said : Result Call DevicesError). SaysCall said c.call_parts.result)
     (call_line_at c.args.number words at c.colon_place-at.ensures there)
-    (subst (λ (rest : List (Bor Text)). SaysCall (call_between c.args.number (bytes_of (take at words)) (bytes_of rest)) c.call_between.result) (rest_is words (at + 1)) c.call_between.ensures)
+    (subst (λ (rest : List (Bor Text)). SaysCall (call_parts c.args.number (bytes_of (take at words)) (bytes_of rest)) c.call_parts.result) (rest_is words (at + 1)) c.call_parts.ensures)
