@@ -1,6 +1,6 @@
 -- Worked examples, computed: from the text of `bootcmd` to the rows of its runs and their lines. A word starts with the
 -- first device command; `0` means that it succeeded.
-use Rattle.std.proofs.Common.{ℕ, Bool, true, [], ◌∷◌, ◌+◌, ◌-◌, ◌^◌, List, Some, None, Option, codes, refl, ◌≡◌, map, length, nat_eq}
+use Rattle.std.proofs.Common.{ℕ, Bool, true, false, [], ◌∷◌, ◌+◌, ◌-◌, ◌^◌, List, Some, None, Option, codes, refl, ◌≡◌, map, length, nat_eq}
 use Rattle.std.specs.Fmt.{digits}
 use Rattle.device_list.specs.declared.finish.BoardEnd.TheVariants.{Boots, Restarts, Halts}
 use Rattle.hushlang.specs.Expansion.{fields, joined, atoms}
@@ -12,7 +12,7 @@ use Rattle.rehearse_terms.specs.State.{Text}
 use Rattle.rehearse_rules.specs.Execution.{Ending, End, CutDevices, CutSteps, Unknown, Syntax, Unsupported, Size, Finished}
 use Rattle.rehearse_rules.specs.Runs.{Task, all_runs}
 use Rattle.rehearse_rules.proofs.ExampleRehearsals.{only_load, limits, bootcmd}
-use Rattle.rehearse_states.specs.Endings.{RunEnd, Row, ending_eq, end_eq, fewer, joined as with_further, with_row, gather, endings, of_both}
+use Rattle.rehearse_states.specs.Endings.{RunEnd, Row, Counted, ending_eq, end_eq, fewer, joined as with_further, with_row, gather, endings, counts_at, of_both}
 use Rattle.rehearse_states.specs.EndingLines.{failing, count_text, endings_text, counted}
 use Rattle.rehearse_states.specs.RowsShown.{most_runs, saturated, with_row_up}
 
@@ -69,12 +69,12 @@ unknown_command = refl
 
 -- what fails is from the run with the fewest failures, not from the first, and in the order of the run; a command that
 -- succeeds between two that fail is left out
-in_order_of_the_run : failing (task 3 (codes "load b; load c; load a")) (Failure ∷ Success ∷ Failure ∷ []) ≡ (codes "load" ∷ codes "b" ∷ []) ∷ (codes "load" ∷ codes "a" ∷ []) ∷ []
+in_order_of_the_run : failing (task 3 (codes "load b; load c; load a")) (Failure ∷ Success ∷ Failure ∷ []) ≡ (false, codes "load" ∷ codes "b" ∷ []) ∷ (false, codes "load" ∷ codes "a" ∷ []) ∷ []
 unfolding tree_of fields joined atoms
 in_order_of_the_run = refl
 
 -- the same command may fail more than once, with the same words
-each_time : failing (task 3 (codes "load; load")) (Failure ∷ Failure ∷ []) ≡ (codes "load" ∷ []) ∷ (codes "load" ∷ []) ∷ []
+each_time : failing (task 3 (codes "load; load")) (Failure ∷ Failure ∷ []) ≡ (false, codes "load" ∷ []) ∷ (false, codes "load" ∷ []) ∷ []
 unfolding tree_of fields joined atoms
 each_time = refl
 
@@ -114,13 +114,34 @@ unfolding tree_of fields joined atoms digits
 told_again = refl
 
 -- a command that is told again that it failed is no further failure
-told_again_is_no_failure : failing (steady (codes "load; load")) (Failure ∷ []) ≡ (codes "load" ∷ []) ∷ []
+told_again_is_no_failure : failing (steady (codes "load; load")) (Failure ∷ []) ≡ (false, codes "load" ∷ []) ∷ []
 unfolding tree_of fields joined atoms
 told_again_is_no_failure = refl
 
 asked_each_time : lines (task 3 (codes "load; load; exit $?")) 3 ≡ codes "ends 2 first 00 fewest 0 00 end 0\nends 2 first 01 fewest 1 01 end 1\nfails load\nall 4 states 3\n"
 unfolding tree_of fields joined atoms digits
 asked_each_time = refl
+
+-- ---- calls of which a failure is expected
+
+-- the device list `call load ** : normal 1` and `try`
+abbrev expected : Text → Task
+expected text = bootcmd (limits (only ((codes "load", record quiet { normal = true }) ∷ (codes "try", quiet) ∷ [])) 3 20) text
+
+-- a success counts, and is told
+success_counts : lines (expected (codes "load a || load b")) 2 ≡ codes "ends 2 first 0 fewest 1 0 end 0\nsucceeds load a\nends 1 first 11 fewest 0 11 end 1\nall 3 states 2\n"
+unfolding tree_of fields joined atoms digits
+success_counts = refl
+
+-- so the first run has more than the last one
+failures_count_nothing : lines (expected (codes "load a; load b")) 3 ≡ codes "ends 2 first 00 fewest 1 10 end 0\nsucceeds load b\nends 2 first 01 fewest 0 11 end 1\nall 4 states 3\n"
+unfolding tree_of fields joined atoms digits
+failures_count_nothing = refl
+
+-- in the order of the run
+both_are_told : failing (expected (codes "load a; try; load b")) (Success ∷ Failure ∷ Failure ∷ []) ≡ (true, codes "load" ∷ codes "a" ∷ []) ∷ (false, codes "try" ∷ []) ∷ []
+unfolding tree_of fields joined atoms
+both_are_told = refl
 
 -- ---- endings
 
@@ -163,44 +184,59 @@ each_way_equals_itself = refl
 failures_counted : map failures ([] ∷ (Success ∷ []) ∷ (Failure ∷ []) ∷ (Failure ∷ Success ∷ Failure ∷ []) ∷ []) ≡ 0 ∷ 0 ∷ 1 ∷ 2 ∷ []
 failures_counted = refl
 
--- the second has fewer failures; the first has fewer; both have equally many
-fewer_second : fewer (Failure ∷ Failure ∷ []) (Failure ∷ []) ≡ Failure ∷ []
+-- the second has fewer unexpected answers; the first has fewer; both have equally many
+fewer_second : fewer (Failure ∷ Failure ∷ [], 2) (Failure ∷ [], 1) ≡ (Failure ∷ [], 1)
 fewer_second = refl
 
-fewer_first : fewer (Failure ∷ []) (Failure ∷ Failure ∷ []) ≡ Failure ∷ []
+fewer_first : fewer (Failure ∷ [], 1) (Failure ∷ Failure ∷ [], 2) ≡ (Failure ∷ [], 1)
 fewer_first = refl
 
-fewer_of_as_many : fewer (Success ∷ Failure ∷ []) (Failure ∷ []) ≡ Success ∷ Failure ∷ []
+fewer_of_as_many : fewer (Success ∷ Failure ∷ [], 1) (Failure ∷ [], 1) ≡ (Success ∷ Failure ∷ [], 1)
 fewer_of_as_many = refl
+
+-- the numbers tell, not the failures
+fewer_by_number : fewer (Success ∷ [], 1) (Failure ∷ [], 0) ≡ (Failure ∷ [], 0)
+fewer_by_number = refl
 
 -- ---- rows
 
 abbrev bare : Ending → RunEnd
 bare ending = record { ending = ending; values = [] }
 
-abbrev row : Ending → ℕ → OutcomeWord → OutcomeWord → Row
+abbrev row : Ending → ℕ → OutcomeWord → Counted → Row
 row ending count word fewest = record { run_end = bare ending; count = count; word = word; fewest = fewest }
 
--- the counts are added, the first word stays, and the word with fewer failures is taken
-joined_row : with_further (row (End 3) 2 (Failure ∷ Failure ∷ []) (Success ∷ Failure ∷ [])) (row (End 3) 5 (Failure ∷ []) []) ≡ row (End 3) 7 (Failure ∷ Failure ∷ []) []
+-- the empty word, of which nothing is unexpected
+abbrev none : Counted
+none = ([], 0)
+
+-- the counts are added, the first word stays, and the word with fewer unexpected answers is taken
+joined_row : with_further (row (End 3) 2 (Failure ∷ Failure ∷ []) (Success ∷ Failure ∷ [], 1)) (row (End 3) 5 (Failure ∷ []) none) ≡ row (End 3) 7 (Failure ∷ Failure ∷ []) none
 joined_row = refl
 
 -- another ending comes after the ones that are there
-row_behind : with_row (row (End 0) 2 [] [] ∷ row Size 3 [] [] ∷ []) (row CutSteps 4 [] []) ≡ row (End 0) 2 [] [] ∷ row Size 3 [] [] ∷ row CutSteps 4 [] [] ∷ []
+row_behind : with_row (row (End 0) 2 [] none ∷ row Size 3 [] none ∷ []) (row CutSteps 4 [] none) ≡ row (End 0) 2 [] none ∷ row Size 3 [] none ∷ row CutSteps 4 [] none ∷ []
 row_behind = refl
 
 -- a row that is there keeps its place
-row_at_its_place : with_row (row (End 0) 2 [] [] ∷ row Size 3 [] [] ∷ []) (row (End 0) 4 [] []) ≡ row (End 0) 6 [] [] ∷ row Size 3 [] [] ∷ []
+row_at_its_place : with_row (row (End 0) 2 [] none ∷ row Size 3 [] none ∷ []) (row (End 0) 4 [] none) ≡ row (End 0) 6 [] none ∷ row Size 3 [] none ∷ []
 row_at_its_place = refl
 
 -- four runs, in their order
-gathered : gather ((bare (End 1), Success ∷ []) ∷ (bare (End 0), Failure ∷ Success ∷ []) ∷ (bare (End 1), Failure ∷ Failure ∷ Success ∷ []) ∷ (bare (End 0), Failure ∷ Failure ∷ Failure ∷ []) ∷ []) ≡ row (End 1) 2 (Success ∷ []) (Success ∷ []) ∷ row (End 0) 2 (Failure ∷ Success ∷ []) (Failure ∷ Success ∷ []) ∷ []
+gathered : gather ((bare (End 1), (Success ∷ [], 0)) ∷ (bare (End 0), (Failure ∷ Success ∷ [], 2)) ∷ (bare (End 1), (Failure ∷ Failure ∷ Success ∷ [], 2)) ∷ (bare (End 0), (Failure ∷ Failure ∷ Failure ∷ [], 1)) ∷ []) ≡ row (End 1) 2 (Success ∷ []) (Success ∷ [], 0) ∷ row (End 0) 2 (Failure ∷ Success ∷ []) (Failure ∷ Failure ∷ Failure ∷ [], 1) ∷ []
 gathered = refl
 
 -- both sides of a device command: the counts of both are added; the first word is from the success; the word with the
--- fewest failures is from the failure, which counts as one
-both_sides : of_both (row (End 3) 2 (Failure ∷ Failure ∷ []) (Failure ∷ Failure ∷ []) ∷ []) (row (End 0) 1 (Success ∷ []) (Success ∷ []) ∷ row (End 3) 5 (Failure ∷ []) [] ∷ []) ≡ row (End 3) 7 (Success ∷ Failure ∷ Failure ∷ []) (Failure ∷ []) ∷ row (End 0) 1 (Failure ∷ Success ∷ []) (Failure ∷ Success ∷ []) ∷ []
+-- fewest unexpected answers is from the failure, which counts as one
+both_sides : of_both false (row (End 3) 2 (Failure ∷ Failure ∷ []) (Failure ∷ Failure ∷ [], 2) ∷ []) (row (End 0) 1 (Success ∷ []) (Success ∷ [], 0) ∷ row (End 3) 5 (Failure ∷ []) none ∷ []) ≡ row (End 3) 7 (Success ∷ Failure ∷ Failure ∷ []) (Failure ∷ [], 1) ∷ row (End 0) 1 (Failure ∷ Success ∷ []) (Failure ∷ Success ∷ [], 1) ∷ []
 both_sides = refl
+
+-- where a failure is expected, it is the success that counts as one
+both_sides_expected : of_both true (row (End 3) 2 (Failure ∷ []) (Failure ∷ [], 1) ∷ []) (row (End 0) 1 (Success ∷ []) (Success ∷ [], 0) ∷ row (End 3) 5 (Failure ∷ []) (Failure ∷ [], 2) ∷ []) ≡ row (End 3) 7 (Success ∷ Failure ∷ []) (Success ∷ Failure ∷ [], 2) ∷ row (End 0) 1 (Failure ∷ Success ∷ []) (Failure ∷ Success ∷ [], 0) ∷ []
+both_sides_expected = refl
+
+counts_of_outcomes : (counts_at false Success ∷ counts_at false Failure ∷ counts_at true Success ∷ counts_at true Failure ∷ []) ≡ 0 ∷ 1 ∷ 1 ∷ 0 ∷ []
+counts_of_outcomes = refl
 
 -- ---- counts that are too large
 
@@ -211,19 +247,19 @@ counts_told : map count_text (0 ∷ 12 ∷ (most_runs - 1) ∷ most_runs ∷ (mo
 unfolding digits
 counts_told = refl
 
-saturated_rows : map saturated (row Size 7 [] [] ∷ row Size most_runs [] [] ∷ row Size (most_runs + 9) [] [] ∷ []) ≡ row Size 7 [] [] ∷ row Size most_runs [] [] ∷ row Size most_runs [] [] ∷ []
+saturated_rows : map saturated (row Size 7 [] none ∷ row Size most_runs [] none ∷ row Size (most_runs + 9) [] none ∷ []) ≡ row Size 7 [] none ∷ row Size most_runs [] none ∷ row Size most_runs [] none ∷ []
 saturated_rows = refl
 
 -- two counts that each fit, but whose sum does not
-too_great_together : with_row_up (row Size (most_runs - 1) [] [] ∷ []) (row Size 2 [] []) ≡ row Size most_runs [] [] ∷ []
+too_great_together : with_row_up (row Size (most_runs - 1) [] none ∷ []) (row Size 2 [] none) ≡ row Size most_runs [] none ∷ []
 too_great_together = refl
 
 -- ---- lines
 
--- two commands fail for the first ending, and none for the second
-lines_of_rows : endings_text [] (λ w. elim w [ [] ↦ [] | d ∷ v ↦ (codes "load" ∷ codes "a b" ∷ []) ∷ (codes "b" ∷ []) ∷ [] ]) (row (Finished Boots (codes "go")) 3 (Success ∷ Failure ∷ []) [] ∷ row (Syntax (codes "b")) 1 (Failure ∷ []) (Failure ∷ []) ∷ []) 4 17 ≡ codes "ends 3 first 01 fewest 0 . booted go\nends 1 first 1 fewest 1 1 stop syntax b\nfails load a\\x20b\nfails b\nall 4 states 17\n"
+-- nothing is unexpected for the first ending, and a failure and a success for the second
+lines_of_rows : endings_text [] (λ w. elim w [ [] ↦ [] | d ∷ v ↦ (false, codes "load" ∷ codes "a b" ∷ []) ∷ (true, codes "b" ∷ []) ∷ [] ]) (row (Finished Boots (codes "go")) 3 (Success ∷ Failure ∷ []) none ∷ row (Syntax (codes "b")) 1 (Failure ∷ []) (Failure ∷ [], 2) ∷ []) 4 17 ≡ codes "ends 3 first 01 fewest 0 . booted go\nends 1 first 1 fewest 2 1 stop syntax b\nfails load a\\x20b\nsucceeds b\nall 4 states 17\n"
 unfolding digits
 lines_of_rows = refl
 
-all_are_counted : counted (row Size 3 [] [] ∷ row CutSteps 4 [] [] ∷ []) ≡ 7
+all_are_counted : counted (row Size 3 [] none ∷ row CutSteps 4 [] none ∷ []) ≡ 7
 all_are_counted = refl

@@ -7,10 +7,10 @@ use Rattle.std.proofs.lemmas.Slice.Eq.{bytes_eq-Decides}
 use Rattle.std.specs.List.{list_any}
 use Rattle.device_list.specs.declared.finish.BoardEnd.{BoardEnd}
 use Rattle.device_list.specs.declared.finish.BoardEnd.TheVariants.{Boots, Restarts, Halts}
-use Rattle.rehearse_terms.specs.Outcomes.{OutcomeWord, Outcome, Success, Failure, WordKind, Run, Short, Long, is_run_kind, words, beyond, runs_within, IsChoice, failures}
+use Rattle.rehearse_terms.specs.Outcomes.{OutcomeWord, Outcome, Success, Failure, WordKind, Run, Short, Long, is_run_kind, words, beyond, runs_within, IsChoice}
 use Rattle.rehearse_terms.specs.State.{Text}
 use Rattle.rehearse_rules.specs.Execution.{Ending, End, CutDevices, CutSteps, Unknown, Syntax, Unsupported, Size, Finished}
-use Rattle.rehearse_states.specs.Endings.{same_finish, ending_eq, RunEnd, value_eq, values_eq, end_eq, fewer, Row, joined, with_row, merge, one_run, gather, rows_within, in_front, of_both, HasRows, ends, asks}
+use Rattle.rehearse_states.specs.Endings.{same_finish, ending_eq, RunEnd, value_eq, values_eq, end_eq, Counted, fewer, counts_at, Row, joined, with_row, merge, one_run, gather, rows_within, in_front, of_both, HasRows, ends, asks}
 
 -- ---- endings
 
@@ -232,39 +232,40 @@ pub apart_on : (rs : List Row) (u : Row) → AreApart rs → AreApart (with_row 
 apart_on [] u h = (refl, tt)
 apart_on (r ∷ rs) u h = apart_if (end_eq r.run_end u.run_end) r rs u refl h (apart_on rs u h.1)
 
--- ---- the word with the fewest failures
+-- ---- the run with the fewest unexpected answers
 
-fewer_if : (p q s : Bool) (a b c : OutcomeWord) → nat_le (failures a) (failures b) ≡ p → nat_le (failures b) (failures c) ≡ q → nat_le (failures a) (failures c) ≡ s
-    → cond (nat_le (failures (cond p a b)) (failures c)) (cond p a b) c ≡ cond (nat_le (failures a) (failures (cond q b c))) a (cond q b c)
+fewer_if : (p q s : Bool) (a b c : Counted) → nat_le a.1 b.1 ≡ p → nat_le b.1 c.1 ≡ q → nat_le a.1 c.1 ≡ s
+    → cond (nat_le (cond p a b).1 c.1) (cond p a b) c ≡ cond (nat_le a.1 (cond q b c).1) a (cond q b c)
 fewer_if true true true a b c e f g = ap (λ (s : Bool). cond s a c) g ∙ sym (ap (λ (s : Bool). cond s a b) e)
-fewer_if true true false a b c e f g = absurd (let x = leb-true (failures a) (failures b) e in let y = leb-true (failures b) (failures c) f in let z = leb-false (failures a) (failures c) g in omega arith)
+fewer_if true true false a b c e f g = absurd (let x = leb-true a.1 b.1 e in let y = leb-true b.1 c.1 f in let z = leb-false a.1 c.1 g in omega arith)
 fewer_if true false s a b c e f g = refl
 fewer_if false true s a b c e f g = ap (λ (s : Bool). cond s b c) f ∙ sym (ap (λ (s : Bool). cond s a b) e)
-fewer_if false false true a b c e f g = absurd (let x = leb-false (failures a) (failures b) e in let y = leb-false (failures b) (failures c) f in let z = leb-true (failures a) (failures c) g in omega arith)
+fewer_if false false true a b c e f g = absurd (let x = leb-false a.1 b.1 e in let y = leb-false b.1 c.1 f in let z = leb-true a.1 c.1 g in omega arith)
 fewer_if false false false a b c e f g = ap (λ (s : Bool). cond s b c) f ∙ sym (ap (λ (s : Bool). cond s a c) g)
 
-fewer_assoc : (a b c : OutcomeWord) → fewer (fewer a b) c ≡ fewer a (fewer b c)
-fewer_assoc a b c = fewer_if (nat_le (failures a) (failures b)) (nat_le (failures b) (failures c)) (nat_le (failures a) (failures c)) a b c refl refl refl
+fewer_assoc : (a b c : Counted) → fewer (fewer a b) c ≡ fewer a (fewer b c)
+fewer_assoc a b c = fewer_if (nat_le a.1 b.1) (nat_le b.1 c.1) (nat_le a.1 c.1) a b c refl refl refl
 
-le_suc_if : (p : Bool) (a b : ℕ) → nat_le a b ≡ p → nat_le (suc a) (suc b) ≡ p
-le_suc_if true a b h = le-leb (suc a) (suc b) (let l = leb-true a b h in omega arith)
-le_suc_if false a b h = lt-leb (suc a) (suc b) (let l = leb-false a b h in omega arith)
+le_more_if : (p : Bool) (k a b : ℕ) → nat_le a b ≡ p → nat_le (k + a) (k + b) ≡ p
+le_more_if true k a b h = le-leb (k + a) (k + b) (let l = leb-true a b h in omega arith)
+le_more_if false k a b h = lt-leb (k + a) (k + b) (let l = leb-false a b h in omega arith)
 
-le_suc : (a b : ℕ) → nat_le (suc a) (suc b) ≡ nat_le a b
-le_suc a b = le_suc_if (nat_le a b) a b refl
+-- after an outcome that counts so much
+behind_one : (d : Outcome) (k : ℕ) → Counted → Counted
+behind_one d k v = (d ∷ v.0, k + v.1)
 
-cond_front : (d : Outcome) (b : Bool) (v w : OutcomeWord) → d ∷ cond b v w ≡ cond b (d ∷ v) (d ∷ w)
-cond_front d true v w = refl
-cond_front d false v w = refl
+cond_front : (d : Outcome) (k : ℕ) (b : Bool) (v w : Counted) → behind_one d k (cond b v w) ≡ cond b (behind_one d k v) (behind_one d k w)
+cond_front d k true v w = refl
+cond_front d k false v w = refl
 
-pub fewer_front : (d : Outcome) (v w : OutcomeWord) → d ∷ fewer v w ≡ fewer (d ∷ v) (d ∷ w)
-fewer_front Success v w = cond_front Success (nat_le (failures v) (failures w)) v w
-fewer_front Failure v w = cond_front Failure (nat_le (failures v) (failures w)) v w ∙ ap (λ (b : Bool). cond b (Failure ∷ v) (Failure ∷ w)) (sym (le_suc (failures v) (failures w)))
+pub fewer_front : (d : Outcome) (k : ℕ) (v w : Counted) → (let one : Counted = (d ∷ (fewer v w).0, k + (fewer v w).1) in one) ≡ fewer (d ∷ v.0, k + v.1) (d ∷ w.0, k + w.1)
+unfolding behind_one
+fewer_front d k v w = cond_front d k (nat_le v.1 w.1) v w ∙ ap (λ (b : Bool). cond b (behind_one d k v) (behind_one d k w)) (sym (le_more_if (nat_le v.1 w.1) k v.1 w.1 refl))
 
 joined_assoc : (r t u : Row) → joined (joined r t) u ≡ joined r (joined t u)
 joined_assoc r t u =
     ap (λ (n : ℕ). record r { count = n; fewest = fewer (fewer r.fewest t.fewest) u.fewest }) (let e : r.count + t.count + u.count ≡ r.count + (t.count + u.count) = omega arith in e)
-    ∙ ap (λ (w : OutcomeWord). record r { count = r.count + (t.count + u.count); fewest = w }) (fewer_assoc r.fewest t.fewest u.fewest)
+    ∙ ap (λ (w : Counted). record r { count = r.count + (t.count + u.count); fewest = w }) (fewer_assoc r.fewest t.fewest u.fewest)
 
 -- ---- rows that are put
 
@@ -330,7 +331,7 @@ merge_append rs [] us = refl
 merge_append rs (t ∷ ts) us = merge_append (with_row rs t) ts us
 
 -- the law of two lists of runs
-pub gather_append : (xs ys : List (RunEnd × OutcomeWord)) → gather (xs ++ ys) ≡ merge (gather xs) (gather ys)
+pub gather_append : (xs ys : List (RunEnd × Counted)) → gather (xs ++ ys) ≡ merge (gather xs) (gather ys)
 gather_append xs ys =
     ap (λ (x : List Row). merge [] x) (map-append one_run xs ys)
     ∙ merge_append [] (map one_run xs) (map one_run ys)
@@ -338,25 +339,27 @@ gather_append xs ys =
 
 -- ---- runs after one outcome
 
-put_behind_if : (b : Bool) (d : Outcome) (r : Row) (rs : List Row) (row : Row) → map (in_front d) (with_row rs row) ≡ with_row (map (in_front d) rs) (in_front d row) → map (in_front d) (row_if b r rs row) ≡ row_if b (in_front d r) (map (in_front d) rs) (in_front d row)
-put_behind_if true d r rs row h =
-    ap (λ (w : OutcomeWord). record (in_front d r) { count = r.count + row.count; fewest = w } ∷ map (in_front d) rs) (fewer_front d r.fewest row.fewest)
-put_behind_if false d r rs row h = ap (λ (x : List Row). in_front d r ∷ x) h
+put_behind_if : (b : Bool) (d : Outcome) (k : ℕ) (r : Row) (rs : List Row) (row : Row) → map (in_front d k) (with_row rs row) ≡ with_row (map (in_front d k) rs) (in_front d k row) → map (in_front d k) (row_if b r rs row) ≡ row_if b (in_front d k r) (map (in_front d k) rs) (in_front d k row)
+put_behind_if true d k r rs row h =
+    ap (λ (w : Counted). record (in_front d k r) { count = r.count + row.count; fewest = w } ∷ map (in_front d k) rs) (fewer_front d k r.fewest row.fewest)
+put_behind_if false d k r rs row h = ap (λ (x : List Row). in_front d k r ∷ x) h
 
-put_behind : (d : Outcome) (rs : List Row) (row : Row) → map (in_front d) (with_row rs row) ≡ with_row (map (in_front d) rs) (in_front d row)
-put_behind d [] row = refl
-put_behind d (r ∷ rs) row = put_behind_if (end_eq r.run_end row.run_end) d r rs row (put_behind d rs row)
+put_behind : (d : Outcome) (k : ℕ) (rs : List Row) (row : Row) → map (in_front d k) (with_row rs row) ≡ with_row (map (in_front d k) rs) (in_front d k row)
+put_behind d k [] row = refl
+put_behind d k (r ∷ rs) row = put_behind_if (end_eq r.run_end row.run_end) d k r rs row (put_behind d k rs row)
 
-pub merge_behind : (d : Outcome) (rs ts : List Row) → map (in_front d) (merge rs ts) ≡ merge (map (in_front d) rs) (map (in_front d) ts)
-merge_behind d rs [] = refl
-merge_behind d rs (t ∷ ts) = merge_behind d (with_row rs t) ts ∙ ap (λ (x : List Row). merge x (map (in_front d) ts)) (put_behind d rs t)
+pub merge_behind : (d : Outcome) (k : ℕ) (rs ts : List Row) → map (in_front d k) (merge rs ts) ≡ merge (map (in_front d k) rs) (map (in_front d k) ts)
+merge_behind d k rs [] = refl
+merge_behind d k rs (t ∷ ts) = merge_behind d k (with_row rs t) ts ∙ ap (λ (x : List Row). merge x (map (in_front d k) ts)) (put_behind d k rs t)
 
-singles_behind : (d : Outcome) (ending : OutcomeWord → RunEnd) (ws : List OutcomeWord) → map one_run (map (λ w. (ending w, w)) (map (λ w. d ∷ w) ws)) ≡ map (in_front d) (map one_run (map (λ w. (ending (d ∷ w), w)) ws))
-singles_behind d ending [] = refl
-singles_behind d ending (w ∷ ws) = ap (λ (x : List Row). one_run (ending (d ∷ w), d ∷ w) ∷ x) (singles_behind d ending ws)
+-- what is counted of the words after an outcome
+module _ (d : Outcome) (k : ℕ) (ending : OutcomeWord → RunEnd) (count behind_count : OutcomeWord → ℕ) (so : (w : OutcomeWord) → count (d ∷ w) ≡ k + behind_count w) where
+  singles_behind : (ws : List OutcomeWord) → map one_run (map (λ w. (ending w, (w, count w))) (map (λ w. d ∷ w) ws)) ≡ map (in_front d k) (map one_run (map (λ w. (ending (d ∷ w), (w, behind_count w))) ws))
+  singles_behind [] = refl
+  singles_behind (w ∷ ws) = λ i. one_run (ending (d ∷ w), (d ∷ w, so w i)) ∷ singles_behind ws i
 
-pub gather_behind : (d : Outcome) (ending : OutcomeWord → RunEnd) (ws : List OutcomeWord) → gather (map (λ w. (ending w, w)) (map (λ w. d ∷ w) ws)) ≡ map (in_front d) (gather (map (λ w. (ending (d ∷ w), w)) ws))
-gather_behind d ending ws = ap (merge []) (singles_behind d ending ws) ∙ sym (merge_behind d [] (map one_run (map (λ w. (ending (d ∷ w), w)) ws)))
+  pub gather_behind : (ws : List OutcomeWord) → gather (map (λ w. (ending w, (w, count w))) (map (λ w. d ∷ w) ws)) ≡ map (in_front d k) (gather (map (λ w. (ending (d ∷ w), (w, behind_count w))) ws))
+  gather_behind ws = ap (merge []) (singles_behind ws) ∙ sym (merge_behind d k [] (map one_run (map (λ w. (ending (d ∷ w), (w, behind_count w))) ws)))
 
 -- ---- both sides of a device command
 
@@ -404,28 +407,31 @@ runs_here kind (suc n) here others = rw here (ap (λ (l : List OutcomeWord). [] 
 runs_past : (kind : Kinds) (n : ℕ) → kind [] ≡ Short → runs_within kind (suc n) ≡ behind kind n Success ++ behind kind n Failure
 runs_past kind n asked = rw asked (both_is kind n)
 
-shown : (OutcomeWord → RunEnd) → OutcomeWord → RunEnd × OutcomeWord
-shown ending w = (ending w, w)
-
 -- the law of both sides
-pub rows_past : (kind : Kinds) (ending : OutcomeWord → RunEnd) (n : ℕ) → kind [] ≡ Short → rows_within kind ending (suc n) ≡ of_both (rows_within (beyond Success kind) (λ w. ending (Success ∷ w)) n) (rows_within (beyond Failure kind) (λ w. ending (Failure ∷ w)) n)
+pub rows_past : (kind : Kinds) (ending : OutcomeWord → RunEnd) (count won_count lost_count : OutcomeWord → ℕ) (normal : Bool) (n : ℕ) → kind [] ≡ Short
+    → ((w : OutcomeWord) → count (Success ∷ w) ≡ counts_at normal Success + won_count w) → ((w : OutcomeWord) → count (Failure ∷ w) ≡ counts_at normal Failure + lost_count w)
+    → rows_within kind ending count (suc n) ≡ of_both normal (rows_within (beyond Success kind) (λ w. ending (Success ∷ w)) won_count n) (rows_within (beyond Failure kind) (λ w. ending (Failure ∷ w)) lost_count n)
 unfolding behind
-rows_past kind ending n asked =
-    ap (λ (ws : List OutcomeWord). gather (map (λ w. (ending w, w)) ws)) (runs_past kind n asked)
-    ∙ ap gather (map-append (λ w. (ending w, w)) (behind kind n Success) (behind kind n Failure))
-    ∙ gather_append (map (λ w. (ending w, w)) (behind kind n Success)) (map (λ w. (ending w, w)) (behind kind n Failure))
-    ∙ ap (λ (x : List Row). merge x (gather (map (λ w. (ending w, w)) (behind kind n Failure)))) (gather_behind Success ending (runs_within (beyond Success kind) n))
-    ∙ ap (λ (x : List Row). merge (map (in_front Success) (rows_within (beyond Success kind) (λ w. ending (Success ∷ w)) n)) x) (gather_behind Failure ending (runs_within (beyond Failure kind) n))
+rows_past kind ending count won_count lost_count normal n asked won lost =
+    let s = counts_at normal Success in
+    let f = counts_at normal Failure in
+    ap (λ (ws : List OutcomeWord). gather (map (λ w. (ending w, (w, count w))) ws)) (runs_past kind n asked)
+    ∙ ap gather (map-append (λ w. (ending w, (w, count w))) (behind kind n Success) (behind kind n Failure))
+    ∙ gather_append (map (λ w. (ending w, (w, count w))) (behind kind n Success)) (map (λ w. (ending w, (w, count w))) (behind kind n Failure))
+    ∙ ap (λ (x : List Row). merge x (gather (map (λ w. (ending w, (w, count w))) (behind kind n Failure)))) (gather_behind Success s ending count won_count won (runs_within (beyond Success kind) n))
+    ∙ ap (λ (x : List Row). merge (map (in_front Success s) (rows_within (beyond Success kind) (λ w. ending (Success ∷ w)) won_count n)) x) (gather_behind Failure f ending count lost_count lost (runs_within (beyond Failure kind) n))
 
-pub rows_here : (kind : Kinds) (ending : OutcomeWord → RunEnd) (n : ℕ) → kind [] ≡ Run → ((d : Outcome) (w : OutcomeWord) → kind (d ∷ w) ≡ Long) → rows_within kind ending n ≡ one_run (ending [], []) ∷ []
-rows_here kind ending n here others = ap (λ (ws : List OutcomeWord). gather (map (λ w. (ending w, w)) ws)) (runs_here kind n here others)
+pub rows_here : (kind : Kinds) (ending : OutcomeWord → RunEnd) (count : OutcomeWord → ℕ) (n : ℕ) → kind [] ≡ Run → ((d : Outcome) (w : OutcomeWord) → kind (d ∷ w) ≡ Long) → count [] ≡ 0 → rows_within kind ending count n ≡ one_run (ending [], ([], 0)) ∷ []
+rows_here kind ending count n here others none =
+    ap (λ (ws : List OutcomeWord). gather (map (λ w. (ending w, (w, count w))) ws)) (runs_here kind n here others)
+    ∙ ap (λ (k : ℕ). one_run (ending [], ([], k)) ∷ []) none
 
 -- rows that are made from the ends are the rows
-pub are_rows : (kind : Kinds) (ending : OutcomeWord → RunEnd) (rows : List Row) (n : ℕ) → HasRows kind ending rows → IsChoice n kind → rows ≡ rows_within kind ending n
-are_rows kind ending rows n (ends here others) c = sym (rows_here kind ending n here others)
-are_rows kind ending rows zero (asks asked w l) c = absurd (let e = c.0 in cc)
-are_rows kind ending rows (suc n) (asks asked w l) (inl c) = absurd (let e = c.0 in cc)
-are_rows kind ending rows (suc n) (asks {won = won} {lost = lost} asked w l) (inr c) =
-    ap (λ (x : List Row). of_both x lost) (are_rows (beyond Success kind) (λ v. ending (Success ∷ v)) won n w (c.1 Success))
-    ∙ ap (λ (x : List Row). of_both (rows_within (beyond Success kind) (λ v. ending (Success ∷ v)) n) x) (are_rows (beyond Failure kind) (λ v. ending (Failure ∷ v)) lost n l (c.1 Failure))
-    ∙ sym (rows_past kind ending n asked)
+pub are_rows : (kind : Kinds) (ending : OutcomeWord → RunEnd) (count : OutcomeWord → ℕ) (rows : List Row) (n : ℕ) → HasRows kind ending count rows → IsChoice n kind → rows ≡ rows_within kind ending count n
+are_rows kind ending count rows n (ends here others none) c = sym (rows_here kind ending count n here others none)
+are_rows kind ending count rows zero (asks normal asked s f w l) c = absurd (let e = c.0 in cc)
+are_rows kind ending count rows (suc n) (asks normal asked s f w l) (inl c) = absurd (let e = c.0 in cc)
+are_rows kind ending count rows (suc n) (asks {won_count = won_count} {lost_count = lost_count} {won = won} {lost = lost} normal asked s f w l) (inr c) =
+    ap (λ (x : List Row). of_both normal x lost) (are_rows (beyond Success kind) (λ v. ending (Success ∷ v)) won_count won n w (c.1 Success))
+    ∙ ap (λ (x : List Row). of_both normal (rows_within (beyond Success kind) (λ v. ending (Success ∷ v)) won_count n) x) (are_rows (beyond Failure kind) (λ v. ending (Failure ∷ v)) lost_count lost n l (c.1 Failure))
+    ∙ sym (rows_past kind ending count won_count lost_count normal n asked s f)

@@ -1,7 +1,7 @@
 -- Counts up to the greatest count.
 use Rattle.std.proofs.Common.{ℕ, ◌+◌, min, Bool, true, false, List, [], ◌∷◌, map, refl, ap, ◌∙◌, ◌≡◌, arith}
 use Rattle.rehearse_terms.specs.Outcomes.{Outcome, Success, Failure}
-use Rattle.rehearse_states.specs.Endings.{Row, end_eq, joined, with_row, merge, in_front, of_both}
+use Rattle.rehearse_states.specs.Endings.{Row, end_eq, joined, with_row, merge, in_front, counts_at, of_both}
 use Rattle.rehearse_states.specs.RowsShown.{most_runs, saturated, joined_up, with_row_up, merge_up, of_both_up}
 
 sum_up : (a b m : ℕ) → min (a + b) m ≡ min (min a m + min b m) m
@@ -25,12 +25,14 @@ merge_is_up : (rs ts : List Row) → map saturated (merge rs ts) ≡ merge_up (m
 merge_is_up rs [] = refl
 merge_is_up rs (t ∷ ts) = merge_is_up (with_row rs t) ts ∙ ap (λ (x : List Row). merge_up x (map saturated ts)) (put_up rs t)
 
-front_up : (d : Outcome) (rs : List Row) → map saturated (map (in_front d) rs) ≡ map (in_front d) (map saturated rs)
-front_up d [] = refl
-front_up d (r ∷ rs) = ap (λ (x : List Row). in_front d (saturated r) ∷ x) (front_up d rs)
+front_up : (d : Outcome) (k : ℕ) (rs : List Row) → map saturated (map (in_front d k) rs) ≡ map (in_front d k) (map saturated rs)
+front_up d k [] = refl
+front_up d k (r ∷ rs) = ap (λ (x : List Row). in_front d k (saturated r) ∷ x) (front_up d k rs)
 
-pub both_up : (won lost : List Row) → map saturated (of_both won lost) ≡ of_both_up (map saturated won) (map saturated lost)
-both_up won lost =
-    merge_is_up (map (in_front Success) won) (map (in_front Failure) lost)
-    ∙ ap (λ (x : List Row). merge_up x (map saturated (map (in_front Failure) lost))) (front_up Success won)
-    ∙ ap (λ (x : List Row). merge_up (map (in_front Success) (map saturated won)) x) (front_up Failure lost)
+pub both_up : (normal : Bool) (won lost : List Row) → map saturated (of_both normal won lost) ≡ of_both_up normal (map saturated won) (map saturated lost)
+both_up normal won lost =
+    let s = counts_at normal Success in
+    let f = counts_at normal Failure in
+    merge_is_up (map (in_front Success s) won) (map (in_front Failure f) lost)
+    ∙ ap (λ (x : List Row). merge_up x (map saturated (map (in_front Failure f) lost))) (front_up Success s won)
+    ∙ ap (λ (x : List Row). merge_up (map (in_front Success s) (map saturated won)) x) (front_up Failure f lost)

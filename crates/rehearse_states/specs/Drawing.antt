@@ -6,7 +6,8 @@ use Rattle.text.specs.TextsShown.{bytes_of_words}
 use Rattle.rehearse_rules.specs.EndingsShown.{halt_shown}
 use Rattle.rehearse_terms.specs.Outcomes.{OutcomeWord}
 use Rattle.rehearse_terms.specs.State.{Text}
-use Rattle.rehearse_states.specs.EndingLines.{failed}
+use Rattle.device_list.specs.DeviceList.{Devices}
+use Rattle.rehearse_rules.specs.Expected.{Answered, unexpected_of}
 use Rattle.rehearse_states.specs.Flow.{Node, Asks, Ends, numbered, walk}
 use Rattle.rehearse_states.specs.declared.flow.Node as rt
 use Rattle.rehearse_states.specs.declared.flow.Node.TheVariants as made
@@ -30,6 +31,6 @@ renumbered count (Ends ending) = Ends ending
 
 -- ---- what fails on the way
 
--- the commands that fail on the walk from the first line by a word
-abbrev pub failing_on : List Node → OutcomeWord → List (List Text)
-failing_on nodes w = failed (walk (numbered nodes) w 1).log
+-- the commands whose answers are unexpected on the walk from the first line by a word
+abbrev pub failing_on : Devices → List Node → OutcomeWord → List Answered
+failing_on devices nodes w = unexpected_of devices (walk (numbered nodes) w 1).log

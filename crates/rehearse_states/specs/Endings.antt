@@ -4,10 +4,10 @@ use Rattle.std.specs.Prelude.{◌≡◌, ℕ, ◌+◌, nat_eq, nat_le, Bool, tru
 use Rattle.std.specs.Str.{bytes_eq}
 use Rattle.device_list.specs.declared.finish.BoardEnd.{BoardEnd}
 use Rattle.device_list.specs.declared.finish.BoardEnd.TheVariants.{Boots, Restarts, Halts}
-use Rattle.rehearse_terms.specs.Outcomes.{OutcomeWord, Outcome, Success, Failure, WordKind, Run, Short, Long, failures, runs_within, beyond}
+use Rattle.rehearse_terms.specs.Outcomes.{OutcomeWord, Outcome, Success, Failure, WordKind, Run, Short, Long, runs_within, beyond}
 use Rattle.rehearse_rules.specs.Execution.{Ending, End, CutDevices, CutSteps, Unknown, Syntax, Unsupported, Size, Finished}
 use Rattle.rehearse_terms.specs.State.{Text, Variables, get}
-use Rattle.rehearse_rules.specs.Runs.{Task, run_on, state_of, ending_of, all_runs}
+use Rattle.rehearse_rules.specs.Runs.{Task, run_on, state_of, ending_of, unexpected, all_runs}
 
 abbrev pub same_finish : BoardEnd → BoardEnd → Bool
 same_finish Boots Boots = true
@@ -47,16 +47,20 @@ values_eq (a ∷ others) (b ∷ bs) = value_eq a b && values_eq others bs
 abbrev pub end_eq : RunEnd → RunEnd → Bool
 end_eq a b = ending_eq a.ending b.ending && values_eq a.values b.values
 
--- the word with fewer failures; if they have equally many, the first
-abbrev pub fewer : OutcomeWord → OutcomeWord → OutcomeWord
-fewer v w = cond (nat_le (failures v) (failures w)) v w
+-- the word of a run, and how many of its answers are unexpected
+abbrev pub Counted : Type 0
+Counted = OutcomeWord × ℕ
 
--- how runs end, how many do, the word of the first of these runs, and of the first with the fewest failures
+-- the one with fewer; if they have equally many, the first
+abbrev pub fewer : Counted → Counted → Counted
+fewer v w = cond (nat_le v.1 w.1) v w
+
+-- how runs end, how many do, the word of the first of these runs, and the first with the fewest unexpected answers
 pub record Row : Type 0 where
   pub run_end : RunEnd
   pub count : ℕ
   pub word : OutcomeWord
-  pub fewest : OutcomeWord
+  pub fewest : Counted
 
 -- further runs that end alike
 abbrev pub joined : Row → Row → Row
@@ -75,16 +79,16 @@ abbrev pub merge : List Row → List Row → List Row
 merge rows [] = rows
 merge rows (r ∷ rs) = merge (with_row rows r) rs
 
-abbrev pub one_run : RunEnd × OutcomeWord → Row
-one_run e = record { run_end = e.0; count = 1; word = e.1; fewest = e.1 }
+abbrev pub one_run : RunEnd × Counted → Row
+one_run e = record { run_end = e.0; count = 1; word = e.1.0; fewest = e.1 }
 
 -- the rows of runs in their order
-abbrev pub gather : List (RunEnd × OutcomeWord) → List Row
+abbrev pub gather : List (RunEnd × Counted) → List Row
 gather es = merge [] (map one_run es)
 
 -- the rows of the runs among the words of at most n outcomes
-abbrev pub rows_within : (OutcomeWord → WordKind) → (OutcomeWord → RunEnd) → ℕ → List Row
-rows_within kind ending n = gather (map (λ w. (ending w, w)) (runs_within kind n))
+abbrev pub rows_within : (OutcomeWord → WordKind) → (OutcomeWord → RunEnd) → (count : OutcomeWord → ℕ) → ℕ → List Row
+rows_within kind ending count n = gather (map (λ w. (ending w, (w, count w))) (runs_within kind n))
 
 -- how the run on a word ends
 abbrev pub ending : Task → OutcomeWord → Ending
@@ -104,22 +108,36 @@ end_of names task w = end_with names (ending task w) (state_of (run_on task w)).
 
 -- the rows of all runs of a task, with the variables that are asked for
 abbrev pub endings : (names : List Text) → Task → List Row
-endings names task = gather (map (λ w. (end_of names task w, w)) (all_runs task))
+endings names task = gather (map (λ w. (end_of names task w, (w, unexpected task w))) (all_runs task))
 
 -- ---- from the rows of both sides
 
-abbrev pub in_front : Outcome → Row → Row
-in_front outcome r = record r { word = outcome ∷ r.word; fewest = outcome ∷ r.fewest }
+-- after an outcome, which counts so much
+abbrev pub in_front : Outcome → (counts : ℕ) → Row → Row
+in_front outcome counts r =
+    record r { word = outcome ∷ r.word; fewest = (outcome ∷ r.fewest.0, counts + r.fewest.1) }
+
+-- how much an outcome counts where a failure is expected, or else a success
+abbrev pub counts_at : (normal : Bool) → Outcome → ℕ
+counts_at true Success = 1
+counts_at true Failure = 0
+counts_at false Success = 0
+counts_at false Failure = 1
 
 -- the runs after a success, then the runs after a failure
-abbrev pub of_both : (won lost : List Row) → List Row
-of_both won lost = merge (map (in_front Success) won) (map (in_front Failure) lost)
+abbrev pub of_both : (normal : Bool) → (won lost : List Row) → List Row
+of_both normal won lost =
+    merge (map (in_front Success (counts_at normal Success)) won) (map (in_front Failure (counts_at normal Failure)) lost)
 
 -- rows that are built from the ends: either the run ends here, or each outcome leads on
-pub data HasRows : (OutcomeWord → WordKind) → (OutcomeWord → RunEnd) → List Row → Type 0 where
-  ends : {kind : OutcomeWord → WordKind} {ending : OutcomeWord → RunEnd} → kind [] ≡ Run →
-      ((d : Outcome) (w : OutcomeWord) → kind (d ∷ w) ≡ Long) →
-      HasRows kind ending (one_run (ending [], []) ∷ [])
-  asks : {kind : OutcomeWord → WordKind} {ending : OutcomeWord → RunEnd} {won lost : List Row} → kind [] ≡ Short →
-      HasRows (beyond Success kind) (λ w. ending (Success ∷ w)) won →
-      HasRows (beyond Failure kind) (λ w. ending (Failure ∷ w)) lost → HasRows kind ending (of_both won lost)
+pub data HasRows : (OutcomeWord → WordKind) → (OutcomeWord → RunEnd) → (count : OutcomeWord → ℕ) → List Row → Type 0 where
+  ends : {kind : OutcomeWord → WordKind} {ending : OutcomeWord → RunEnd} {count : OutcomeWord → ℕ} → kind [] ≡ Run →
+      ((d : Outcome) (w : OutcomeWord) → kind (d ∷ w) ≡ Long) → count [] ≡ 0 →
+      HasRows kind ending count (one_run (ending [], ([], 0)) ∷ [])
+  asks : {kind : OutcomeWord → WordKind} {ending : OutcomeWord → RunEnd} {count won_count lost_count : OutcomeWord → ℕ}
+      {won lost : List Row} (normal : Bool) → kind [] ≡ Short →
+      ((w : OutcomeWord) → count (Success ∷ w) ≡ counts_at normal Success + won_count w) →
+      ((w : OutcomeWord) → count (Failure ∷ w) ≡ counts_at normal Failure + lost_count w) →
+      HasRows (beyond Success kind) (λ w. ending (Success ∷ w)) won_count won →
+      HasRows (beyond Failure kind) (λ w. ending (Failure ∷ w)) lost_count lost →
+      HasRows kind ending count (of_both normal won lost)

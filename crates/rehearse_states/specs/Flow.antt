@@ -4,7 +4,8 @@ use Rattle.std.specs.List.{slice_get}
 use Rattle.text.specs.Escapes.{word_form}
 use Rattle.text.specs.Words.{joined_words}
 use Rattle.rehearse_terms.specs.Outcomes.{OutcomeWord, Outcome, Success, Failure, WordKind, Run, Short, Long}
-use Rattle.rehearse_terms.specs.State.{Text, LoggedCommand, asked_of}
+use Rattle.rehearse_terms.specs.State.{Text}
+pub use Rattle.rehearse_rules.specs.Expected.{Answered, asked_in}
 use Rattle.rehearse_rules.specs.Execution.{Answer, Normal, Exit, Ended, Dry, Ending, End, succeeds}
 use Rattle.rehearse_rules.specs.Runs.{Task, run_on, state_of, kind_of}
 use Rattle.rehearse_rules.specs.Listing.{line, last_line}
@@ -13,14 +14,6 @@ use Rattle.rehearse_rules.specs.Listing.{line, last_line}
 pub data Node : Type 0 where
   Asks : (words : List Text) → (success failure : ℕ) → Node
   Ends : Ending → Node
-
--- a device command that took an outcome, with its words
-abbrev pub Answered : Type 0
-Answered = Bool × List Text
-
--- the device commands of a log that took an outcome; those that were told an answer again are left out
-abbrev pub asked_in : List LoggedCommand → List Answered
-asked_in log = map (λ e. (e.success, e.words)) (asked_of log)
 
 -- what is seen of a run: whether the word is a run, too short or too long; how the run ended, if it did; and its device
 -- commands that took an outcome

@@ -1,9 +1,9 @@
 -- What contracts see of rows and summaries. Ours.
-use Rattle.std.specs.Prelude.{ℕ, ◌+◌, min, List, [], ◌∷◌, map, true, false, Option, option_map, Vec}
+use Rattle.std.specs.Prelude.{ℕ, ◌+◌, min, List, [], ◌∷◌, map, Bool, true, false, Option, option_map, Vec}
 use Rattle.std.specs.declared.alloc.Global.{Global}
 use Rattle.rehearse_terms.specs.Outcomes.{Success, Failure}
 use Rattle.rehearse_rules.specs.EndingsShown.{halt_shown}
-use Rattle.rehearse_states.specs.Endings.{RunEnd, Row, end_eq, fewer, in_front}
+use Rattle.rehearse_states.specs.Endings.{RunEnd, Row, end_eq, fewer, in_front, counts_at}
 use Rattle.rehearse_states.specs.Summaries.{Summary}
 use Rattle.rehearse_terms.specs.State.{Text}
 use Rattle.rehearse_states.specs.declared.rows.Row as rt
@@ -33,8 +33,9 @@ abbrev pub merge_up : List Row → List Row → List Row
 merge_up rows [] = rows
 merge_up rows (r ∷ rs) = merge_up (with_row_up rows r) rs
 
-abbrev pub of_both_up : (won lost : List Row) → List Row
-of_both_up won lost = merge_up (map (in_front Success) won) (map (in_front Failure) lost)
+abbrev pub of_both_up : (normal : Bool) → (won lost : List Row) → List Row
+of_both_up normal won lost =
+    merge_up (map (in_front Success (counts_at normal Success)) won) (map (in_front Failure (counts_at normal Failure)) lost)
 
 abbrev pub value_shown : Option (Vec ℕ Global) → Option Text
 value_shown value = option_map (λ v. v.items) value
@@ -47,7 +48,7 @@ row_shown r = record {
   run_end = run_end_shown r.run_end.value;
   count = r.count;
   word = r.word;
-  fewest = r.fewest;
+  fewest = (r.fewest, r.unexpected);
 }
 
 abbrev pub rows_shown : Vec rt.Row Global → List Row

@@ -22,7 +22,7 @@ is_cut_devices _ = false
 -- a run that is over after this many steps and device commands
 abbrev pub summary_at_end : RunEnd → (steps devices : ℕ) → Summary
 summary_at_end run_end steps devices = record {
-  rows = one_run (run_end, []) ∷ [];
+  rows = one_run (run_end, ([], 0)) ∷ [];
   steps = steps;
   devices = devices;
   cut_steps = is_cut_steps run_end.ending;

@@ -14,6 +14,7 @@ use crate::rows::Row;
 use crate::run_word::RunWord;
 use crate::value_lines::put_values;
 use bootstore_state::StoreError;
+use device_list::Devices;
 use rehearse_rules::{Halt, finish_word};
 use std::alloc::Global;
 use text::Escaped;
@@ -119,7 +120,7 @@ fn put_row(text: &mut Vec<u8>, row: &Row) -> Result<(), StoreError>
     put(text, b" first ")?;
     put_digits(text, &row.word)?;
     put(text, b" fewest ")?;
-    put_number(text, row.fewest.failures() as u128)?;
+    put_number(text, row.unexpected as u128)?;
     put(text, b" ")?;
     put_digits(text, &row.fewest)?;
     put(text, b" ")?;
@@ -127,20 +128,21 @@ fn put_row(text: &mut Vec<u8>, row: &Row) -> Result<(), StoreError>
     put(text, b"\n")
 }
 
-/// Adds the lines of an ending: how many runs have it, the values that they leave, and what fails in
-/// the run with the fewest failures.
+/// Adds the lines of an ending: how many runs have it, the values that they leave, and the
+/// unexpected answers of the run with the fewest.
 fn put_lines(
     text: &mut Vec<u8>,
     names: &[&[u8]],
+    devices: &Devices,
     nodes: &Vec<Node>,
     row: &Row,
 ) -> Result<(), StoreError>
     ensures { OnOk result (text.new.items ≡ text.old.items ++ row_lines (map (λ n. n.now) names.now)
-        (failing_on (nodes_shown nodes.now)) (row_shown row.now)) }
+        (failing_on devices.now (nodes_shown nodes.now)) (row_shown row.now)) }
 {
     put_row(text, row)?;
     put_values(text, names, &row.run_end.values)?;
-    put_fails(text, nodes, &row.fewest, 1)?;
+    put_fails(text, devices, nodes, &row.fewest, 1)?;
     Ok(())
 }
 
@@ -160,16 +162,17 @@ fn total(rows: &Vec<Row>) -> u128
 pub fn text_of(
     alloc: Global,
     names: &[&[u8]],
+    devices: &Devices,
     rows: &Vec<Row>,
     nodes: &Vec<Node>,
     states: u32,
 ) -> Result<Vec<u8>, StoreError>
-    ensures { IfOk result (λ text. text.items ≡ endings_text (map (λ n. n.now) names.now) (failing_on (nodes_shown nodes.now))
-        (rows_shown rows.now) (counted (rows_shown rows.now)) states) }
+    ensures { IfOk result (λ text. text.items ≡ endings_text (map (λ n. n.now) names.now)
+        (failing_on devices.now (nodes_shown nodes.now)) (rows_shown rows.now) (counted (rows_shown rows.now)) states) }
 {
     let mut text = Vec::new(alloc);
     for row in rows {
-        put_lines(&mut text, names, nodes, row)?;
+        put_lines(&mut text, names, devices, nodes, row)?;
     }
     put(&mut text, b"all ")?;
     put_count(&mut text, total(rows))?;

@@ -1,17 +1,19 @@
-//! The lines of the device commands that fail on the way through a flow.
+//! The lines of the device commands whose answers are unexpected on the way through a flow.
 ghost use Rattle.std.specs.Prelude.{◌≡◌, ◌∷◌, ◌++◌, [], OnOk, map, option_map};
 ghost use Rattle.text.specs.TextsShown.{bytes_of_words};
 ghost use Rattle.rehearse_rules.specs.Execution.{outcome_when};
 ghost use Rattle.rehearse_states.specs.Flow.{next, numbered, walk};
 ghost use Rattle.rehearse_states.specs.Drawing.{node_shown};
 ghost use Rattle.rehearse_rules.specs.Listing.{line};
-ghost use Rattle.rehearse_states.specs.EndingLines.{failed, fails_lines, fails_text};
+ghost use Rattle.rehearse_rules.specs.Expected.{unexpected_of};
+ghost use Rattle.rehearse_states.specs.EndingLines.{answer_text, fails_lines, fails_text};
 
 use crate::ending_lines::put;
 use crate::flow::Node;
 use crate::flow_lines::put_words;
 use crate::run_word::RunWord;
 use bootstore_state::StoreError;
+use device_list::Devices;
 
 /// The node of a line; lines count from 1.
 fn node_at(nodes: &[Node], number: usize) -> Option<&Node>
@@ -29,38 +31,55 @@ fn next_of(success: bool, won: usize, lost: usize) -> usize
     if success { won } else { lost }
 }
 
-/// Adds the line of a device command that failed.
-pub fn put_fail(text: &mut Vec<u8>, words: &[Vec<u8>]) -> Result<(), StoreError>
-    ensures { OnOk result (text.new.items
-        ≡ text.old.items ++ line (fails_text (bytes_of_words words.now))) }
+/// Adds the word for an answer, and a space.
+fn put_answer(text: &mut Vec<u8>, success: bool) -> Result<(), StoreError>
+    ensures { OnOk result (text.new.items ≡ text.old.items ++ answer_text success) }
 {
-    put(text, b"fails ")?;
+    if success {
+        put(text, b"succeeds ")
+    } else {
+        put(text, b"fails ")
+    }
+}
+
+/// Adds the line of a device command with this answer.
+pub fn put_fail(text: &mut Vec<u8>, success: bool, words: &[Vec<u8>]) -> Result<(), StoreError>
+    ensures { OnOk result (text.new.items
+        ≡ text.old.items ++ line (fails_text (success, bytes_of_words words.now))) }
+{
+    put_answer(text, success)?;
     put_words(text, words)?;
     put(text, b"\n")
 }
 
-/// Adds the line of a device command, if it failed.
-fn put_if_failed(text: &mut Vec<u8>, words: &[Vec<u8>], success: bool) -> Result<(), StoreError>
-    ensures { OnOk result (text.new.items
-        ≡ text.old.items ++ fails_lines (failed ((success, bytes_of_words words.now) ∷ []))) }
+/// Adds the line of a device command, if its answer is unexpected.
+fn put_if_unexpected(
+    text: &mut Vec<u8>,
+    devices: &Devices,
+    success: bool,
+    words: &[Vec<u8>],
+) -> Result<(), StoreError>
+    ensures { OnOk result (text.new.items ≡ text.old.items
+        ++ fails_lines (unexpected_of devices.now ((success, bytes_of_words words.now) ∷ []))) }
 {
-    if success {
-        Ok(())
+    if devices.fails_normally(words) == success {
+        put_fail(text, success, words)
     } else {
-        put_fail(text, words)
+        Ok(())
     }
 }
 
-/// Adds a line for each device command that fails on the way from a line of a flow by the outcomes
-/// of a word.
+/// Adds a line for each device command whose answer is unexpected on the way from a line of a flow
+/// by the outcomes of a word.
 pub(crate) fn put_fails(
     text: &mut Vec<u8>,
+    devices: &Devices,
     nodes: &[Node],
     word: &RunWord,
     number: usize,
 ) -> Result<(), StoreError>
     ensures { OnOk result (text.new.items ≡ text.old.items
-        ++ fails_lines (failed (walk (numbered (map node_shown nodes.now))
+        ++ fails_lines (unexpected_of devices.now (walk (numbered (map node_shown nodes.now))
         word.now number).log)) }
 {
     let Some((success, rest)) = word.split_first() else {
@@ -76,6 +95,6 @@ pub(crate) fn put_fails(
     else {
         return Ok(());
     };
-    put_if_failed(text, words, success)?;
-    put_fails(text, nodes, rest, next_of(success, *won, *lost))
+    put_if_unexpected(text, devices, success, words)?;
+    put_fails(text, devices, nodes, rest, next_of(success, *won, *lost))
 }

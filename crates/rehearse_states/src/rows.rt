@@ -2,7 +2,7 @@
 ghost use Rattle.std.specs.Prelude.{◌≡◌, ◌≤◌, ◌∷◌, [], map, IfOk};
 ghost use Rattle.rehearse_rules.specs.Execution.{outcome_when};
 ghost use Rattle.rehearse_states.specs.RowsShown.{row_shown, run_end_shown, rows_shown, joined_up, with_row_up, merge_up};
-ghost use Rattle.rehearse_states.specs.Endings.{fewer, one_run, in_front};
+ghost use Rattle.rehearse_states.specs.Endings.{fewer, one_run, in_front, counts_at};
 
 use crate::run_end::{RunEnd, same_end};
 use crate::run_word::RunWord;
@@ -19,13 +19,15 @@ pub struct Row {
     pub count: u128,
     /// The word of the first of these runs.
     pub word: RunWord,
-    /// The word of the first of these runs with the fewest failures.
+    /// The word of the first of these runs with the fewest unexpected answers.
     pub fewest: RunWord,
+    /// How many of its answers are unexpected.
+    pub unexpected: usize,
 }
 
 /// The row of one run that is over.
 pub(crate) fn one_row(alloc: Global, run_end: RunEnd) -> Result<Vec<Row>, StoreError>
-    ensures { IfOk result (λ rows. rows_shown rows ≡ one_run (run_end_shown run_end, []) ∷ []) }
+    ensures { IfOk result (λ rows. rows_shown rows ≡ one_run (run_end_shown run_end, ([], 0)) ∷ []) }
 {
     let run_end = Rc::new(alloc, run_end)?;
     let mut rows = Vec::new(alloc);
@@ -34,6 +36,7 @@ pub(crate) fn one_row(alloc: Global, run_end: RunEnd) -> Result<Vec<Row>, StoreE
         count: 1,
         word: RunWord::new(),
         fewest: RunWord::new(),
+        unexpected: 0,
     })?;
     Ok(rows)
 }
@@ -52,22 +55,35 @@ pub fn copy_rows(alloc: Global, rows: &Vec<Row>) -> Result<Vec<Row>, StoreError>
             count: row.count,
             word,
             fewest,
+            unexpected: row.unexpected,
         })?;
     }
     Ok(copies)
 }
 
-/// Puts an outcome before each word of the rows.
+/// How much an outcome counts where a failure is expected, or else a success.
+fn counts_at(normal: bool, success: bool) -> usize
+    ensures { result ≡ counts_at normal (outcome_when success) }
+{
+    usize::from(normal == success)
+}
+
+/// Puts an outcome before each word of the rows, where a failure is expected, or else a success.
 pub(crate) fn put_in_front(
     alloc: Global,
     rows: Vec<Row>,
+    normal: bool,
     success: bool,
 ) -> Result<Vec<Row>, StoreError>
-    ensures { IfOk result (λ made. rows_shown made ≡ map (in_front (outcome_when success))
-        (rows_shown rows)) }
+    ensures { IfOk result (λ made. rows_shown made
+        ≡ map (in_front (outcome_when success) (counts_at normal (outcome_when success))) (rows_shown rows)) }
 {
+    let counts = counts_at(normal, success);
     let mut made = Vec::new(alloc);
     for row in rows {
+        let Some(unexpected) = counts.checked_add(row.unexpected) else {
+            return Err(StoreError::Memory);
+        };
         let word = row.word.with_first(alloc, success)?;
         let fewest = row.fewest.with_first(alloc, success)?;
         made.push(Row {
@@ -75,33 +91,29 @@ pub(crate) fn put_in_front(
             count: row.count,
             word,
             fewest,
+            unexpected,
         })?;
     }
     Ok(made)
 }
 
-/// The word with fewer failures; if they have equally many, the first.
-fn fewer(first: RunWord, second: &RunWord) -> Result<RunWord, StoreError>
-    ensures { IfOk result (λ word. word ≡ fewer first second.now) }
-{
-    if first.failures() <= second.failures() {
-        return Ok(first);
-    }
-    let copy = second.clone()?;
-    Ok(copy)
-}
-
-/// The row of the runs of both rows, which end alike.
+/// The row of the runs of both rows, which end alike: the run with fewer unexpected answers, or if
+/// they have equally many, the first.
 fn join(row: Row, further: &Row) -> Result<Row, StoreError>
     ensures { IfOk result (λ made. row_shown made ≡ joined_up (row_shown row)
         (row_shown further.now)) }
 {
-    let fewest = fewer(row.fewest, &further.fewest)?;
+    let count = row.count.saturating_add(further.count);
+    if row.unexpected <= further.unexpected {
+        return Ok(Row { count, ..row });
+    }
+    let fewest = further.fewest.clone()?;
     Ok(Row {
         run_end: row.run_end,
-        count: row.count.saturating_add(further.count),
+        count,
         word: row.word,
         fewest,
+        unexpected: further.unexpected,
     })
 }
 

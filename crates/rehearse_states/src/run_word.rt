@@ -1,7 +1,6 @@
 //! The word of a run: whether each of its device commands succeeded, the first one first.
 ghost use Rattle.std.specs.Prelude.{◌≡◌, ◌↔◌, ◌∷◌, [], IsTrue, IfNone, IfOk, IfSome};
 ghost use Rattle.rehearse_rules.specs.Execution.{outcome_when};
-ghost use Rattle.rehearse_terms.specs.Outcomes.{failures};
 
 use bootstore_state::StoreError;
 use std::alloc::{AllocError, Global};
@@ -13,8 +12,6 @@ use std::rc::Rc;
 /// a clone takes no memory. A word is no longer than the bound on device commands.
 #[cycle(run_word)]
 pub struct RunWord {
-    /// How many of the outcomes are failures.
-    failed: usize,
     /// The first outcome and what is behind it; none of the empty word.
     first: Option<Rc<Step>>,
 }
@@ -28,16 +25,14 @@ struct Step {
 }
 
 impl Model for RunWord {
-    ghost use Rattle.std.specs.Prelude.{◌≡◌, length};
-    ghost use Rattle.rehearse_terms.specs.Outcomes.{OutcomeWord, failures};
+    ghost use Rattle.std.specs.Prelude.{length};
+    ghost use Rattle.rehearse_terms.specs.Outcomes.{OutcomeWord};
 
     ghost Value = { OutcomeWord };
 
     ghost use Rattle.rehearse_states.specs.RunWords.{outcomes};
 
     ghost view = { λ w. outcomes w.first };
-
-    ghost invariant = { λ w. w.failed ≡ failures (outcomes w.first) };
 
     ghost size = { length };
 
@@ -50,7 +45,7 @@ impl Model for RunWord {
 impl Drop for RunWord {
     fn drop(mut self) {
         loop {
-            let RunWord { failed: _, first } = self;
+            let RunWord { first } = self;
             let Some(shared) = first else {
                 return;
             };
@@ -71,10 +66,7 @@ impl Clone for RunWord {
             None => None,
             Some(step) => Some(step.clone()?),
         };
-        Ok(RunWord {
-            failed: self.failed,
-            first,
-        })
+        Ok(RunWord { first })
     }
 }
 
@@ -83,10 +75,7 @@ impl RunWord {
     pub(crate) fn new() -> Self
         ensures { result ≡ [] }
     {
-        RunWord {
-            failed: 0,
-            first: None,
-        }
+        RunWord { first: None }
     }
 
     /// Whether the word has no outcome.
@@ -96,20 +85,10 @@ impl RunWord {
         self.first.is_none()
     }
 
-    /// How many of the outcomes are failures.
-    pub(crate) fn failures(&self) -> usize
-        ensures { result ≡ failures self.now }
-    {
-        self.failed
-    }
-
     /// The word with one more outcome, the first. `Memory` if it takes more than there is.
     pub(crate) fn with_first(self, alloc: Global, success: bool) -> Result<Self, StoreError>
         ensures { IfOk result (λ word. word ≡ outcome_when success ∷ self) }
     {
-        let Some(failed) = self.failed.checked_add(usize::from(!success)) else {
-            return Err(StoreError::Memory);
-        };
         let first = Rc::new(
             alloc,
             Step {
@@ -117,10 +96,7 @@ impl RunWord {
                 rest: self,
             },
         )?;
-        Ok(RunWord {
-            failed,
-            first: Some(first),
-        })
+        Ok(RunWord { first: Some(first) })
     }
 
     /// The first outcome, and the word of those behind it; none of the empty word.

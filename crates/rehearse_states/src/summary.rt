@@ -48,22 +48,23 @@ pub fn of_end(
     })
 }
 
-/// The summary of a device command that asks, from its two sides.
+/// The summary of a device command that asks, from its two sides. A failure is expected there, or else a success.
 pub fn of_sides(
     alloc: Global,
     steps: u32,
     devices: u32,
+    normal: bool,
     won: Summary,
     lost: Summary,
     place: usize,
 ) -> Result<Summary, StoreError>
     ensures sums { IfOk result
-        (λ s. summary_shown s ≡ summary_of_sides of_both_up steps devices (summary_shown won)
+        (λ s. summary_shown s ≡ summary_of_sides (of_both_up normal) steps devices (summary_shown won)
         (summary_shown lost)) }
     ensures place { IfOk result (λ s. s.place ≡ place) }
 {
-    let front = put_in_front(alloc, won.rows, true)?;
-    let others = put_in_front(alloc, lost.rows, false)?;
+    let front = put_in_front(alloc, won.rows, normal, true)?;
+    let others = put_in_front(alloc, lost.rows, normal, false)?;
     let rows = merge_rows(alloc, front, others)?;
     Ok(Summary {
         rows,

@@ -3,7 +3,8 @@ use Rattle.std.specs.declared.alloc.Global.{Global}
 use Rattle.rehearse_rules.specs.Listing.{line}
 use Rattle.rehearse_states.specs.Flow.{numbered, walk}
 use Rattle.rehearse_states.specs.Drawing.{failing_on, node_shown, nodes_shown}
-use Rattle.rehearse_states.specs.EndingLines.{failed, fails_lines, row_text, value_lines}
+use Rattle.rehearse_states.specs.EndingLines.{fails_lines, row_text, value_lines}
+use Rattle.rehearse_rules.specs.Expected.{unexpected_of}
 use Rattle.rehearse_states.specs.RowsShown.{row_shown, value_shown}
 use Rattle.rehearse_states.specs.declared.flow.Node as rt
 use Rattle.rehearse_states.proofs.EndingLineLemmas.{three_pieces}
@@ -15,7 +16,7 @@ returns c =
     let names = map (λ n. n.now) c.args.names.now in
     let values : c.deref-2.result.now ≡ c.args.row.now.run_end.value.values.items = search rules in
     let nodes : c.deref-3.result.now ≡ c.args.nodes.now.items = search rules in
-    three_pieces c.args.text.now.items (line (row_text row)) (value_lines names row.run_end.values) (fails_lines (failing_on (nodes_shown c.args.nodes.now) row.fewest)) _ _ _ c.in_ok-put_row.ensures
+    three_pieces c.args.text.now.items (line (row_text row)) (value_lines names row.run_end.values) (fails_lines (failing_on c.args.devices.now (nodes_shown c.args.nodes.now) row.fewest.0)) _ _ _ c.in_ok-put_row.ensures
     (c.in_ok-put_values.ensures ∙ ap (λ (vs : List (Option (Vec ℕ Global))). c.put_row.new.text.items ++ value_lines names (map value_shown vs)) values)
     (c.in_ok-put_fails.ensures
-    ∙ ap (λ (ns : List rt.Node). c.put_values.new.text.items ++ fails_lines (failed (walk (numbered (map node_shown ns)) row.fewest 1).log)) nodes)
+    ∙ ap (λ (ns : List rt.Node). c.put_values.new.text.items ++ fails_lines (unexpected_of c.args.devices.now (walk (numbered (map node_shown ns)) row.fewest.0 1).log)) nodes)

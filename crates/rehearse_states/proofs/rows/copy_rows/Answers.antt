@@ -11,8 +11,8 @@ loop-row-preserved c =
     let items = c.deref-row-items.result.now in
     let i = c.loop-row.row-index in
     let row : rt.Row = c.row-item.result in
-    let made : rt.Row = record { run_end = c.in_ok-run_end.run_end; count = row.count; word = c.in_ok-word.word; fewest = c.in_ok-fewest.fewest } in
-    let same : row_shown made ≡ row_shown row = row_same (run_end_shown made.run_end.value) (run_end_shown row.run_end.value) row.count made.word row.word made.fewest row.fewest (ap run_end_shown c.in_ok-run_end.ensures.cases) c.in_ok-word.ensures.cases c.in_ok-fewest.ensures.cases in
+    let made : rt.Row = record { run_end = c.in_ok-run_end.run_end; count = row.count; word = c.in_ok-word.word; fewest = c.in_ok-fewest.fewest; unexpected = row.unexpected } in
+    let same : row_shown made ≡ row_shown row = row_same (run_end_shown made.run_end.value) (run_end_shown row.run_end.value) row.count made.word row.word made.fewest row.fewest row.unexpected (ap run_end_shown c.in_ok-run_end.ensures.cases) c.in_ok-word.ensures.cases c.in_ok-fewest.ensures.cases in
     ap (map row_shown) c.in_ok-push.ensures.items
     ∙ map-append row_shown c.loop-row.copies.items (made ∷ [])
     ∙ ap (λ (x : List Row). x ++ row_shown made ∷ []) c.loop-row.invariant
