@@ -1,5 +1,5 @@
 -- The commands of a log that took an outcome, and those after the first of them.
-use Rattle.std.proofs.Common.{◌≡◌, ◌∙◌, refl, ap, suc, not, List, [], ◌∷◌, ◌++◌, map, length}
+use Rattle.std.proofs.Common.{◌≡◌, ◌∙◌, refl, ap, not, List, [], ◌∷◌, ◌++◌, map, length}
 use Rattle.std.proofs.lemmas.List.{map-append}
 use Rattle.std.proofs.lemmas.List.Elements.{filter-append}
 use Rattle.rehearse_terms.specs.State.{LoggedCommand, asked_of}

@@ -3,6 +3,7 @@ use Rattle.std.proofs.Common.{◌≡◌, ◌∙◌, refl, sym, ap, subst, ℕ, �
 use Rattle.bootstore_state.specs.Moment.{Moment}
 use Rattle.rehearse_terms.specs.Outcomes.{OutcomeWord, WordKind, Run, Success, Failure}
 use Rattle.rehearse_terms.specs.State.{Text, State, LoggedCommand, get}
+use Rattle.rehearse_rules.specs.Expected.{unexpected_of}
 use Rattle.rehearse_rules.specs.Execution.{Limits, Request, Ending, End, CutDevices, CutSteps, Unknown, Syntax, Unsupported, Size, Finished}
 use Rattle.rehearse_machine.specs.Came.{Came, Over, Wants}
 use Rattle.rehearse_machine.specs.Frames.{Frame, Next, Ask}
@@ -22,7 +23,7 @@ use Rattle.rehearse_states.specs.Flow.{Answered, asked_in, Seen}
 use Rattle.rehearse_states.specs.Summaries.{Summary}
 use Rattle.rehearse_reuse.specs.DrawnRuns.{further, seen_at}
 use Rattle.rehearse_reuse.specs.Futures.{came_kind, came_ending, came_end, came_to_end, came_log, came_steps, came_devices}
-use Rattle.rehearse_reuse.specs.SummedRuns.{Sums, FitsIf, moved_on}
+use Rattle.rehearse_reuse.specs.SummedRuns.{SumsAt, came_count, FitsIf, moved_on}
 use Rattle.rehearse_reuse.proofs.LogLemmas.{asked-on, further_behind}
 use Rattle.rehearse_reuse.specs.Reuse.{FitsByKeys, SummariesAreReused, NodesAreReused, KeysAreReused}
 
@@ -34,10 +35,14 @@ Kinds = OutcomeWord → WordKind
 abbrev RunEnds : Type 0
 RunEnds = OutcomeWord → RunEnd
 
-rows_of_runs : (kind : Kinds) (one other : RunEnds) (rows : List Row) → ((w : OutcomeWord) → kind w ≡ Run → one w ≡ other w) → HasRows kind one rows → HasRows kind other rows
-rows_of_runs kind one other rows e (ends run long) = subst (λ (end : RunEnd). HasRows kind other (one_run (end, []) ∷ [])) (sym (e [] run)) (ends run long)
-rows_of_runs kind one other rows e (asks short won lost) =
-    asks short (rows_of_runs _ _ (λ w. other (Success ∷ w)) _ (λ w run. e (Success ∷ w) run) won) (rows_of_runs _ _ (λ w. other (Failure ∷ w)) _ (λ w run. e (Failure ∷ w) run) lost)
+abbrev Counts : Type 0
+Counts = OutcomeWord → ℕ
+
+rows_of_runs : (kind : Kinds) (one other : RunEnds) (count another : Counts) (rows : List Row) → ((w : OutcomeWord) → kind w ≡ Run → one w ≡ other w) → ((w : OutcomeWord) → count w ≡ another w) → HasRows kind one count rows → HasRows kind other another rows
+rows_of_runs kind one other count another rows e c (ends run long none) = subst (λ (end : RunEnd). HasRows kind other another (one_run (end, ([], 0)) ∷ [])) (sym (e [] run)) (ends run long (sym (c []) ∙ none))
+rows_of_runs kind one other count another rows e c (asks normal short s f won lost) =
+    asks normal short (λ w. sym (c (Success ∷ w)) ∙ s w) (λ w. sym (c (Failure ∷ w)) ∙ f w)
+    (rows_of_runs _ _ (λ w. other (Success ∷ w)) _ _ _ (λ w run. e (Success ∷ w) run) (λ w. refl) won) (rows_of_runs _ _ (λ w. other (Failure ∷ w)) _ _ _ (λ w run. e (Failure ∷ w) run) (λ w. refl) lost)
 
 -- ---- what two things that come to the same have in common
 
@@ -86,7 +91,7 @@ further_alike k l here there h =
 
 -- ---- no bound prevents it, since the moment fits
 
-module _ (limits : Limits) (names : List Text) (m n : Moment) (keys : List Key) (s : Summary) (sums : Sums names (asked_at limits m) s) (fits : FitsByKeys limits keys s m n) where
+module _ (limits : Limits) (names : List Text) (m n : Moment) (keys : List Key) (s : Summary) (sums : SumsAt names limits m s) (fits : FitsByKeys limits keys s m n) where
   never_cut_steps : (cut : Bool) (here there reach bound : ℕ) (c : Came) → FitsIf cut here there reach bound → (cut ≡ false → came_ending c ≡ CutSteps → ⊥) → came_ending c ≡ CutSteps → there < here → ⊥
   never_cut_steps true here there reach bound c f u e l = absurd (omega (arith, f))
   never_cut_steps false here there reach bound c f u e l = u refl e
@@ -117,20 +122,31 @@ module _ (limits : Limits) (names : List Text) (m n : Moment) (keys : List Key) 
   same_there w (same h) = h
   same_there w (cut_here h) = absurd (never_cut w (asked_at limits m w) refl h)
   same_there w (beyond (inl h)) = absurd (never_beyond s.cut_steps m.steps n.steps s.steps limits.step_bound (came_steps (asked_at limits m w)) fits.steps (sums.steps w) h.0 h.1)
-  same_there w (beyond (inr h)) = absurd (never_beyond s.cut_devices (length m.log) (length n.log) s.devices limits.device_bound (came_devices (asked_at limits m w)) fits.devices (sums.devices w) h.0 h.1)
+  same_there w (beyond (inr h)) = absurd (never_beyond s.cut_devices (length m.log) (length n.log) s.devices limits.device_bound (came_devices (asked_at limits m w)) fits.devices (sums.reached w) h.0 h.1)
 
   module _ (alike : (w : OutcomeWord) → IsSameCame limits m.steps n.steps m.log n.log names (asked_at limits m w) (asked_at limits n w)) where
-    rows_there : HasRows (λ w. came_kind (asked_at limits n w)) (λ w. came_end names (asked_at limits n w)) s.rows
-    rows_there =
-        subst (λ (kind : Kinds). HasRows kind (λ w. came_end names (asked_at limits n w)) s.rows) (λ i. λ w. sym (alike w).kind i)
-        (rows_of_runs (λ w. came_kind (asked_at limits m w)) (λ w. came_end names (asked_at limits m w)) (λ w. came_end names (asked_at limits n w)) s.rows
-        (λ w run. end_of_run names (asked_at limits m w) (asked_at limits n w) (alike w).end run) sums.has_rows)
+    count_here : Counts
+    count_here w = came_count limits.devices (length (asked_in m.log)) (asked_at limits m w)
 
-    sums_there : Sums names (asked_at limits n) (moved_on m n s)
+    count_there : Counts
+    count_there w = came_count limits.devices (length (asked_in n.log)) (asked_at limits n w)
+
+    counts_alike : (w : OutcomeWord) → count_here w ≡ count_there w
+    unfolding count_here count_there
+    counts_alike w = sym (ap (λ (l : List Answered). length (unexpected_of limits.devices l)) (further_alike m.log n.log (came_log (asked_at limits m w)) (came_log (asked_at limits n w)) (alike w).logs))
+
+    rows_there : HasRows (λ w. came_kind (asked_at limits n w)) (λ w. came_end names (asked_at limits n w)) (λ w. came_count limits.devices (length (asked_in n.log)) (asked_at limits n w)) s.rows
+    unfolding count_here count_there
+    rows_there =
+        subst (λ (kind : Kinds). HasRows kind (λ w. came_end names (asked_at limits n w)) count_there s.rows) (λ i. λ w. sym (alike w).kind i)
+        (rows_of_runs (λ w. came_kind (asked_at limits m w)) (λ w. came_end names (asked_at limits m w)) (λ w. came_end names (asked_at limits n w)) count_here count_there s.rows
+        (λ w run. end_of_run names (asked_at limits m w) (asked_at limits n w) (alike w).end run) counts_alike sums.has_rows)
+
+    sums_there : SumsAt names limits n (moved_on m n s)
     sums_there = record {
       has_rows = rows_there;
       steps = λ w. let a = (alike w).steps in let b = sums.steps w in omega arith;
-      devices = λ w. let a = (alike w).devices in let b = sums.devices w in omega arith;
+      reached = λ w. let a = (alike w).devices in let b = sums.reached w in omega arith;
       uncut_steps = λ u w e. sums.uncut_steps u w (cut_back names (asked_at limits m w) (asked_at limits n w) CutSteps (alike w).end (λ status f. cc) e);
       uncut_devices = λ u w e. sums.uncut_devices u w (cut_back names (asked_at limits m w) (asked_at limits n w) CutDevices (alike w).end (λ status f. cc) e);
     }
@@ -214,7 +230,7 @@ module _ (limits : Limits) (names : List Text) (m n : Moment) (keys : List Key) 
         beyond (inl (f, omega arith))
     alike_between (beyond (inr h)) =
         let a = near.devices in
-        let f : length n.log < length t.log = room_between s.cut_devices (length m.log) (length n.log) (length t.log) s.devices limits.device_bound (came_devices here) fits.devices (sums.devices w) h.0 h.1 in
+        let f : length n.log < length t.log = room_between s.cut_devices (length m.log) (length n.log) (length t.log) s.devices limits.device_bound (came_devices here) fits.devices (sums.reached w) h.0 h.1 in
         let g = h.1 in
         beyond (inr (f, omega arith))
 
@@ -236,7 +252,7 @@ agree_then (AnswerTo call) s t u a b = b ∙ a
 agree_then (Succeeded start) s t u a b = b ∙ a
 agree_then Status s t u a b = b ∙ a
 
-module _ (limits : Limits) (names : List Text) (m n : Moment) (keys : List Key) (s : Summary) (am : Asking limits m) (an : Asking limits n) (enough : AreEnoughAt limits names m keys) (sums : Sums names (asked_at limits m) s) (fits : FitsByKeys limits keys s m n) where
+module _ (limits : Limits) (names : List Text) (m n : Moment) (keys : List Key) (s : Summary) (am : Asking limits m) (an : Asking limits n) (enough : AreEnoughAt limits names m keys) (sums : SumsAt names limits m s) (fits : FitsByKeys limits keys s m n) where
   abbrev asks_there : Next
   asks_there = Ask an.request (frames_of n.frames) (state_at n [])
 
