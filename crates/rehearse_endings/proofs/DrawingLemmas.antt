@@ -1,5 +1,5 @@
 -- What the nodes of a flow draw: ends, and device commands that ask.
-use Rattle.std.proofs.Common.{ℕ, zero, suc, Bool, false, not, cond, map, List, [], ◌∷◌, ◌++◌, length, Option, Some, None, refl, sym, ap, ◌∙◌, ◌≡◌, append_assoc, append-nil, inl, inr, arith}
+use Rattle.std.proofs.Common.{ℕ, zero, suc, ◌+◌, Bool, true, false, not, cond, map, List, [], ◌∷◌, ◌++◌, length, Option, Some, None, refl, sym, ap, ◌∙◌, ◌≡◌, append_assoc, append-nil, inl, inr, arith}
 use Rattle.std.specs.List.{slice_get}
 use Rattle.bootstore_state.specs.Moment.{Moment}
 use Rattle.rehearse_terms.specs.Outcomes.{OutcomeWord, Outcome, Success, Failure, WordKind, Short}
@@ -29,6 +29,10 @@ use Rattle.rehearse_reuse.specs.Futures.{came_kind, came_to_end, came_log}
 use Rattle.rehearse_states.specs.Flow.{Node, Asks, Ends, Answered, asked_in, Seen, behind, stands_at, goes_on, walk}
 use Rattle.rehearse_reuse.specs.DrawnRuns.{further, seen_behind, Draws, seen_at}
 use Rattle.rehearse_states.specs.Drawing.{HasMore}
+use Rattle.device_list.specs.DeviceList.{Devices, fails_normally}
+use Rattle.rehearse_rules.specs.Expected.{is_unexpected, unexpected_of}
+use Rattle.rehearse_states.specs.Endings.{counts_at}
+use Rattle.rehearse_reuse.specs.SummedRuns.{came_count}
 use Rattle.rehearse_states.specs.Words.{words_in}
 use Rattle.rehearse_endings.specs.Searching.{future, seen_from}
 
@@ -43,7 +47,7 @@ get_seam : {A : Type 0} (xs ys : List A) (x : A) → slice_get (xs ++ x ∷ ys) 
 get_seam [] ys x = refl
 get_seam (z ∷ xs) ys x = get_seam xs ys x
 
-further_all : (log : List Answered) → further (length log) log ≡ []
+pub further_all : (log : List Answered) → further (length log) log ≡ []
 further_all [] = refl
 further_all (c ∷ log) = further_all log
 
@@ -120,6 +124,17 @@ took : (limits : Limits) (known : List Key) (request : Request) (d : Outcome) (w
 took limits known request Success w s = ended_itself limits known request.effect.ends request.name (set_environment (sets_in request.words request.effect.sets) (logged Success request (record s { word = w })))
 took limits known request Failure w s = normal_alike limits s.steps s.steps _ _ known _ _ (beside_itself limits known (logged Failure request (record s { word = w })))
 
+-- what the answer of one command counts
+first_counts : (devices : Devices) (call : List Text) (normal : Bool) → normal ≡ fails_normally devices call → (d : Outcome) (rest : List Answered) → length (unexpected_of devices ((succeeds d, call) ∷ rest)) ≡ counts_at normal d + length (unexpected_of devices rest)
+first_counts devices call normal e d rest =
+    ap (λ (b : Bool). let so : Bool = elim b [ true ↦ succeeds d | false ↦ not (succeeds d) ] in length (cond so ((succeeds d, call) ∷ unexpected_of devices rest) (unexpected_of devices rest))) (sym e) ∙ by normal d
+  where
+    by : (b : Bool) (o : Outcome) → (let so : Bool = elim b [ true ↦ succeeds o | false ↦ not (succeeds o) ] in length (cond so ((succeeds d, call) ∷ unexpected_of devices rest) (unexpected_of devices rest))) ≡ counts_at b o + length (unexpected_of devices rest)
+    by true Success = omega arith
+    by true Failure = omega arith
+    by false Success = omega arith
+    by false Failure = omega arith
+
 module _ (limits : Limits) (m : Moment) (asking : Asking limits m) where
   logs_next : (d : Outcome) (w : OutcomeWord) → (rest : List LoggedCommand) × (came_log (asked_at limits m (d ∷ w)) ≡ m.log ++ entry_of asking.request d ∷ rest)
   logs_next d w =
@@ -150,6 +165,18 @@ module _ (limits : Limits) (m : Moment) (asking : Asking limits m) where
       ∙ ap (λ (log : List Answered). entry ∷ log) (further_one (asked_in m.log) h.0 entry)
       ∙ sym (further_behind (asked_in m.log) (entry ∷ h.0))
       ∙ ap (further (length (asked_in m.log))) (sym h.1))
+
+  -- how much it counts
+  pub counts_next : (normal : Bool) → normal ≡ fails_normally limits.devices (asking.request.name ∷ asking.request.words) → asking.request.again ≡ false → (d : Outcome) (w : OutcomeWord)
+      → came_count limits.devices (length (asked_in m.log)) (asked_at limits m (d ∷ w)) ≡ counts_at normal d + came_count limits.devices (suc (length (asked_in m.log))) (asked_at limits m (d ∷ w))
+  counts_next normal e fresh d w =
+      let h = asked_next d w fresh in
+      let entry : Answered = (succeeds d, asking.request.name ∷ asking.request.words) in
+      ap (λ (log : List Answered). length (unexpected_of limits.devices (further (length (asked_in m.log)) log))) h.1
+      ∙ ap (λ (log : List Answered). length (unexpected_of limits.devices log)) (further_behind (asked_in m.log) (entry ∷ h.0))
+      ∙ first_counts limits.devices (asking.request.name ∷ asking.request.words) normal e d h.0
+      ∙ ap (λ (log : List Answered). counts_at normal d + length (unexpected_of limits.devices log)) (sym (further_one (asked_in m.log) h.0 entry))
+      ∙ ap (λ (log : List Answered). counts_at normal d + length (unexpected_of limits.devices (further (suc (length (asked_in m.log))) log))) (sym h.1)
 
   -- the words of the device command, read from the log once it has answered
   pub words_logged : (log : List LoggedCommand) (d : Outcome) (w : OutcomeWord) → came_log (asked_at limits m (d ∷ w)) ≡ log → words_in (slice_get log (length m.log)) ≡ asking.request.name ∷ asking.request.words

@@ -2,7 +2,7 @@
 use Rattle.std.proofs.Common.{◌≡◌, ◌≢◌, true, false, List, [], ◌∷◌, ◌++◌, map, ap, subst, ◌∙◌, append_assoc}
 use Rattle.std.specs.List.{list_any}
 use Rattle.rehearse_terms.specs.State.{Text}
-use Rattle.rehearse_rules.specs.Runs.{Task, all_runs}
+use Rattle.rehearse_rules.specs.Runs.{Task, unexpected, all_runs}
 use Rattle.rehearse_states.specs.Endings.{RunEnd, Row, end_eq, with_row, merge, one_run, end_of, endings}
 use Rattle.rehearse_states.proofs.RowsOfRuns.{AreApart, Misses, apart_on, either_left, either_right, end_itself}
 
@@ -25,6 +25,6 @@ other_ending r s h e = let k : end_eq s.run_end r.run_end ≡ true = ap (end_eq 
 
 pub no_ending_twice : (names : List Text) (task : Task) (r s : Row) (before between behind : List Row) → endings names task ≡ before ++ r ∷ between ++ s ∷ behind → r.run_end ≢ s.run_end
 no_ending_twice names task r s before between behind is =
-    let all : AreApart (endings names task) = apart_merge [] (map one_run (map (λ w. (end_of names task w, w)) (all_runs task))) tt in
+    let all : AreApart (endings names task) = apart_merge [] (map one_run (map (λ w. (end_of names task w, (w, unexpected task w))) (all_runs task))) tt in
     let apart = apart_behind before (r ∷ between ++ s ∷ behind) (subst AreApart (is ∙ append_assoc before (r ∷ between) (s ∷ behind)) all) in
     other_ending r s (missed_in r.run_end between s behind apart.0)

@@ -3,7 +3,7 @@ use Rattle.std.proofs.Common.{◌≡◌, ℕ, ◌+◌, Bool, true, false, cond, 
 use Rattle.std.specs.List.{list_any}
 use Rattle.rehearse_terms.specs.Outcomes.{OutcomeWord}
 use Rattle.rehearse_terms.specs.State.{Text}
-use Rattle.rehearse_rules.specs.Runs.{Task, all_runs}
+use Rattle.rehearse_rules.specs.Runs.{Task, unexpected, all_runs}
 use Rattle.rehearse_states.specs.Endings.{RunEnd, Row, end_eq, joined, with_row, merge, one_run, end_of, endings}
 use Rattle.rehearse_states.proofs.RowsOfRuns.{AreApart, Misses, either_left, either_right, end_itself, end_same}
 use Rattle.rehearse_endings.proofs.LawLemmas.{apart_merge, missed_in}
@@ -61,10 +61,10 @@ one_if true w ws n h = omega (arith, h)
 one_if false w ws n h = omega (arith, h)
 
 -- single runs
-counts_runs : (e : RunEnd) (ends : OutcomeWord → RunEnd) (ws : List OutcomeWord) → counts e (map one_run (map (λ w. (ends w, w)) ws)) ≡ length (filter (λ w. end_eq (ends w) e) ws)
-counts_runs e ends [] = refl
-counts_runs e ends (w ∷ ws) =
-    one_if (end_eq (ends w) e) w (filter (λ v. end_eq (ends v) e) ws) (counts e (map one_run (map (λ v. (ends v, v)) ws))) (counts_runs e ends ws)
+counts_runs : (e : RunEnd) (ends : OutcomeWord → RunEnd) (count : OutcomeWord → ℕ) (ws : List OutcomeWord) → counts e (map one_run (map (λ w. (ends w, (w, count w))) ws)) ≡ length (filter (λ w. end_eq (ends w) e) ws)
+counts_runs e ends count [] = refl
+counts_runs e ends count (w ∷ ws) =
+    one_if (end_eq (ends w) e) w (filter (λ v. end_eq (ends v) e) ws) (counts e (map one_run (map (λ v. (ends v, (v, count v))) ws))) (counts_runs e ends count ws)
 
 none_then : (b : Bool) (k n m : ℕ) → b ≡ false → n ≡ m → cond b k 0 + n ≡ m
 none_then true k n m e h = cc
@@ -95,10 +95,10 @@ counts_alone (x ∷ before) r behind h =
 
 pub rows_count_runs : (names : List Text) (task : Task) (r : Row) (before behind : List Row) → endings names task ≡ before ++ r ∷ behind → r.count ≡ length (filter (λ w. end_eq (end_of names task w) r.run_end) (all_runs task))
 rows_count_runs names task r before behind is =
-    let runs : List Row = map one_run (map (λ w. (end_of names task w, w)) (all_runs task)) in
+    let runs : List Row = map one_run (map (λ w. (end_of names task w, (w, unexpected task w))) (all_runs task)) in
     let apart : AreApart (before ++ r ∷ behind) = subst AreApart is (apart_merge [] runs tt) in
     sym (counts_alone before r behind apart)
     ∙ ap (counts r.run_end) (sym is)
     ∙ counts_merge r.run_end [] runs
     ∙ none_plus (counts r.run_end runs)
-    ∙ counts_runs r.run_end (end_of names task) (all_runs task)
+    ∙ counts_runs r.run_end (end_of names task) (unexpected task) (all_runs task)

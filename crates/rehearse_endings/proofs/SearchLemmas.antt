@@ -1,5 +1,5 @@
 -- The search over the states in which device commands ask.
-use Rattle.std.proofs.Common.{ℕ, zero, suc, get_or, ◌+◌, ◌*◌, ◌≤◌, ◌<◌, true, false, List, [], ◌∷◌, ◌++◌, map, length, reverse, Option, Some, None, refl, sym, ap, subst, ◌∙◌, ◌≡◌, ◌≢◌, arith, append-nil, length-append}
+use Rattle.std.proofs.Common.{ℕ, zero, suc, get_or, ◌+◌, ◌*◌, ◌≤◌, ◌<◌, Bool, true, false, List, [], ◌∷◌, ◌++◌, map, length, reverse, Option, Some, None, refl, sym, ap, subst, ◌∙◌, ◌≡◌, ◌≢◌, arith, append-nil, length-append}
 use Rattle.std.proofs.lemmas.List.{length-map}
 use Rattle.std.proofs.lemmas.List.Elements.{All-append}
 use Rattle.std.proofs.lemmas.Bool.{ltb-true}
@@ -13,7 +13,9 @@ use Rattle.rehearse_terms.specs.Outcomes.{OutcomeWord, Outcome, Success, Failure
 use Rattle.rehearse_terms.specs.State.{Text, State, LoggedCommand, asked_of, start}
 use Rattle.bootstore_state.specs.StoredState.{state_at}
 use Rattle.rehearse_rules.specs.Execution.{Limits, Answer, Normal, Exit, Ended, Dry, Ending, succeeds}
-use Rattle.rehearse_rules.specs.Runs.{Task, run_on, state_of, kind, kind_of, ending_of}
+use Rattle.device_list.specs.DeviceList.{Devices, fails_normally}
+use Rattle.rehearse_rules.specs.Expected.{Answered, unexpected_of}
+use Rattle.rehearse_rules.specs.Runs.{Task, run_on, state_of, kind, kind_of, ending_of, unexpected}
 use Rattle.rehearse_rules.proofs.TakenOutcomes.{answers, GoesTo, Track-of}
 use Rattle.rehearse_rules.proofs.BoundLemmas.{devices_are_bounded}
 use Rattle.rehearse_rules.proofs.TaskChoices.{Keeps-run_on, task_chooses}
@@ -24,10 +26,10 @@ use Rattle.rehearse_machine.specs.declared.rehearsal.Stop.{Stop}
 use Rattle.rehearse_machine.specs.declared.rehearsal.Stop.TheVariants.{Asks, Ends}
 use Rattle.rehearse_machine.specs.StoppedTexts.{StoppedAt}
 use Rattle.rehearse_machine.proofs.StoppedTextLemmas.{asked_within, stopped_on}
-use Rattle.rehearse_reuse.specs.Futures.{came_kind, came_ending, came_end, came_state, came_steps, came_devices}
-use Rattle.rehearse_states.specs.Endings.{RunEnd, Row, HasRows, ending, end_with, end_of, endings}
+use Rattle.rehearse_reuse.specs.Futures.{came_kind, came_ending, came_end, came_state, came_log, came_steps, came_devices}
+use Rattle.rehearse_states.specs.Endings.{RunEnd, Row, HasRows, counts_at, of_both, ending, end_with, end_of, endings}
 use Rattle.rehearse_states.specs.Summaries.{Summary, summary_of_sides, summary_at_end}
-use Rattle.rehearse_reuse.specs.SummedRuns.{Sums, FitsIf, moved_by, moved_on, of_end, of_sides, Summed}
+use Rattle.rehearse_reuse.specs.SummedRuns.{Sums, came_count, FitsIf, moved_by, moved_on, of_end, of_sides, Summed}
 use Rattle.rehearse_states.specs.RowsShown.{saturated, of_both_up, summary_shown, saturated_summary}
 use Rattle.rehearse_reuse.specs.Reuse.{FitsByKeys}
 use Rattle.rehearse_reuse.proofs.ReusedSummaries.{summaries_are_reused, nodes_are_reused, keys_are_reused}
@@ -41,16 +43,20 @@ use Rattle.rehearse_reports.specs.ReportsShown.{keys_shown}
 use Rattle.rehearse_reports.proofs.AskedSame.{places_are_same}
 use Rattle.rehearse_reports.proofs.FollowingLemmas.{keys_of_both_outcomes}
 use Rattle.rehearse_reports.proofs.KnownLemmas.{agree_on_known}
-use Rattle.rehearse_endings.specs.Searching.{future, seen_from, IsReached, IsEntry, AreEntries, IsKeptAt}
+use Rattle.rehearse_endings.specs.Searching.{future, SummedFrom, seen_from, IsReached, IsEntry, AreEntries, IsKeptAt}
 use Rattle.rehearse_endings.specs.Searched.{IsSearched}
 use Rattle.rehearse_endings.specs.declared.table.Future.{Future}
 use Rattle.rehearse_endings.specs.declared.table.Table.{Table}
 use Rattle.rehearse_endings.specs.declared.table.Entry.{Entry}
 use Rattle.rehearse_states.specs.declared.summary.Summary as kept
 use Rattle.rehearse_states.specs.Flow.{Node, asked_in}
-use Rattle.rehearse_reuse.specs.DrawnRuns.{Draws, seen_at}
+use Rattle.rehearse_reuse.specs.DrawnRuns.{further, Draws, seen_at}
 use Rattle.rehearse_states.specs.Drawing.{HasMore, nodes_shown}
-use Rattle.rehearse_endings.proofs.DrawingLemmas.{draws_on, draws_as}
+use Rattle.rehearse_endings.proofs.DrawingLemmas.{draws_on, draws_as, words_logged, counts_next}
+use Rattle.rehearse_machine.specs.Machine.{Asking}
+use Rattle.rehearse_machine.proofs.AskingCommandLemmas.{asks_anew}
+use Rattle.rehearse_states.specs.Words.{words_in}
+use Rattle.std.specs.List.{slice_get}
 use Rattle.rehearse_endings.proofs.SummaryLemmas.{rows_as, sums_same, sums_end, sums_sides}
 use Rattle.rehearse_states.proofs.RowsOfRuns.{are_rows}
 use Rattle.rehearse_states.proofs.SaturatedCountLemmas.{both_up}
@@ -129,18 +135,18 @@ future_is limits (Ends halt) f n h w = h w
 
 -- ---- summaries
 
-pub summed_as : (names : List Text) (f g : OutcomeWord → Came) (s t : Summary) → ((w : OutcomeWord) → f w ≡ g w) → s ≡ t → Summed names f s → Summed names g t
-summed_as names f g s t e k h = (h.0, sums_same names f g h.0 e h.1, sym k ∙ h.2)
+pub summed_as : (names : List Text) (devices : Devices) (before : ℕ) (f g : OutcomeWord → Came) (s t : Summary) → ((w : OutcomeWord) → f w ≡ g w) → s ≡ t → Summed names devices before f s → Summed names devices before g t
+summed_as names devices before f g s t e k h = (h.0, sums_same names devices before f g h.0 e h.1, sym k ∙ h.2)
 
 end_shown : (names : List Text) (ending : Ending) (m : Moment) → saturated_summary (of_end names ending m) ≡ of_end names ending m
 end_shown names ending m = refl
 
 pub summed_end : (names : List Text) (limits : Limits) (halt : Halt) (run_end : RunEnd) (m : Moment) (depth steps : ℕ) (s : Summary) → length m.log ≡ depth → steps ≡ m.steps → run_end ≡ end_with names (halt_shown halt) (entries m.environment) → s ≡ summary_at_end run_end steps depth
-    → Summed names (future limits (Ends halt) m) s
+    → SummedFrom names limits (Ends halt) m s
 summed_end names limits halt run_end m depth steps s e k so h =
     let left = end_with names (halt_shown halt) (entries m.environment) in (
       of_end names (halt_shown halt) m,
-      sums_end names (halt_shown halt) m,
+      sums_end names limits.devices (halt_shown halt) m,
       h
           ∙ ap (λ (x : RunEnd). summary_at_end x steps depth) so
           ∙ ap (λ (n : ℕ). summary_at_end left n depth) k
@@ -148,24 +154,48 @@ summed_end names limits halt run_end m depth steps s e k so h =
           ∙ sym (end_shown names (halt_shown halt) m),
     )
 
+-- the log where a text has stopped
+pub log_there : (limits : Limits) (stop : Stop) (f : OutcomeWord → Came) (n : Moment) → Stops limits stop f n → came_log (f []) ≡ n.log
+log_there limits Asks f n h = ap came_log h.2
+log_there limits (Ends halt) f n h = ap came_log (h [])
+
+-- what each outcome counts, by the words that the log has
+counts_there : (limits : Limits) (m : Moment) (won_stop : Stop) (won_at : Moment) (devices : ℕ) (normal : Bool) (words : List Text) → IsAsking limits m → Stops limits won_stop (λ w. asked_at limits m (Success ∷ w)) won_at → devices ≡ length m.log
+    → words ≡ words_in (slice_get won_at.log devices) → normal ≡ fails_normally limits.devices words → (d : Outcome) (w : OutcomeWord)
+    → came_count limits.devices (length (asked_in m.log)) (asked_at limits m (d ∷ w)) ≡ counts_at normal d + came_count limits.devices (suc (length (asked_in m.log))) (asked_at limits m (d ∷ w))
+unfolding IsAsking
+counts_there limits m won_stop won_at devices normal words asking won logged are is d w =
+    let call : words ≡ asking.request.name ∷ asking.request.words =
+    are ∙ ap (λ (n : ℕ). words_in (slice_get won_at.log n)) logged ∙ words_logged limits m asking won_at.log Success [] (log_there limits won_stop (λ v. asked_at limits m (Success ∷ v)) won_at won) in
+    counts_next limits m asking normal (is ∙ ap (fails_normally limits.devices) call) (asks_anew limits m asking) d w
+
 module _ (names : List Text) (task : Task) (depth : ℕ) (m : Moment) (reached : IsReached task depth Asks m) where
+  -- what follows one outcome
+  side_sums : (d : Outcome) (stop : Stop) (n : Moment) (s : Summary) → Stops task.limits stop (λ w. asked_at task.limits m (d ∷ w)) n → Sums names task.limits.devices (length (asked_in n.log)) (future task.limits stop n) s → Sums names task.limits.devices (suc (length (asked_in m.log))) (λ w. asked_at task.limits m (d ∷ w)) s
+  side_sums d stop n s stops sums =
+      let log = reached_log task depth Asks m reached in
+      let next = reached_log task (depth + 1) stop n (reached_on task depth m n d stop reached stops) in
+      let one : length (asked_in n.log) ≡ suc (length (asked_in m.log)) = omega arith in
+      sums_same names task.limits.devices (suc (length (asked_in m.log))) (future task.limits stop n) (λ w. asked_at task.limits m (d ∷ w)) s (λ w. sym (future_is task.limits stop (λ v. asked_at task.limits m (d ∷ v)) n stops w))
+      (subst (λ (k : ℕ). Sums names task.limits.devices k (future task.limits stop n) s) one sums)
+
   -- a device command that asks, from its two sides
-  pub summed_sides : (won_stop lost_stop : Stop) (won_at lost_at : Moment) (won lost s : Summary) (steps devices : ℕ) → steps ≡ m.steps → devices ≡ length m.log
+  pub summed_sides : (won_stop lost_stop : Stop) (won_at lost_at : Moment) (won lost s : Summary) (steps devices : ℕ) (normal : Bool) (words : List Text) → steps ≡ m.steps → devices ≡ length m.log
       → Stops task.limits won_stop (λ w. asked_at task.limits m (Success ∷ w)) won_at → Stops task.limits lost_stop (λ w. asked_at task.limits m (Failure ∷ w)) lost_at
-      → Summed names (future task.limits won_stop won_at) won → Summed names (future task.limits lost_stop lost_at) lost
-      → s ≡ summary_of_sides of_both_up steps devices won lost → Summed names (asked_at task.limits m) s
-  summed_sides won_stop lost_stop won_at lost_at won lost s steps devices k log a b h g e =
-      let up : Sums names (λ w. asked_at task.limits m (Success ∷ w)) h.0 = sums_same names (future task.limits won_stop won_at) (λ w. asked_at task.limits m (Success ∷ w)) h.0 (λ w. sym (future_is task.limits won_stop (λ v. asked_at task.limits m (Success ∷ v)) won_at a w)) h.1 in
-      let down : Sums names (λ w. asked_at task.limits m (Failure ∷ w)) g.0 = sums_same names (future task.limits lost_stop lost_at) (λ w. asked_at task.limits m (Failure ∷ w)) g.0 (λ w. sym (future_is task.limits lost_stop (λ v. asked_at task.limits m (Failure ∷ v)) lost_at b w)) g.1 in (
-        of_sides m h.0 g.0,
-        sums_sides names (asked_at task.limits m) m h.0 g.0 (reached_wants task depth m reached) up down,
-        e
-            ∙ ap (λ (n : ℕ). summary_of_sides of_both_up n devices won lost) k
-            ∙ ap (λ (n : ℕ). summary_of_sides of_both_up m.steps n won lost) log
-            ∙ ap (λ (x : Summary). summary_of_sides of_both_up m.steps (length m.log) x lost) h.2
-            ∙ ap (λ (x : Summary). summary_of_sides of_both_up m.steps (length m.log) (saturated_summary h.0) x) g.2
-            ∙ ap (λ (rows : List Row). record (of_sides m h.0 g.0) { rows = rows }) (sym (both_up h.0.rows g.0.rows)),
-      )
+      → words ≡ words_in (slice_get won_at.log devices) → normal ≡ fails_normally task.limits.devices words
+      → SummedFrom names task.limits won_stop won_at won → SummedFrom names task.limits lost_stop lost_at lost
+      → s ≡ summary_of_sides (of_both_up normal) steps devices won lost → SummedFrom names task.limits Asks m s
+  summed_sides won_stop lost_stop won_at lost_at won lost s steps devices normal words k log a b are is h g e = (
+    of_sides m normal h.0 g.0,
+    sums_sides names task.limits.devices (length (asked_in m.log)) (asked_at task.limits m) m normal h.0 g.0 (reached_wants task depth m reached) (side_sums Success won_stop won_at h.0 a h.1) (side_sums Failure lost_stop lost_at g.0 b g.1)
+        (counts_there task.limits m won_stop won_at devices normal words (reached_asks task depth m reached) a log are is),
+    e
+        ∙ ap (λ (n : ℕ). summary_of_sides (of_both_up normal) n devices won lost) k
+        ∙ ap (λ (n : ℕ). summary_of_sides (of_both_up normal) m.steps n won lost) log
+        ∙ ap (λ (x : Summary). summary_of_sides (of_both_up normal) m.steps (length m.log) x lost) h.2
+        ∙ ap (λ (x : Summary). summary_of_sides (of_both_up normal) m.steps (length m.log) (saturated_summary h.0) x) g.2
+        ∙ ap (λ (rows : List Row). record (of_sides m normal h.0 g.0) { rows = rows }) (sym (both_up normal h.0.rows g.0.rows)),
+  )
 
 -- ---- the table
 
@@ -196,7 +226,7 @@ module _ (names : List Text) (limits : Limits) (nodes : List Node) (e : Entry) (
         devices = fits_devices;
       }
 
-  summed_there : (s : Summary) → s ≡ moved_by e.steps t.steps e.devices depth (summary_shown e.summary) → Summed names (asked_at limits t) s
+  summed_there : (s : Summary) → s ≡ moved_by e.steps t.steps e.devices depth (summary_shown e.summary) → SummedFrom names limits Asks t s
   summed_there s is =
       let m : Moment = h.moment in
       let kept : Summary = h.summary in
@@ -216,7 +246,7 @@ module _ (names : List Text) (limits : Limits) (nodes : List Node) (e : Entry) (
       (draws_as nodes e.summary.place (seen_at limits h.moment) (seen_at limits t) (λ w. sym (nodes_are_reused limits names h.moment t (keys_of e.known.items) h.summary h.asks asks h.enough h.sums fits_there w)) h.draws)
 
   -- what a look-up in the table finds
-  pub look_there : (o : Option Future) (steps_now : ℕ) → steps_now ≡ t.steps → MatchOption o ⊤ (λ f. summary_shown f.summary ≡ moved_by e.steps steps_now e.devices depth (summary_shown e.summary)) → MatchOption o ⊤ (λ f. Summed names (asked_at limits t) (summary_shown f.summary))
+  pub look_there : (o : Option Future) (steps_now : ℕ) → steps_now ≡ t.steps → MatchOption o ⊤ (λ f. summary_shown f.summary ≡ moved_by e.steps steps_now e.devices depth (summary_shown e.summary)) → MatchOption o ⊤ (λ f. SummedFrom names limits Asks t (summary_shown f.summary))
   look_there None steps_now at is = is
   look_there (Some f) steps_now at is = summed_there (summary_shown f.summary) (is ∙ ap (λ (n : ℕ). moved_by e.steps n e.devices depth (summary_shown e.summary)) at)
 
@@ -266,7 +296,7 @@ module _ (names : List Text) (limits : Limits) (nodes : List Node) where
 
 -- one more entry
 pub entries_more : (names : List Text) (task : Task) (nodes : List Node) (depth devices : ℕ) (m n : Moment) (keys : List Key) (old new : List Entry) (place : ℕ) (s : Summary) → IsReached task depth Asks m → AreEntries names task.limits nodes old → n ≡ m
-    → Summed names (asked_at task.limits m) s → Draws nodes place (seen_at task.limits m) → devices ≡ length m.log → AreAmong (asked_reads n) keys → AreEnoughAt task.limits names m keys → IsKeptAt old new n keys devices place s → AreEntries names task.limits nodes new
+    → SummedFrom names task.limits Asks m s → Draws nodes place (seen_at task.limits m) → devices ≡ length m.log → AreAmong (asked_reads n) keys → AreEnoughAt task.limits names m keys → IsKeptAt old new n keys devices place s → AreEntries names task.limits nodes new
 entries_more names task nodes depth devices m n keys old new place s reached all same summed draws log asked enough kept_there =
     let kept : IsKeptAt old new m keys devices place s = subst (λ (x : Moment). IsKeptAt old new x keys devices place s) same kept_there in
     let e : Entry = kept.kept.0 in
@@ -359,7 +389,7 @@ searched_behind names task stop r here done last before after f is returns h =
     let begun_last : last.begun ≡ done.begun = begun_back done last returns in
     let a = h.begun in
     record {
-      sums = subst (λ (m : Moment). Summed names (future task.limits stop m) (summary_shown f.summary)) present h.sums;
+      sums = subst (λ (m : Moment). SummedFrom names task.limits stop m (summary_shown f.summary)) present h.sums;
       draws = subst (λ (m : Moment). Draws (nodes_shown after.flow.nodes) f.summary.place (seen_from task.limits stop m)) present h.draws;
       keys = subst (λ (m : Moment). AreEnoughAtStop task.limits names stop m (keys_shown f.keys.items)) present h.keys;
       grows = h.grows;
@@ -450,9 +480,14 @@ end_settled names task w =
     ap (λ (x : Ending). end_with names x (came_state (settled (run_on task w))).memory.environment) (ending_settled (run_on task w))
     ∙ ap (λ (x : State). end_with names (ending task w) x.memory.environment) (state_settled (run_on task w))
 
-pub whole_rows : (names : List Text) (task : Task) (stop : Stop) (m : Moment) (s : Summary) → Stops task.limits stop (λ w. settled (run_on task w)) m → Summed names (future task.limits stop m) s → s.rows ≡ map saturated (endings names task)
+pub whole_rows : (names : List Text) (task : Task) (stop : Stop) (m : Moment) (s : Summary) → Stops task.limits stop (λ w. settled (run_on task w)) m → SummedFrom names task.limits stop m s → s.rows ≡ map saturated (endings names task)
 whole_rows names task stop m s h k =
     let f : OutcomeWord → Came = λ w. settled (run_on task w) in
-    let sums : Sums names f k.0 = sums_same names (future task.limits stop m) f k.0 (λ w. sym (future_is task.limits stop f m h w)) k.1 in
-    let has : HasRows (kind task) (end_of names task) k.0.rows = rows_as names f (kind task) (end_of names task) k.0.rows (λ w. kind_settled (run_on task w)) (end_settled names task) sums.has_rows in
-    ap (λ (x : Summary). x.rows) k.2 ∙ ap (map saturated) (are_rows (kind task) (end_of names task) k.0.rows task.limits.device_bound has (task_chooses task))
+    let devices : Devices = task.limits.devices in
+    let before : ℕ = length (asked_in m.log) in
+    let sums : Sums names devices before f k.0 = sums_same names devices before (future task.limits stop m) f k.0 (λ w. sym (future_is task.limits stop f m h w)) k.1 in
+    let counts : (w : OutcomeWord) → came_count devices before (f w) ≡ unexpected task w = λ w.
+    ap (λ (n : ℕ). came_count devices n (f w)) (reached_log task 0 stop m (reached_first task stop m h))
+    ∙ ap (λ (t : State). length (unexpected_of devices (asked_in t.log))) (state_settled (run_on task w)) in
+    let has : HasRows (kind task) (end_of names task) (unexpected task) k.0.rows = rows_as names f (kind task) (end_of names task) (λ w. came_count devices before (f w)) (unexpected task) k.0.rows (λ w. kind_settled (run_on task w)) (end_settled names task) counts sums.has_rows in
+    ap (λ (x : Summary). x.rows) k.2 ∙ ap (map saturated) (are_rows (kind task) (end_of names task) (unexpected task) k.0.rows task.limits.device_bound has (task_chooses task))

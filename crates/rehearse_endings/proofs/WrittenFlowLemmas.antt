@@ -27,15 +27,11 @@ use Rattle.rehearse_endings.specs.Searching.{future, seen_from, IsReached, AreEn
 use Rattle.rehearse_states.specs.declared.flow.Flow.{Flow}
 use Rattle.rehearse_states.specs.declared.flow.Node as rt
 use Rattle.rehearse_endings.specs.declared.table.Table.{Table}
-use Rattle.rehearse_endings.proofs.AskingCommandLemmas.{asks_anew}
+use Rattle.rehearse_machine.proofs.AskingCommandLemmas.{asks_anew}
 use Rattle.rehearse_endings.proofs.DrawingLemmas.{draws_on, end_drawn, words_logged, asks_drawn}
-use Rattle.rehearse_endings.proofs.SearchLemmas.{reached_log, reached_first, reached_on, reached_asks, reached_wants, future_is}
+use Rattle.rehearse_endings.proofs.SearchLemmas.{reached_log, reached_first, reached_on, reached_asks, reached_wants, future_is, log_there}
 
 -- ---- a state in which a device command asks
-
-stopped_log : (limits : Limits) (stop : Stop) (f : OutcomeWord → Came) (n : Moment) → Stops limits stop f n → came_log (f []) ≡ n.log
-stopped_log limits stops.Asks f n h = ap came_log h.2
-stopped_log limits (stops.Ends halt) f n h = ap came_log (h [])
 
 asking_drawn : (limits : Limits) (m : Moment) (won_stop lost_stop : Stop) (won_at lost_at : Moment) (before nodes : List Node) (won_place lost_place : ℕ) (words : List Text) → IsAsking limits m → asked_at limits m [] ≡ Wants (state_at m [])
     → Stops limits won_stop (λ w. asked_at limits m (Success ∷ w)) won_at → Stops limits lost_stop (λ w. asked_at limits m (Failure ∷ w)) lost_at → length (asked_in won_at.log) ≡ suc (length (asked_in m.log)) → length (asked_in lost_at.log) ≡ suc (length (asked_in m.log))
@@ -46,7 +42,7 @@ asking_drawn limits m won_stop lost_stop won_at lost_at before nodes won_place l
     asks_drawn limits m asking won_stop lost_stop won_at lost_at nodes won_place lost_place (asks_anew limits m asking) wants
     (future_is limits won_stop (λ w. asked_at limits m (Success ∷ w)) won_at won) won_log (draws_on before nodes won_place (seen_from limits won_stop won_at) more won_draws)
     (future_is limits lost_stop (λ w. asked_at limits m (Failure ∷ w)) lost_at lost) lost_log lost_draws
-    words (are ∙ words_logged limits m asking won_at.log Success [] (stopped_log limits won_stop (λ w. asked_at limits m (Success ∷ w)) won_at won))
+    words (are ∙ words_logged limits m asking won_at.log Success [] (log_there limits won_stop (λ w. asked_at limits m (Success ∷ w)) won_at won))
 
 -- the place of the device command that asks, from the places of its two sides
 pub state_drawn : (task : Task) (depth devices : ℕ) (m : Moment) (won_stop lost_stop : Stop) (won_at lost_at : Moment) (before nodes new : List Node) (won_place lost_place place : ℕ) (words : List Text) → IsReached task depth stops.Asks m

@@ -1,8 +1,8 @@
 -- What the rows of endings say of the list of all runs. Ours.
-use Rattle.std.specs.Prelude.{◌≡◌, ◌≢◌, ◌<◌, ◌≤◌, List, [], ◌∷◌, ◌++◌, length, filter}
-use Rattle.rehearse_terms.specs.Outcomes.{OutcomeWord, failures}
+use Rattle.std.specs.Prelude.{ℕ, ◌≡◌, ◌≢◌, ◌<◌, ◌≤◌, List, [], ◌∷◌, ◌++◌, length, filter}
+use Rattle.rehearse_terms.specs.Outcomes.{OutcomeWord}
 use Rattle.rehearse_terms.specs.State.{Text}
-use Rattle.rehearse_rules.specs.Runs.{Task, all_runs}
+use Rattle.rehearse_rules.specs.Runs.{Task, unexpected, all_runs}
 use Rattle.rehearse_states.specs.Endings.{Row, end_eq, end_of, endings}
 use Rattle.rehearse_states.specs.EndingLines.{counted}
 
@@ -35,18 +35,20 @@ pub record IsFirst (IsSo : OutcomeWord → Type 0) (w : OutcomeWord) (words : Li
   pub so : IsSo w
   pub none : Each (λ v. IsSo v → ⊥) front
 
--- of the words with this property, the word is the first with the fewest failures
-pub record IsFewest (IsSo : OutcomeWord → Type 0) (w : OutcomeWord) (words : List OutcomeWord) : Type 0 where
+-- of the words with this property, the word is the first that counts least
+pub record IsFewest (count : OutcomeWord → ℕ) (IsSo : OutcomeWord → Type 0) (w : OutcomeWord) (words : List OutcomeWord) : Type 0 where
   pub front : List OutcomeWord
   pub rest : List OutcomeWord
   pub stands : words ≡ front ++ w ∷ rest
   pub so : IsSo w
-  pub more : Each (λ v. IsSo v → failures w < failures v) front
-  pub no_fewer : Each (λ v. IsSo v → failures w ≤ failures v) rest
+  pub more : Each (λ v. IsSo v → count w < count v) front
+  pub no_fewer : Each (λ v. IsSo v → count w ≤ count v) rest
 
--- a row's words are the first run that ends like this and leaves its values, and the first of these runs with the fewest failures
+-- a row's words are the first run that ends like this and leaves its values, and the first of these runs with the fewest
+-- unexpected answers, of which the row has the number
 abbrev pub RowsTellOfRuns : Type 0
 RowsTellOfRuns = (names : List Text) (task : Task) (r : Row) (before behind : List Row) →
     endings names task ≡ before ++ r ∷ behind →
     IsFirst (λ w. end_of names task w ≡ r.run_end) r.word (all_runs task)
-    × IsFewest (λ w. end_of names task w ≡ r.run_end) r.fewest (all_runs task)
+    × IsFewest (unexpected task) (λ w. end_of names task w ≡ r.run_end) r.fewest.0 (all_runs task)
+    × (r.fewest.1 ≡ unexpected task r.fewest.0)

@@ -9,9 +9,8 @@ use Rattle.rehearse_machine.specs.declared.rehearsal.Stop.{Stop}
 use Rattle.rehearse_machine.specs.StoppedTexts.{StoppedAt}
 use Rattle.rehearse_reuse.specs.DrawnRuns.{Draws}
 use Rattle.rehearse_states.specs.Drawing.{HasMore, nodes_shown}
-use Rattle.rehearse_reuse.specs.SummedRuns.{Summed}
 use Rattle.rehearse_states.specs.RowsShown.{summary_shown}
-use Rattle.rehearse_endings.specs.Searching.{future, seen_from, AreEntries}
+use Rattle.rehearse_endings.specs.Searching.{SummedFrom, seen_from, AreEntries}
 use Rattle.rehearse_endings.specs.States.{Asked, Entered, IsNewAt, HasEntered}
 use Rattle.rehearse_reports.specs.Following.{AreEnoughAtStop}
 use Rattle.rehearse_reports.specs.ReportsShown.{keys_shown}
@@ -20,7 +19,7 @@ use Rattle.rehearse_endings.specs.declared.table.Table.{Table}
 
 -- everything after the stop is searched: the summary says what is to come, the keys are enough for it, and the table has what was entered
 pub record IsSearched (names : List Text) (task : Task) (stop : Stop) (old new : Record) (before after : Table) (f : Future) : Type 0 where
-  pub sums : Summed names (future task.limits stop old.present) (summary_shown f.summary)
+  pub sums : SummedFrom names task.limits stop old.present (summary_shown f.summary)
   pub draws : Draws (nodes_shown after.flow.nodes) f.summary.place (seen_from task.limits stop old.present)
   pub keys : AreEnoughAtStop task.limits names stop old.present (keys_shown f.keys.items)
   pub grows : HasMore (nodes_shown before.flow.nodes) (nodes_shown after.flow.nodes)

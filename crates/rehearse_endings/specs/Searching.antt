@@ -20,7 +20,7 @@ use Rattle.rehearse_reports.specs.declared.known.Known.{Known}
 use Rattle.rehearse_states.specs.Flow.{Node, Seen, asked_in}
 use Rattle.rehearse_reuse.specs.DrawnRuns.{Draws, seen_behind, seen_at}
 use Rattle.rehearse_states.specs.Summaries.{Summary}
-use Rattle.rehearse_reuse.specs.SummedRuns.{Sums}
+use Rattle.rehearse_reuse.specs.SummedRuns.{Summed, SumsAt}
 use Rattle.rehearse_states.specs.RowsShown.{summary_shown, saturated_summary}
 use Rattle.rehearse_endings.specs.declared.table.Entry.{Entry}
 
@@ -28,6 +28,10 @@ use Rattle.rehearse_endings.specs.declared.table.Entry.{Entry}
 abbrev pub future : Limits → Stop → Moment → OutcomeWord → Came
 future limits Asks m w = asked_at limits m w
 future limits (Ends halt) m w = Over (halt_shown halt) (state_at m w)
+
+-- the summary of it, except for counts that are too large
+abbrev pub SummedFrom : (names : List Text) → Limits → Stop → Moment → Summary → Type 0
+SummedFrom names limits stop m shown = Summed names limits.devices (length (asked_in m.log)) (future limits stop m) shown
 
 -- what is seen of it
 abbrev pub seen_from : Limits → Stop → Moment → OutcomeWord → Seen
@@ -49,7 +53,7 @@ pub record IsEntry (names : List Text) (limits : Limits) (nodes : List Node) (e 
   pub steps : e.steps ≡ moment.steps
   pub devices : e.devices ≡ length moment.log
   pub summary : Summary
-  pub sums : Sums names (asked_at limits moment) summary
+  pub sums : SumsAt names limits moment summary
   pub shown : summary_shown e.summary ≡ saturated_summary summary
   pub draws : Draws nodes e.summary.place (seen_at limits moment)
 

@@ -138,6 +138,7 @@ fn summed<S: Store>(
                 lost_way,
                 lost.keys,
             )?;
+            let normal = rehearsal.devices.fails_normally(&words);
             let place = table
                 .flow
                 .ask(words, won.summary.place, lost.summary.place)?;
@@ -146,6 +147,7 @@ fn summed<S: Store>(
                 rehearsal.alloc,
                 steps,
                 devices,
+                normal,
                 won.summary,
                 lost.summary,
                 place,
@@ -158,7 +160,7 @@ fn summed<S: Store>(
 
 /// Counts how all runs of the text of the variable end. For each ending it gives how many runs have
 /// it, or 2^128 - 1 if there are more; the first of them; and the first of them with the fewest
-/// failures. Runs that leave other values of the named variables are told apart. The endings are in
+/// unexpected answers. Runs that leave other values of the named variables are told apart. The endings are in
 /// the order of their first runs. Enters no more states than allowed,
 /// and searches each once, so at most two stretches of steps start at a state. Returns `States` if
 /// the runs come to more states than allowed, no two of them alike. Errors: `Memory`, `States`.

@@ -2,9 +2,10 @@
 ghost use Rattle.std.specs.Prelude.{◌≡◌, ◌≢◌, ◌≤◌, ◌<◌, ◌^◌, IfOk, IfErr, OnOk, MatchOption, IsTrue, length, map, reverse, [], ⊤};
 ghost use Rattle.rehearse_machine.specs.Machine.{IsAsking, asked_at};
 ghost use Rattle.rehearse_machine.specs.MovesShown.{limits_of};
-ghost use Rattle.rehearse_reuse.specs.SummedRuns.{Summed, FitsIf, moved_by};
+ghost use Rattle.rehearse_reuse.specs.SummedRuns.{FitsIf, moved_by};
+ghost use Rattle.rehearse_machine.specs.declared.rehearsal.Stop.TheVariants.{Asks};
 ghost use Rattle.rehearse_states.specs.RowsShown.{summary_shown};
-ghost use Rattle.rehearse_endings.specs.Searching.{AreEntries, IsKept};
+ghost use Rattle.rehearse_endings.specs.Searching.{SummedFrom, AreEntries, IsKept};
 ghost use Rattle.rehearse_frames.specs.KeysToCome.{AreEnoughAt};
 ghost use Rattle.rehearse_reports.specs.Known.{AllHold, keys_of};
 ghost use Rattle.rehearse_reports.specs.ReportsShown.{keys_shown};
@@ -119,7 +120,7 @@ impl Table {
             self.now.entries.items }
         ensures sums { IfOk result
             (λ found. MatchOption found ⊤
-            (λ f. Summed (map (λ n. n.now) names.now) (asked_at (limits_of devices.now bounds) (S.record_of store.now).present)
+            (λ f. SummedFrom (map (λ n. n.now) names.now) (limits_of devices.now bounds) Asks (S.record_of store.now).present
             (summary_shown f.summary))) }
         ensures draws { IfOk result
             (λ found. MatchOption found ⊤
@@ -173,7 +174,7 @@ impl Table {
             self.now.entries.items }
         ensures sums { IfOk result
             (λ found. MatchOption found ⊤
-            (λ f. Summed (map (λ n. n.now) names.now) (asked_at (limits_of devices.now bounds) (S.record_of store.now).present)
+            (λ f. SummedFrom (map (λ n. n.now) names.now) (limits_of devices.now bounds) Asks (S.record_of store.now).present
             (summary_shown f.summary))) }
         ensures draws { IfOk result
             (λ found. MatchOption found ⊤

@@ -56,6 +56,7 @@ fn lines_of<S: Store>(
     let text = text_of(
         rehearsal.alloc,
         names,
+        rehearsal.devices,
         &found.rows,
         &found.nodes,
         found.states,
@@ -91,7 +92,7 @@ fn lines_in<S: Store>(
 }
 
 /// Writes how all runs of a variable or of a given text end: for each ending a line, the values that are left of the
-/// named variables, and the device commands that fail in the run with the fewest failures; then a
+/// named variables, and the unexpected answers of the run with the fewest; then a
 /// line for all runs. Or it writes their flow: a line for each state in which a device command
 /// asks, and for each way to end. Refusals in order: the variable, `States` and `Memory`, with
 /// nothing written; then `Write`, with a prefix of the lines written.

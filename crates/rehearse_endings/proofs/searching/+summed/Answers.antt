@@ -1,10 +1,11 @@
-use Rattle.std.proofs.Common.{ℕ, length, refl, arith, rules, map, ap, sym, subst, ◌∙◌, ◌+◌, [], ◌∷◌, ◌++◌}
+use Rattle.std.proofs.Common.{ℕ, length, refl, arith, rules, map, ap, sym, subst, ◌∙◌, ◌≡◌, ◌+◌, List, Vec, [], ◌∷◌, ◌++◌}
+use Rattle.std.specs.declared.alloc.Global.{Global}
+use Rattle.device_list.specs.DeviceList.{fails_normally}
 use Rattle.rehearse_terms.specs.Outcomes.{Success, Failure}
 use Rattle.rehearse_machine.specs.Tasks.{task_in}
 use Rattle.rehearse_machine.specs.declared.rehearsal.Stop.{Stop}
 use Rattle.rehearse_machine.specs.declared.rehearsal.Stop.TheVariants.{Asks}
 use Rattle.rehearse_states.specs.RowsShown.{run_end_shown, summary_shown}
-use Rattle.rehearse_reuse.specs.SummedRuns.{Summed}
 use Rattle.text.specs.TextsShown.{bytes_of_words}
 use Rattle.std.proofs.lemmas.List.{length-map}
 use Rattle.rehearse_reuse.specs.DrawnRuns.{Draws}
@@ -14,7 +15,7 @@ use Rattle.bootstore_state.specs.Moment.{Moment}
 use Rattle.rehearse_frames.specs.KeysToCome.{AreEnoughAt}
 use Rattle.rehearse_reports.specs.Following.{AreEnoughAtStop}
 use Rattle.rehearse_reports.specs.ReportsShown.{accesses_shown, keys_shown}
-use Rattle.rehearse_endings.specs.Searching.{future, seen_from, IsKeptAt}
+use Rattle.rehearse_endings.specs.Searching.{future, seen_from, IsKeptAt, SummedFrom}
 use Rattle.rehearse_endings.specs.States.{HasStates}
 use Rattle.rehearse_machine.specs.StoppedTexts.{StoppedAt}
 use Rattle.rehearse_machine.proofs.StoppedTextLemmas.{stopped_on}
@@ -98,7 +99,7 @@ returns-in_ok-keys-in-Ends-clause-searched g t c =
     let nodes = nodes_shown c.end.new.self.nodes in
     record {
       sums =
-          subst (λ (x : Stop). Summed (map (λ n. n.now) c.args.names.now) (future task.limits x m) (summary_shown c.in_ok-summary-in-Ends.summary)) (sym c.in-Ends.is)
+          subst (λ (x : Stop). SummedFrom (map (λ n. n.now) c.args.names.now) task.limits x m (summary_shown c.in_ok-summary-in-Ends.summary)) (sym c.in-Ends.is)
           (summed_end (map (λ n. n.now) c.args.names.now) task.limits c.in-Ends.halt (run_end_shown c.in_ok-run_end-in-Ends.run_end) m c.logged-devices.result c.steps.result (summary_shown c.in_ok-summary-in-Ends.summary) (sym c.logged-devices.ensures) c.steps.ensures c.in_ok-run_end-in-Ends.ensures c.in_ok-summary-in-Ends.ensures.sums);
       draws = ended_drawn task.limits nodes c.in_ok-place-in-Ends.place c.in_ok-summary-in-Ends.summary.place c.in-Ends.halt c.args.stop m c.in-Ends.is c.in_ok-summary-in-Ends.ensures.place c.in_ok-place-in-Ends.ensures.place;
       keys = subst (λ (x : Stop). AreEnoughAtStop task.limits (map (λ n. n.now) c.args.names.now) x m (keys_shown c.in_ok-keys-in-Ends.keys.items)) (sym c.in-Ends.is) c.in_ok-keys-in-Ends.ensures;
@@ -114,7 +115,13 @@ returns-in_ok-keys-in-Ends-clause-searched g t c =
 
 pub returns-in-Some-clause-searched : goal.returns-in-Some-clause-searched
 returns-in-Some-clause-searched g t c = record {
-  sums = search rules;
+  sums =
+      let names = map (λ n. n.now) c.args.names.now in
+      let limits = (task_in c.args.rehearsal.now).limits in
+      let m = (g.S.Store.record_of c.args.store.now).present in
+      let shown = summary_shown c.in-Some.found.summary in
+      let here : SummedFrom names limits Asks m shown = search rules in
+      subst (λ (x : Stop). SummedFrom names limits x m shown) (sym c.in-Asks.is) here;
   draws = search rules;
   keys = search rules;
   grows = search rules;
@@ -160,7 +167,9 @@ returns-in_ok-keys-in-Asks-clause-searched g t c =
     let keys_at = keys_of_sides names task r.present marked.present back.present c.in_ok-won_stop-in-Asks.won_stop c.in_ok-lost_stop-in-Asks.lost_stop won_at lost_at (accesses_shown c.resume_reported.new.reported) (accesses_shown c.resume_reported-in-Asks.new.reported) (keys_shown won.keys.items) (keys_shown lost.keys.items) (keys_shown c.in_ok-both-in-Asks.both.items) (reached_asks task c.args.depth r.present sides.reached) at_mark at_back
     c.in_ok-won_stop-in-Asks.ensures.keys c.in_ok-won-in-Asks.ensures.searched.keys c.in_ok-lost_stop-in-Asks.ensures.keys c.in_ok-lost-in-Asks.ensures.searched.keys c.in_ok-both-in-Asks.ensures.both in
     let keys_kept = subst (AreEnoughAt task.limits names r.present) (sym c.in_ok-keys-in-Asks.ensures.keys) keys_at in
-    let summed = summed_sides names task c.args.depth r.present sides.reached c.in_ok-won_stop-in-Asks.won_stop c.in_ok-lost_stop-in-Asks.lost_stop won_at lost_at (summary_shown won.summary) (summary_shown lost.summary) (summary_shown summary) c.steps-steps.result c.logged-devices.result steps log sides.won sides.lost c.in_ok-won-in-Asks.ensures.searched.sums c.in_ok-lost-in-Asks.ensures.searched.sums c.in_ok-summary-in-Asks.ensures.sums in
+    let words_are : c.deref.result.now ≡ c.in_ok-words-in-Asks.words.items = search rules in
+    let normal = c.fails_normally-normal.ensures ∙ ap (λ (ws : List (Vec ℕ Global)). fails_normally task.limits.devices (bytes_of_words ws)) words_are in
+    let summed = summed_sides names task c.args.depth r.present sides.reached c.in_ok-won_stop-in-Asks.won_stop c.in_ok-lost_stop-in-Asks.lost_stop won_at lost_at (summary_shown won.summary) (summary_shown lost.summary) (summary_shown summary) c.steps-steps.result c.logged-devices.result c.fails_normally-normal.result (bytes_of_words c.in_ok-words-in-Asks.words.items) steps log sides.won sides.lost c.in_ok-words-in-Asks.ensures normal c.in_ok-won-in-Asks.ensures.searched.sums c.in_ok-lost-in-Asks.ensures.searched.sums c.in_ok-summary-in-Asks.ensures.sums in
     let won_nodes = nodes_shown c.summed.new.table.flow.nodes in
     let nodes = c.summed-in-Asks.new.table.flow.nodes in
     let same = ap (λ (x : Flow). nodes_shown x.nodes) c.keep.ensures.flow in
@@ -177,7 +186,7 @@ returns-in_ok-keys-in-Asks-clause-searched g t c =
     subst (λ (m : Moment). IsKeptAt c.summed-in-Asks.new.table.entries.items after.entries.items m (keys_shown c.in_ok-both-in-Asks.both.items) c.logged-devices.result summary.place (summary_shown summary)) at_last c.in_ok-keys-in-Asks.ensures.kept in
     searched_behind names task c.args.stop r₀ r done last before after _ first c.back-in-Asks.ensures
     (record {
-      sums = subst (λ (x : Stop). Summed names (future task.limits x r.present) (summary_shown summary)) (sym c.in-Asks.is) summed;
+      sums = subst (λ (x : Stop). SummedFrom names task.limits x r.present (summary_shown summary)) (sym c.in-Asks.is) summed;
       draws = subst (λ (x : Stop). Draws (nodes_shown after.flow.nodes) summary.place (seen_from task.limits x r.present)) (sym c.in-Asks.is) draws;
       keys = subst (λ (x : Stop). AreEnoughAtStop task.limits names x r.present (keys_shown c.in_ok-keys-in-Asks.keys.items)) (sym c.in-Asks.is) keys_kept;
       grows =
