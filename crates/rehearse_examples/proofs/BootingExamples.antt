@@ -1,5 +1,5 @@
 -- Worked examples, computed with the usual bounds: device commands that end the run or set variables.
-use Rattle.std.proofs.Common.{true, false, [], ◌∷◌, None, codes, refl, ◌≡◌, Some}
+use Rattle.std.proofs.Common.{false, [], ◌∷◌, None, codes, refl, ◌≡◌, Some}
 use Rattle.device_list.specs.declared.finish.BoardEnd.TheVariants.{Boots}
 use Rattle.rehearse_terms.specs.State.{Text}
 use Rattle.device_list.specs.DeviceList.{Variable, Literal, LastWord, Effect, Devices, only}

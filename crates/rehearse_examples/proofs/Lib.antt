@@ -6,6 +6,7 @@ mod ExecutionExamples
 mod BootingExamples
 mod SteadyExamples
 mod NeedsExamples
+mod NormalExamples
 mod ResumingExamples
 mod PlainExecutionExamples
 mod ListedExamples

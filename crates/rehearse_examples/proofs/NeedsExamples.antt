@@ -1,5 +1,5 @@
 -- Worked examples, computed: device commands that need another call to have succeeded.
-use Rattle.std.proofs.Common.{Ok, true, false, List, [], ◌∷◌, Some, None, codes, refl, ◌≡◌}
+use Rattle.std.proofs.Common.{Ok, true, List, [], ◌∷◌, Some, None, codes, refl, ◌≡◌}
 use Rattle.device_list.specs.declared.finish.BoardEnd.TheVariants.{Boots}
 use Rattle.device_list.specs.CallLines.{Pattern}
 use Rattle.device_list.specs.DeviceList.{Effect, Devices, only}

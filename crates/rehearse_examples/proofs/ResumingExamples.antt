@@ -1,5 +1,5 @@
 -- Worked examples, computed: a listing that broke off.
-use Rattle.std.proofs.Common.{ℕ, true, List, [], ◌∷◌, Option, Some, None, codes, refl, ◌≡◌, map, take, length, false}
+use Rattle.std.proofs.Common.{ℕ, List, [], ◌∷◌, Option, Some, None, codes, refl, ◌≡◌, map, take, length, false}
 use Rattle.device_list.specs.declared.finish.BoardEnd.TheVariants.{Boots}
 use Rattle.rehearse_terms.specs.Outcomes.{Success}
 use Rattle.rehearse_terms.specs.State.{Text}
