@@ -126,11 +126,13 @@ They go together as in 'final steady sub NAME WORD VAR=VALUE'. In a sub line,
 @1=VALUE or @last=VALUE sets the variable that a word of the call names. In a
 call line, a word that ends with * is any that starts so, and a last ** any
 number of words; the clauses are final, restart, halt, steady, always 0 (it
-succeeds), always 1 (it fails), VAR=VALUE, and VAR=@N for the Nth word. The line
-'steady test' is about 'test -e'. With --steady each command and 'test -e' is
-steady, whatever the list says. Lines given of one VAR with other values are
-alternatives, each with each of another VAR, and --given K is the Kth. Lines
-that begin with # are skipped.
+succeeds), always 1 (it fails), needs NAME (it fails unless a call of NAME has
+succeeded), normal 1 (its failure is expected, and its success counts as a
+failure), VAR=VALUE, and VAR=@N for the Nth word. The line 'steady test' is
+about 'test -e'. With --steady each command and 'test -e' is steady, whatever
+the list says. Lines given of one VAR with other values are alternatives, each
+with each of another VAR, and --given K is the Kth. Lines that begin with # are
+skipped.
 
 Examples:
   ubtool rehearse -d devices.txt
@@ -153,6 +155,7 @@ all runs:
   var NAME=VALUE
   unset NAME
   fails WORDS
+  succeeds WORDS
   all COUNT states STATES
 
 COUNT runs end so. The first WORD is that of the first of them, the second that
@@ -161,9 +164,10 @@ gives again is not counted again. ENDING is the last line of their records, as
 rehearse lists them. Runs that leave another value of a NAME of the call are
 another ending, and each NAME has a line var or unset, in the order of the call;
 with --flow a NAME has no effect. The lines fails are the commands that fail in
-the run of the second WORD, in its order, one for each failure. With --steady
-they are facts of the board, each once. A state is where a device command asks,
-with what is read from there before it is set; each is gone through once.
+the run of the second WORD, in its order, one for each failure; succeeds is for
+a success that counts, since a failure is expected. With --steady they are facts
+of the board, each once. A state is where a device command asks, with what is
+read from there before it is set; each is gone through once.
 
 With --flow a line for each state and for each way to end is written instead.
 Numbers count from 1, where a run begins, and a word leads from line to line:
@@ -193,10 +197,12 @@ then a line for each failure:
 
   cause FAILURES ENDING
   fails WORDS
+  succeeds WORDS
 
 A run has FAILURES failures, and no run with the same ending has only some of
-them. ENDING is the last line of its record, as rehearse lists it. A cause of 0
-failures is how the script ends if all goes well. An answer that a steady
+them. A line succeeds is for a success that counts as one, since a failure is
+expected. ENDING is the last line of its record, as rehearse lists it. A cause
+of 0 failures is how the script ends if all goes well. An answer that a steady
 command gives again is not counted again. A run that meets a bound has an ending
 too, cut devices or cut steps.
 
