@@ -193,6 +193,44 @@ commands of these names
   end 0
   done
 
+a failure that is expected
+  $ printf 'bootcmd=tftp && reset\n' >env.txt
+  $ printf '%s\n' 'call tftp ** : normal 1' 'restart reset' >list
+  $ ubtool rehearse --text env.txt -d list --failures 0
+  run 1
+  dev 1 tftp
+  var bootcmd=tftp && reset
+  end 1
+  done
+  $ ubtool rehearse --text env.txt -d list --failures 1
+  run 00
+  dev 0 tftp
+  dev 0 reset
+  var bootcmd=tftp && reset
+  restarted reset
+  run 1
+  dev 1 tftp
+  var bootcmd=tftp && reset
+  end 1
+  done
+  $ ubtool endings --text env.txt -d list
+  ends 1 first 00 fewest 1 00 restarted reset
+  succeeds tftp
+  ends 2 first 01 fewest 0 1 end 1
+  all 3 states 2
+  $ ubtool causes --text env.txt -d list
+  cause 1 restarted reset
+  succeeds tftp
+  cause 0 end 1
+
+a file that is missing though nothing is wrong
+  $ printf 'bootcmd=test -e mmc 0:1 /extlinux/extlinux.conf || load mmc 0:1 a b\n' >env.txt
+  $ printf '%s\n' 'call test -e * * /extlinux/extlinux.conf : normal 1' load >list
+  $ ubtool causes --text env.txt -d list
+  cause 0 end 0
+  cause 1 end 1
+  fails load mmc 0:1 a b
+
 values with blanks
   $ runs 'fdt boardsetup' "call fdt boardsetup : p='a b'"
   run 0
@@ -216,10 +254,15 @@ values with blanks
 
 bad lines
   $ for line in 'mmc dev' ': final' 'm* : final' 'mmc ** dev : final' 'mmc : always 2' 'mmc : final final' "mmc : a='b" \
+  >     'mmc : normal' 'mmc : normal 0' 'mmc : normal 1 always 0' 'mmc : normal 1 normal 1' \
   >     'mmc : needs' 'mmc : needs final' 'mmc : needs mmc 0 0' 'mmc : needs a*' 'mmc : needs echo' 'mmc : needs a needs a' \
   >     "'mmc' :" "mmc : 'a'=b"; do
   >     runs true "call $line"
   > done
+  ! ubtool: device list line 1: bad line
+  ! ubtool: device list line 1: bad line
+  ! ubtool: device list line 1: bad line
+  ! ubtool: device list line 1: bad line
   ! ubtool: device list line 1: bad line
   ! ubtool: device list line 1: bad line
   ! ubtool: device list line 1: bad line
@@ -245,5 +288,8 @@ built-in commands
   ! ubtool: device list line 1: built-in command
   [1]
   $ runs true 'absent echo'
+  ! ubtool: device list line 1: built-in command
+  [1]
+  $ runs true 'call test -e ** : steady'
   ! ubtool: device list line 1: built-in command
   [1]

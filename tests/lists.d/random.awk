@@ -52,8 +52,9 @@ function pattern(    text, left) {
 
 function clauses(    text, left) {
     for (left = int(rand() * 3); left > 0; left--)
-        text = text " " (chance(50) ? setting(2) : one_of("final restart halt steady always always needs needs needs" (chance(2) ? " known" : "")))
+        text = text " " (chance(50) ? setting(2) : one_of("final restart halt steady always always normal normal needs needs needs" (chance(2) ? " known" : "")))
     gsub(/needs/, "needs " (chance(97) ? one_of("load mmc") : "") (chance(60) ? " " one_of("0 1 ab abc" (chance(3) ? " a* :" : "")) : ""), text)
+    gsub(/normal/, "normal" (chance(98) ? " 1" : one_of(" 0 2")), text)
     gsub(/always/, "always " int(rand() * 2 + (chance(2) ? 1 : 0)), text)
     return text
 }
@@ -70,7 +71,8 @@ function line(    form) {
     if (form < 9)
         return one_of("# \t ") (chance(50) ? "load" : "")
     if (form < 10)
-        return "steady test" (chance(3) ? " a=1" : "")
+        return chance(50) ? "steady test" (chance(3) ? " a=1" : "") \
+            : "call test " one_of("-e *") (chance(50) ? " **" : " * * " one_of("f g")) " : normal 1" (chance(3) ? " steady" : "")
     return (chance(35) ? one_of("final final restart halt") " " : "") (chance(30) ? "steady " : "") \
         (chance(40) ? "sub " name() " " one_of("0 1 ab" (chance(5) ? " a=b" : "")) settings(1, 2) : name() settings(0, 3))
 }

@@ -45,6 +45,9 @@ what ubtool refuses
   $ echo 'load x' >faulty; marked report --text a.env -d faulty -o a.html
   ! report: ubtool: device list line 1: bad line
   [1]
+  $ echo 'call load ** : normal 1' >normal; marked report --text a.env -d normal -o a.html
+  ! report: no page of a list with normal 1
+  [1]
   $ ls | grep html
   [1]
 
