@@ -4,7 +4,7 @@ use Rattle.std.specs.Option.{option_map}
 use Rattle.std.specs.Map.{lookup}
 use Rattle.std.specs.Str.{bytes_eq}
 use Rattle.text.specs.Lines.{Text}
-use Rattle.device_list.specs.DeviceList.{Pattern, Effect, Effects, Devices, effect_at, sub_effect, call_effect, line_effect, effect_of, first_fitting, is_listed, steady_effect, steady_effect_if, steady_effects, all_steady, steady_if}
+use Rattle.device_list.specs.DeviceList.{Pattern, Effect, Effects, Devices, effect_at, sub_effect, call_effect, line_effect, effect_of, first_fitting, is_listed, steady_effect, steady_effect_if, steady_effects, all_steady, steady_if, fails_normally}
 use Rattle.device_list.specs.CallLines.{fits}
 use Rattle.device_list.specs.NamedPlaces.{in_sub, placed_call}
 
@@ -70,6 +70,13 @@ module _ (devices : Devices) (name : Text) where
   effect-steady true words = every-steady words
   effect-steady false words = unchanged (effect_of devices name words)
 
+  normal-steady : (words : List Text) → fails_normally (all_steady devices) (name ∷ words) ≡ fails_normally devices (name ∷ words)
+  normal-steady words = ap (λ (o : Option Effect). let r : Bool = elim o [ Some effect ↦ effect.normal | None ↦ false ] in r) (calls-steady words) ∙ by (call_effect devices name words)
+    where
+      by : (o : Option Effect) → (let r : Bool = elim (option_map steady_effect o) [ Some effect ↦ effect.normal | None ↦ false ] in r) ≡ (let r : Bool = elim o [ Some effect ↦ effect.normal | None ↦ false ] in r)
+      by None = refl
+      by (Some effect) = refl
+
   some-mapped : {V W : Type 0} (f : V → W) (o : Option V) → is_some (option_map f o) ≡ is_some o
   some-mapped f None = refl
   some-mapped f (Some v) = refl
@@ -97,3 +104,9 @@ twice-each (t ∷ ts) = λ i. (t.0, twice t.1 i) ∷ twice-each ts i
 pub steady-twice : (steady : Bool) (devices : Devices) → all_steady (steady_if steady devices) ≡ all_steady devices
 steady-twice false devices = refl
 steady-twice true devices = λ i. record devices { commands = twice devices.commands i; subs = twice-each devices.subs i; calls = twice-each devices.calls i; test_stays = true }
+
+-- what is expected does not depend on what stays
+pub normally-steady : (devices : Devices) (steady : Bool) (call : List Text) → fails_normally (steady_if steady devices) call ≡ fails_normally devices call
+normally-steady devices steady [] = refl
+normally-steady devices true (name ∷ words) = normal-steady devices name words
+normally-steady devices false (name ∷ words) = refl

@@ -59,11 +59,11 @@ abbrev pub effect_of : Devices → (name : Text) → (words : List Text) → Opt
 effect_of devices name words =
     elim (call_effect devices name words) [ Some effect ↦ Some effect | None ↦ line_effect devices name words ]
 
--- whether a failure is what is expected of a call with these words, its name first
+-- whether a failure is what is expected of a call with these words, its name first: only a line of calls can say so
 abbrev pub fails_normally : Devices → (call : List Text) → Bool
 fails_normally devices [] = false
 fails_normally devices (name ∷ words) =
-    elim (effect_of devices name words) [ Some effect ↦ effect.normal | None ↦ false ]
+    elim (call_effect devices name words) [ Some effect ↦ effect.normal | None ↦ false ]
 
 -- what a call comes to, if the list has its command computed and its words can be
 abbrev pub computed_by : Devices → (name : Text) → (words : List Text) → Option Computed

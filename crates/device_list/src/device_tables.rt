@@ -1,6 +1,6 @@
 //! What the lines of a device list say, by the names of the commands.
 ghost use Rattle.std.specs.Prelude.{◌≡◌, [], map, OnOk, IfOk, Some, is_some, option_map, ◌||◌};
-ghost use Rattle.device_list.specs.DeviceList.{only, changed_at, with_fitting, joined_in, joined_behind, joined_by, effect_at, sub_effect, call_effect, line_effect, effect_of, computed_by, with_known, is_listed, after_known, known_named, is_steady_test, line_of, heading_of};
+ghost use Rattle.device_list.specs.DeviceList.{only, changed_at, with_fitting, joined_in, joined_behind, joined_by, effect_at, sub_effect, call_effect, fails_normally, line_effect, effect_of, computed_by, with_known, is_listed, after_known, known_named, is_steady_test, line_of, heading_of};
 ghost use Rattle.device_list.specs.CommandsShown.{commands_shown, subs_shown, calls_shown, said_shown, listed_shown, found_shown};
 ghost use Rattle.std.specs.List.{list_any};
 ghost use Rattle.std.specs.Map.{lookup};
@@ -217,6 +217,19 @@ impl DeviceTables {
     {
         let lines = self.calls.get(name)?;
         first_fitting(lines, words)
+    }
+
+    /// Whether a failure is what is expected of a call with these words, its name first. Takes no memory.
+    pub fn fails_normally(&self, call: &[Vec<u8>]) -> bool
+        ensures { result ≡ fails_normally self.now (texts call.now) }
+    {
+        let [name, words @ ..] = call else {
+            return false;
+        };
+        match self.call_listed(name, words) {
+            Some(listed) => listed.normal,
+            None => false,
+        }
     }
 
     /// What the other lines say of a call.

@@ -124,13 +124,7 @@ impl Devices {
     pub fn fails_normally(&self, call: &[Vec<u8>]) -> bool
         ensures { result ≡ fails_normally self.now (texts call.now) }
     {
-        let [name, words @ ..] = call else {
-            return false;
-        };
-        match self.effect(name, words) {
-            Some(effect) => effect.normal,
-            None => false,
-        }
+        self.tables.fails_normally(call)
     }
 
     /// What `effect` says. The name is looked up only if it is not at the place that is given. Takes no

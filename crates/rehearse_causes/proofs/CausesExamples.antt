@@ -97,7 +97,7 @@ of_a_given_text = refl
 
 -- the device list `call load ** : normal 1` and `final boot`
 abbrev expected : ℕ → Text → Task
-expected failures text = record (bootcmd (limits (only ((codes "load", record quiet { normal = true }) ∷ (codes "boot", record quiet { ends = Some Boots }) ∷ [])) 4 20) text) { failures = Some failures }
+expected failures text = record (bootcmd (limits (record (only ((codes "boot", record quiet { ends = Some Boots }) ∷ [])) { calls = (codes "load", (record { words = []; more = true }, record quiet { normal = true }) ∷ []) ∷ [] }) 4 20) text) { failures = Some failures }
 
 -- a failure of `load` is nothing that has to fail, and its success is
 success_is_a_cause : causes_text (causes (expected 1 (codes "load a && exit 3; boot"))) ≡ codes "cause 1 end 3\nsucceeds load a\ncause 0 booted boot\ncause 1 end 1\nfails boot\n"

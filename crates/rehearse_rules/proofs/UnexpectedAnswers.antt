@@ -1,11 +1,11 @@
 -- How many answers of a run are unexpected: where a device command asks, one outcome counts, and the other one does not.
-use Rattle.std.proofs.Common.{ℕ, zero, suc, ◌+◌, ◌≤◌, ◌<◌, Bool, true, false, not, cond, List, [], ◌∷◌, ◌++◌, length, map, filter, Option, Some, None, refl, sym, ap, subst, ◌∙◌, ◌≡◌, ◌⊎◌, inl, inr, length-append, append-nil, arith}
+use Rattle.std.proofs.Common.{ℕ, suc, ◌+◌, ◌≤◌, Bool, true, false, not, cond, List, [], ◌∷◌, ◌++◌, length, map, Option, Some, None, refl, sym, ap, ◌∙◌, ◌≡◌, ◌⊎◌, inl, inr, length-append, arith}
 use Rattle.std.specs.Prelude.{nat_le}
 use Rattle.std.proofs.Math.Dec.{leb-zero}
 use Rattle.std.proofs.lemmas.Bool.{le-leb, leb-true}
 use Rattle.std.proofs.lemmas.List.{length-map}
 use Rattle.std.proofs.lemmas.List.Elements.{filter-append}
-use Rattle.device_list.specs.DeviceList.{Devices, Effect, effect_of, fails_normally}
+use Rattle.device_list.specs.DeviceList.{Devices, Effect, call_effect, line_effect, fails_normally}
 use Rattle.device_list.specs.Kinds.{EachCall}
 use Rattle.rehearse_terms.specs.Outcomes.{OutcomeWord, Outcome, Success, Failure, Run, Short, Long, failures}
 use Rattle.rehearse_terms.specs.State.{Text, State, LoggedCommand, Variables, start, asked_of}
@@ -14,7 +14,7 @@ use Rattle.rehearse_rules.specs.Expected.{Answered, asked_in, is_unexpected, une
 use Rattle.rehearse_rules.specs.Laws.{IsExpected, OneIsExpected}
 use Rattle.rehearse_rules.specs.Runs.{Task, run_on, kind, kind_of, taken_kind, state_of, unexpected, is_at_most, is_allowed}
 use Rattle.rehearse_rules.proofs.ChoiceTreeLemmas.{Kinds, IsPruned}
-use Rattle.rehearse_rules.proofs.TakenOutcomes.{more, answers, GoesTo, Track, Track-of, Keeps, AsksOne, HasAnswered, Keeps-text, Keeps-exec}
+use Rattle.rehearse_rules.proofs.TakenOutcomes.{more, answers, GoesTo, Track, Track-of, Keeps, AsksOne, Keeps-text, Keeps-exec}
 
 -- every digit of the word on which a task runs is taken, or its run ends
 pub Keeps-run_on : (task : Task) (s : State) → Keeps task.limits.device_bound s (run_text task.limits (exec task.limits task.limits.step_bound) task.name task.text)
@@ -170,11 +170,11 @@ empty_allowed task = by task.failures
 
 not_normal : (devices : Devices) → EachCall (λ effect. effect.normal ≡ false) devices → (call : List Text) → fails_normally devices call ≡ false
 not_normal devices each [] = refl
-not_normal devices each (name ∷ words) = by (effect_of devices name words) refl
+not_normal devices each (name ∷ words) = by (call_effect devices name words) refl
   where
-    by : (o : Option Effect) → effect_of devices name words ≡ o → elim o [ Some effect ↦ effect.normal | None ↦ false ] ≡ false
+    by : (o : Option Effect) → call_effect devices name words ≡ o → elim o [ Some effect ↦ effect.normal | None ↦ false ] ≡ false
     by None e = refl
-    by (Some effect) e = each name words effect e
+    by (Some effect) e = each name words effect (ap (λ (found : Option Effect). let r : Option Effect = elim found [ Some one ↦ Some one | None ↦ line_effect devices name words ] in r) e)
 
 count_failures : (devices : Devices) → EachCall (λ effect. effect.normal ≡ false) devices → (answered : List Answered) (w : OutcomeWord) → map (λ (a : Answered). a.0) answered ≡ map succeeds w → length (unexpected_of devices answered) ≡ failures w
 count_failures devices each [] [] e = refl

@@ -126,7 +126,7 @@ asked_each_time = refl
 
 -- the device list `call load ** : normal 1` and `try`
 abbrev expected : Text → Task
-expected text = bootcmd (limits (only ((codes "load", record quiet { normal = true }) ∷ (codes "try", quiet) ∷ [])) 3 20) text
+expected text = bootcmd (limits (record (only ((codes "try", quiet) ∷ [])) { calls = (codes "load", (record { words = []; more = true }, record quiet { normal = true }) ∷ []) ∷ [] }) 3 20) text
 
 -- a success counts, and is told
 success_counts : lines (expected (codes "load a || load b")) 2 ≡ codes "ends 2 first 0 fewest 1 0 end 0\nsucceeds load a\nends 1 first 11 fewest 0 11 end 1\nall 3 states 2\n"
