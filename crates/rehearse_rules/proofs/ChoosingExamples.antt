@@ -1,6 +1,6 @@
 -- Worked examples, computed: which of the allowed runs is the first, and which one follows another.
-use Rattle.std.proofs.Common.{◌≡◌, ℕ, suc, true, false, Bool, List, [], ◌∷◌, Some, None, refl, map, filter, nat_le}
-use Rattle.rehearse_terms.specs.Outcomes.{Outcome, Success, Failure, OutcomeWord, WordKind, Run, Short, Long, failures, runs_within}
+use Rattle.std.proofs.Common.{◌≡◌, ℕ, suc, true, false, Bool, [], ◌∷◌, Some, None, refl, map, filter, nat_le}
+use Rattle.rehearse_terms.specs.Outcomes.{Success, Failure, OutcomeWord, WordKind, Run, Short, Long, failures, runs_within}
 use Rattle.rehearse_rules.specs.Choosing.{first_outcome, first_run, first_from, has_success, turned}
 
 -- ---- where failures count

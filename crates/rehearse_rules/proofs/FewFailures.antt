@@ -1,5 +1,5 @@
 -- Runs of which few answers are unexpected.
-use Rattle.std.proofs.Common.{◌≡◌, ℕ, zero, suc, ◌+◌, ◌*◌, ◌^◌, ◌≤◌, ◌<◌, ◌⊎◌, Bool, true, false, cond, List, [], ◌∷◌, ◌++◌, filter, length, Option, Some, refl, sym, ap, ◌∙◌, inl, inr, arith}
+use Rattle.std.proofs.Common.{◌≡◌, ℕ, zero, suc, ◌+◌, ◌*◌, ◌^◌, ◌≤◌, ◌<◌, ◌⊎◌, Bool, true, false, cond, List, [], ◌∷◌, filter, length, Option, Some, refl, sym, ap, ◌∙◌, inl, inr, arith}
 use Rattle.std.specs.Prelude.{nat_le}
 use Rattle.std.proofs.Math.Nat.{mul-le-mul, mul-le-mul_right, mul-suc, one-le-pow, pow-suc, pow-zero}
 use Rattle.std.proofs.lemmas.Bool.{le-leb, leb-true}
@@ -8,7 +8,7 @@ use Rattle.rehearse_terms.specs.Outcomes.{OutcomeWord, Outcome, Success, Failure
 use Rattle.rehearse_rules.specs.Choosing.{first_run}
 use Rattle.rehearse_rules.specs.Runs.{Task, kind, all_runs, runs, unexpected, is_allowed, rest, IsListed}
 use Rattle.rehearse_rules.specs.Laws.{failing}
-use Rattle.rehearse_rules.proofs.ChoiceTreeLemmas.{Kinds, IsPruned, pruned_beyond, allowed_within, allowed_here, none_allowed, behind, beyond-length}
+use Rattle.rehearse_rules.proofs.ChoiceTreeLemmas.{Kinds, pruned_beyond, allowed_within, allowed_here, none_allowed, behind, beyond-length}
 use Rattle.rehearse_rules.proofs.NextRunLemmas.{no_longer}
 use Rattle.rehearse_rules.proofs.UnexpectedAnswers.{IsCounted, CountsOne, up_to, no_less, is_pruned, one_is_expected, none_unexpected, failures_are_counted}
 use Rattle.rehearse_rules.proofs.TaskChoices.{AllPass, passes_run, task_begins, task_chooses, log_is_word}

@@ -1,7 +1,7 @@
 -- A call that succeeds in a run, and needs another one, has that one before it in the log.
 use Rattle.std.proofs.Common.{◌≡◌, ◌∙◌, Bool, true, false, cond, List, [], ◌∷◌, ◌++◌, length, Option, Some, None, refl, sym, ap, subst, nat_lt, append_assoc}
 use Rattle.std.proofs.lemmas.List.{append-nil}
-use Rattle.builtins.specs.Builtins.{Test, builtin_of}
+use Rattle.builtins.specs.Builtins.{builtin_of}
 use Rattle.device_list.specs.declared.finish.BoardEnd.{BoardEnd}
 use Rattle.device_list.specs.Called.{sets_in}
 use Rattle.device_list.specs.DeviceList.{Effect, Devices, effect_of}

@@ -6,7 +6,6 @@ use Rattle.std.proofs.lemmas.Slice.Eq.{bytes_eq-Decides}
 use Rattle.std.specs.Map.{lookup}
 use Rattle.device_list.specs.declared.finish.BoardEnd.{BoardEnd}
 use Rattle.device_list.specs.Called.{sets_in}
-use Rattle.device_list.specs.DeviceList.{Effect}
 use Rattle.rehearse_terms.specs.Outcomes.{Outcome, OutcomeWord, Success, Failure}
 use Rattle.rehearse_terms.specs.State.{Text, LoggedCommand, State, asked_of, answers_in, same_words, answer_in, start}
 use Rattle.rehearse_rules.specs.Execution.{Limits, Answer, Ended, CutDevices, Request, succeeds, outcome_when, told, told_again, tell_or_take, take_outcome, with_outcome, device, logged, set_environment, finish}

@@ -1,6 +1,6 @@
 -- The words of a task are the words of a tree of choices, so the laws of outcome words hold for its runs.
 use Rattle.std.proofs.Common.{ℕ, zero, suc, Bool, true, false, [], ◌∷◌, ◌++◌, length, Some, None, refl, ap, subst, ◌≡◌, ◌≢◌, ◌⊎◌, ◌↔◌, inl, inr, ◌<◌, ◌≤◌, length-append, append-nil, map, sym, ◌∙◌, arith, List, cond, filter}
-use Rattle.rehearse_terms.specs.Outcomes.{OutcomeWord, Outcome, WordKind, Run, Short, Long, words, common_prefix, is_run_kind, after, IsChoice}
+use Rattle.rehearse_terms.specs.Outcomes.{OutcomeWord, Outcome, WordKind, Run, Short, Long, words, common_prefix, is_run_kind, IsChoice}
 use Rattle.rehearse_rules.specs.Choosing.{turned, has_success, first_run, first_from}
 use Rattle.rehearse_terms.specs.State.{State, start, Variables, asked_of}
 use Rattle.rehearse_rules.specs.Execution.{Answer, Normal, Exit, Ended, Dry, succeeds}

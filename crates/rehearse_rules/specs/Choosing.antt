@@ -1,6 +1,6 @@
 -- Which of the allowed runs is the first, and which one follows another. What is allowed of a run is allowed of each word
 -- with which it starts. Ours.
-use Rattle.std.specs.Prelude.{ℕ, zero, suc, pred, Bool, cond, false, ◌||◌, List, [], ◌∷◌, Option, Some, None, option_map}
+use Rattle.std.specs.Prelude.{ℕ, zero, suc, pred, Bool, cond, false, ◌||◌, [], ◌∷◌, Option, Some, None, option_map}
 use Rattle.rehearse_terms.specs.Outcomes.{OutcomeWord, Outcome, Success, Failure, WordKind, Run, Short, Long, beyond}
 
 -- which words are allowed, after one outcome

@@ -1,5 +1,5 @@
 -- Calls of a device list that need another one to have succeeded before in the run. Ours.
-use Rattle.std.specs.Prelude.{◌≡◌, Bool, true, false, ◌&&◌, List, [], ◌∷◌, length, take, Some, if◌then◌else◌}
+use Rattle.std.specs.Prelude.{Bool, true, false, ◌&&◌, List, [], ◌∷◌, length, take, Some, if◌then◌else◌}
 use Rattle.std.specs.List.{list_any}
 use Rattle.device_list.specs.DeviceList.{Effect}
 use Rattle.rehearse_terms.specs.State.{Text, LoggedCommand, same_words}

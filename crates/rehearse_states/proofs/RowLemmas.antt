@@ -1,5 +1,5 @@
 -- Rows, as loops make them.
-use Rattle.std.proofs.Common.{ℕ, ap, ◌∙◌, ◌≡◌}
+use Rattle.std.proofs.Common.{ℕ, ◌≡◌}
 use Rattle.rehearse_terms.specs.Outcomes.{OutcomeWord}
 use Rattle.rehearse_states.specs.Endings.{RunEnd, Row, Counted}
 

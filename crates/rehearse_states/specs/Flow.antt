@@ -1,5 +1,5 @@
 -- The flow of a script: its runs as a graph, written line by line. Ours.
-use Rattle.std.specs.Prelude.{◌≡◌, ℕ, zero, suc, Bool, List, [], ◌∷◌, ◌++◌, map, Option, Some, None, codes, decimal}
+use Rattle.std.specs.Prelude.{◌≡◌, ℕ, zero, suc, List, [], ◌∷◌, ◌++◌, map, Option, Some, None, codes, decimal}
 use Rattle.std.specs.List.{slice_get}
 use Rattle.text.specs.Escapes.{word_form}
 use Rattle.text.specs.Words.{joined_words}
