@@ -1,5 +1,5 @@
 #!/usr/bin/env bash
-# growths.sh PROGRAM [PART..]: runs each part of the built program crates/tests_growths/out/tests_growths, or these
+# growths.sh PROGRAM [PART..]: runs each part of the built program crates/tests_libraries/out/tests_libraries, or these
 # parts, once for each growth of memory that it makes, with that one growth refused, until a run meets no refusal.
 #
 # In `store`, `calls` and `rehearse` the program prints a line NAME:STATE for the beginning and after each change, and a

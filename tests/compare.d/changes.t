@@ -4,7 +4,7 @@
 Changes by the calls of the libraries, read by the other tools.
 
   $ printf 'a=1\nb=x  y\nc=\n' >variables
-  $ set_image() { marked "$TESTS_GROWTHS" set_image "$@"; }
+  $ set_image() { marked "$TESTS_LIBRARIES" set_image "$@"; }
 
 a change without words
   $ set_image 2>/dev/null

@@ -1,4 +1,4 @@
-/* zlib_crc32: times zlib's crc32 over the pattern that `tests_growths bench` makes, in bytes a second, the best of 21 turns. */
+/* zlib_crc32: times zlib's crc32 over the pattern that `tests_libraries checksum` makes, in bytes a second, the best of 21 turns. */
 #include <stdio.h>
 #include <time.h>
 #include <zlib.h>
