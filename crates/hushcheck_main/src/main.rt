@@ -1,14 +1,7 @@
 //! The program `hushcheck`: where the boot scripts of a U-Boot environment break.
 #![tactic(auto)]
 
-mod ask;
-mod command;
-mod fault;
-mod program;
-mod texts;
-mod words;
-
-use crate::program::{PROGRAM, REFUSED, run_check};
+use hushcheck_program::{PROGRAM, REFUSED, run_check};
 use output::{Out, Over, write_all};
 use std::io;
 use std::process::{self, ExitCode};
