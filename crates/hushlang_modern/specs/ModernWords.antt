@@ -8,10 +8,10 @@ use Rattle.hushlang.specs.Tree.{Piece}
 use Rattle.hushlang.specs.WordPieces.{in_piece}
 use Rattle.hushlang.specs.KnownFields.{is_constant_word}
 use Rattle.hushlang_old.specs.OldFields.{has_bytes, is_mark, unescaped}
+use Rattle.hushlang_old.specs.Nests.{reserved_among}
 use Rattle.hushlang_old.specs.OldTrees.{only_bytes}
+use Rattle.hushlang_old.specs.declared.reserved.Reserved.{Reserved}
 use Rattle.hushlang_modern.specs.ModernTokens.{FoundWord, is_wild, is_name}
-use Rattle.hushlang_modern.specs.declared.reserved.Reserved.{Reserved}
-use Rattle.hushlang_modern.specs.declared.reserved.Reserved.TheVariants as r
 
 -- ---- patterns
 
@@ -61,28 +61,6 @@ is_sure w = list_any is_lasting w.pieces
 
 -- ---- reserved words (`reserved_word`)
 
-unfoldable pub reserved_bytes : List ℕ → Option Reserved
-reserved_bytes bytes =
-    if bytes_eq bytes (codes "if") then Some r.If
-    else (if bytes_eq bytes (codes "then") then Some r.Then
-    else (if bytes_eq bytes (codes "elif") then Some r.Elif
-    else (if bytes_eq bytes (codes "else") then Some r.Else
-    else (if bytes_eq bytes (codes "fi") then Some r.Fi
-    else (if bytes_eq bytes (codes "for") then Some r.For
-    else (if bytes_eq bytes (codes "while") then Some r.While
-    else (if bytes_eq bytes (codes "until") then Some r.Until
-    else (if bytes_eq bytes (codes "do") then Some r.Do
-    else (if bytes_eq bytes (codes "done") then Some r.Done
-    else (if bytes_eq bytes (codes "in") then Some r.In
-    else (if bytes_eq bytes (codes "!") then Some r.Sign
-    else (if bytes_eq bytes (codes "{") then Some r.Sign
-    else (if bytes_eq bytes (codes "}") then Some r.Sign
-    else None)))))))))))))
-
-abbrev pub reserved_among : Option (List ℕ) → Option Reserved
-reserved_among None = None
-reserved_among (Some bytes) = reserved_bytes bytes
-
 -- the bytes of a word that has no quotes, no backslash and no variable
 abbrev pub bare_bytes : FoundWord → Option (List ℕ)
 bare_bytes w = if w.quoted then None else only_bytes w.pieces
@@ -91,13 +69,13 @@ bare_bytes w = if w.quoted then None else only_bytes w.pieces
 abbrev pub reserved_in : FoundWord → Option Reserved
 reserved_in w = reserved_among (bare_bytes w)
 
-abbrev pub is_reserved_sign : Option Reserved → Bool
-is_reserved_sign (Some r.Sign) = true
-is_reserved_sign word = false
+abbrev pub is_sign_among : Option (List ℕ) → Bool
+is_sign_among (Some (byte ∷ [])) = byte == ascii.exclamation_mark || byte == ascii.open_brace || byte == ascii.close_brace
+is_sign_among bytes = false
 
 -- `!`, `{` or `}`
 abbrev pub is_sign : FoundWord → Bool
-is_sign w = is_reserved_sign (reserved_in w)
+is_sign w = is_sign_among (bare_bytes w)
 
 -- ---- names and assignments
 

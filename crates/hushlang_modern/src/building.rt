@@ -1,9 +1,7 @@
 //! The tree of a text on the way, token by token.
-ghost use Rattle.std.specs.Prelude.{◌≡◌, ◌++◌, ◌∷◌, [], false, true, map, option_map, IfOk, OnOk};
+ghost use Rattle.std.specs.Prelude.{◌≡◌, map, IfOk, OnOk};
 ghost use Rattle.hushlang.specs.Tree as tree;
 ghost use Rattle.hushlang.specs.TreesShown as view;
-ghost use Rattle.hushlang.specs.Grammar.{max_nesting};
-ghost use Rattle.hushlang_old.specs.OldTrees as old;
 ghost use Rattle.hushlang_modern.specs.ModernTokensShown as tokens;
 ghost use Rattle.hushlang_modern.specs.ModernTrees as says;
 ghost use Rattle.hushlang_modern.specs.ModernTreesShown as shown;
@@ -15,42 +13,23 @@ use crate::found_words::{
 };
 use crate::modern_text::ModernText;
 use crate::modern_tokens::{FoundWord, Token};
-use crate::open_commands::{Arms, Block, Compound, Opens, body_of, call_of};
-use crate::reserved::Reserved;
 use crate::stop::Stop;
-use hushlang::{AndOr, Command, Op, Script, Word};
+use hushlang::{Command, Op, Word};
+use hushlang_old::{Gone, Nest, Part, Reserved, begins, call_of, is_do, is_header, is_in};
 use std::alloc::{AllocError, Global};
 use std::mem;
-use std::rc::Rc;
 
-/// How deep compound commands may be nested.
-const MAX_NESTING: usize = 64;
-
-/// The block on the way; the compound commands that are open; the assignments on the way; the words on
-/// the way; whether a compound command has just ended; and whether the next word may be the first one
-/// behind `if`, `while` or `until` to have a byte.
+/// The block on the way and the compound commands that are open; the assignments on the way; the words
+/// on the way; whether a compound command has just ended; and whether the next word may be the first
+/// one behind `if`, `while` or `until` to have a byte.
 #[derive(Drop)]
 pub(crate) struct Building {
     alloc: Global,
-    block: Block,
-    opens: Opens,
+    nest: Nest,
     values: Vec<(Vec<u8>, Word)>,
     words: Vec<FoundWord>,
     closed: bool,
     fresh: bool,
-}
-
-/// The compound command that a word begins.
-fn begun_by(alloc: Global, word: Reserved) -> Option<Compound>
-    ensures { option_map shown.compound result ≡ says.begun_by word }
-{
-    match word {
-        Reserved::If => Some(Compound::Condition(Vec::new(alloc))),
-        Reserved::While => Some(Compound::Test(false)),
-        Reserved::Until => Some(Compound::Test(true)),
-        Reserved::For => Some(Compound::Name),
-        _ => None,
-    }
 }
 
 impl Building {
@@ -60,8 +39,7 @@ impl Building {
     {
         Building {
             alloc,
-            block: Block::new(alloc),
-            opens: Opens::new(alloc),
+            nest: Nest::new(alloc),
             values: Vec::new(alloc),
             words: Vec::new(alloc),
             closed: false,
@@ -106,184 +84,39 @@ impl Building {
             return Ok(());
         }
         let command = self.take_command()?;
-        self.block.push(command)
+        self.nest.push(command)
     }
 
     /// A compound command begins.
-    fn begin(&mut self, compound: Compound) -> Result<Option<Stop>, AllocError>
-        ensures { IfOk result (λ stop. says.opened (shown.compound compound) (shown.building self.old)
+    fn begin(&mut self, word: Reserved) -> Result<Option<Stop>, AllocError>
+        ensures { IfOk result (λ stop. says.opened word (shown.building self.old)
             ≡ shown.unless stop (shown.building self.new)) }
     {
-        if self.opens.len() >= MAX_NESTING || self.closed {
+        if self.nest.is_full() || self.closed {
             return Ok(Some(Stop::Unsupported));
         }
-        let outer = mem::replace(&mut self.block, Block::new(self.alloc));
-        self.opens.push(compound, outer)?;
+        self.nest.begin(word)?;
         self.fresh = true;
         Ok(None)
     }
 
-    /// The innermost compound command, which was taken, goes on with its next block.
-    fn enter(&mut self, compound: Compound, outer: Block) -> Result<Option<Stop>, AllocError>
-        ensures { IfOk result (λ stop. says.entered (shown.compound compound) (shown.block outer)
-            (shown.opens self.old.opens) (shown.building self.old)
-            ≡ shown.unless stop (shown.building self.new)) }
-    {
-        self.block = Block::new(self.alloc);
-        self.opens.push(compound, outer)?;
-        self.closed = false;
-        Ok(None)
-    }
-
-    /// The innermost compound command, which was taken, ends.
-    fn close(&mut self, command: Command, outer: Block) -> Result<Option<Stop>, AllocError>
-        ensures { IfOk result (λ stop. says.ended (view.command command) (shown.block outer)
-            (shown.opens self.old.opens) (shown.building self.old)
-            ≡ shown.unless stop (shown.building self.new)) }
-    {
-        self.block = outer;
-        self.block.push(command)?;
-        self.closed = true;
-        self.fresh = true;
-        Ok(None)
-    }
-
-    /// The block behind a condition begins, if the condition holds a command.
-    #[tactic(auto, using(hushlang::proofs::ViewLemmas::what_it_says, crate::proofs::BuildingLemmas::blocks))]
-    fn enter_arm(
-        &mut self,
-        arms: Arms,
-        lists: Vec<AndOr>,
-        outer: Block,
-    ) -> Result<Option<Stop>, AllocError>
-        ensures { IfOk result (λ stop. says.entered_by (map view.list lists.items)
-            (says.Arm (map view.arm arms.items)) (shown.block outer)
-            (shown.opens self.old.opens) (shown.building self.old)
-            ≡ shown.unless stop (shown.building self.new)) }
-    {
-        if lists.is_empty() {
-            return Ok(Some(Stop::Unsupported));
-        }
-        let condition = Rc::new(self.alloc, Script { lists })?;
-        self.enter(Compound::Arm(arms, condition), outer)
-    }
-
-    /// The body of a loop begins, if the condition holds a command.
-    #[tactic(auto, using(hushlang::proofs::ViewLemmas::what_it_says, crate::proofs::BuildingLemmas::blocks))]
-    fn enter_body(
-        &mut self,
-        until: bool,
-        lists: Vec<AndOr>,
-        outer: Block,
-    ) -> Result<Option<Stop>, AllocError>
-        ensures { IfOk result (λ stop. says.entered_by (map view.list lists.items)
-            (says.Body until) (shown.block outer)
-            (shown.opens self.old.opens) (shown.building self.old)
-            ≡ shown.unless stop (shown.building self.new)) }
-    {
-        if lists.is_empty() {
-            return Ok(Some(Stop::Unsupported));
-        }
-        let condition = Rc::new(self.alloc, Script { lists })?;
-        self.enter(Compound::Body(until, condition), outer)
-    }
-
-    /// The condition of a further arm begins.
-    fn enter_condition(
-        &mut self,
-        arms: Arms,
-        condition: Rc<Script>,
-        lists: Vec<AndOr>,
-        outer: Block,
-    ) -> Result<Option<Stop>, AllocError>
-        ensures { IfOk result (λ stop. shown.next_condition (map view.arm arms.items)
-            (view.script condition.value) (map view.list lists.items) (shown.block outer)
-            (shown.opens self.old.opens) (shown.building self.old)
-            ≡ shown.unless stop (shown.building self.new)) }
-    {
-        if !arms.is_empty() && lists.is_empty() {
-            return Ok(Some(Stop::Unsupported));
-        }
-        let arms = with_arm(self.alloc, arms, condition, lists)?;
-        self.enter(Compound::Condition(arms), outer)
-    }
-
-    /// A `for` ends, if its body holds a command.
-    #[tactic(auto, using(hushlang::proofs::ViewLemmas::what_it_says, crate::proofs::BuildingLemmas::blocks))]
-    fn close_for(
-        &mut self,
-        name: Vec<u8>,
-        words: Vec<Word>,
-        lists: Vec<AndOr>,
-        outer: Block,
-    ) -> Result<Option<Stop>, AllocError>
-        ensures { IfOk result (λ stop. shown.for_ended name.items (view.words_in words)
-            (map view.list lists.items) (shown.block outer)
-            (shown.opens self.old.opens) (shown.building self.old)
-            ≡ shown.unless stop (shown.building self.new)) }
-    {
-        if lists.is_empty() {
-            return Ok(Some(Stop::Unsupported));
-        }
-        let body = body_of(self.alloc, lists)?;
-        self.close(Command::For { name, words, body }, outer)
-    }
-
-    /// A reserved word goes on with the innermost compound command, which was taken, or ends it. The
-    /// block that it ends has these lists.
-    #[tactic(auto, using(hushlang::proofs::ViewLemmas::what_it_says, crate::proofs::BuildingLemmas::blocks))]
-    fn next_part(
-        &mut self,
-        compound: Compound,
-        word: Reserved,
-        lists: Vec<AndOr>,
-        outer: Block,
-    ) -> Result<Option<Stop>, AllocError>
-        ensures { IfOk result (λ stop. says.next_part (shown.compound compound) word
-            (map view.list lists.items) (shown.block outer)
-            (shown.opens self.old.opens) (shown.building self.old)
-            ≡ shown.unless stop (shown.building self.new)) }
-    {
-        match (compound, word) {
-            (Compound::Condition(arms), Reserved::Then) => self.enter_arm(arms, lists, outer),
-            (Compound::Arm(arms, condition), Reserved::Elif) => {
-                self.enter_condition(arms, condition, lists, outer)
-            }
-            (Compound::Arm(arms, condition), Reserved::Else) => {
-                let arms = with_arm(self.alloc, arms, condition, lists)?;
-                self.enter(Compound::Else(arms), outer)
-            }
-            (Compound::Arm(arms, condition), Reserved::Fi) => {
-                let arms = with_arm(self.alloc, arms, condition, lists)?;
-                self.close(Command::If { arms, other: None }, outer)
-            }
-            (Compound::Else(arms), Reserved::Fi) => {
-                let other = Some(body_of(self.alloc, lists)?);
-                self.close(Command::If { arms, other }, outer)
-            }
-            (Compound::Test(until), Reserved::Do) => self.enter_body(until, lists, outer),
-            (Compound::Body(until, cond), Reserved::Done) => {
-                let body = body_of(self.alloc, lists)?;
-                self.close(Command::Loop { until, cond, body }, outer)
-            }
-            (Compound::Each(name, words), Reserved::Done) => {
-                self.close_for(name, words, lists, outer)
-            }
-            _ => Ok(Some(Stop::Panics)),
-        }
-    }
-
-    /// A reserved word that begins no compound command.
+    /// A reserved word goes on with the innermost compound command, or ends it.
     fn go_on(&mut self, word: Reserved) -> Result<Option<Stop>, AllocError>
-        ensures { IfOk result (λ stop. says.goes_on word (shown.opens self.old.opens)
-            (shown.building self.old) ≡ shown.unless stop (shown.building self.new)) }
+        ensures { IfOk result (λ stop. says.goes_on word (shown.building self.old)
+            ≡ shown.unless stop (shown.building self.new)) }
     {
-        let Some((compound, outer)) = self.opens.pop() else {
-            return Ok(Some(Stop::Panics));
-        };
-        self.block.end_list()?;
-        let lists = mem::replace(&mut self.block.lists, Vec::new(self.alloc));
-        self.next_part(compound, word, lists, outer)
+        if needs_command(self.nest.part(), word) && self.nest.lacks_command() {
+            return Ok(Some(Stop::Unsupported));
+        }
+        match self.nest.go_on(word)? {
+            Gone::Entered => self.closed = false,
+            Gone::Closed => {
+                self.closed = true;
+                self.fresh = true;
+            }
+            Gone::Astray => return Ok(Some(Stop::Panics)),
+        }
+        Ok(None)
     }
 
     /// A reserved word at the beginning of a command.
@@ -291,13 +124,10 @@ impl Building {
         ensures { IfOk result (λ stop. says.reserved_read word (shown.building self.old)
             ≡ shown.unless stop (shown.building self.new)) }
     {
-        if word == Reserved::Sign {
-            return Ok(Some(Stop::Unsupported));
+        if begins(word) {
+            return self.begin(word);
         }
-        match begun_by(self.alloc, word) {
-            Some(compound) => self.begin(compound),
-            None => self.go_on(word),
-        }
+        self.go_on(word)
     }
 
     /// A further word of a command, or of a `for`.
@@ -354,6 +184,20 @@ impl Building {
         self.begin_words(word)
     }
 
+    /// A word in front of which nothing is.
+    fn read_first_word(&mut self, word: FoundWord) -> Result<Option<Stop>, AllocError>
+        ensures { IfOk result (λ stop. says.first_word (tokens.word word)
+            (shown.building self.old) ≡ shown.unless stop (shown.building self.new)) }
+    {
+        if is_sign(&word) {
+            return Ok(Some(Stop::Unsupported));
+        }
+        match reserved_in(&word) {
+            Some(reserved) => self.read_reserved(reserved),
+            None => self.begin_command(word),
+        }
+    }
+
     /// A word of a command, or a reserved word.
     fn read_command_word(&mut self, word: FoundWord) -> Result<Option<Stop>, AllocError>
         ensures { IfOk result (λ stop. says.command_word (tokens.word word)
@@ -366,10 +210,7 @@ impl Building {
         if !self.values.is_empty() {
             return self.begin_command(word);
         }
-        match reserved_in(&word) {
-            Some(reserved) => self.read_reserved(reserved),
-            None => self.begin_command(word),
-        }
+        self.read_first_word(word)
     }
 
     /// A word of a `for`.
@@ -384,11 +225,10 @@ impl Building {
         Ok(None)
     }
 
-    /// The word behind `for`, which was taken: its name.
-    fn read_name(&mut self, word: FoundWord, outer: Block) -> Result<Option<Stop>, AllocError>
+    /// The word behind `for`: its name.
+    fn read_name(&mut self, word: FoundWord) -> Result<Option<Stop>, AllocError>
         ensures { IfOk result (λ stop. says.name_read (tokens.word word)
-            (shown.block outer) (shown.opens self.old.opens) (shown.building self.old)
-            ≡ shown.unless stop (shown.building self.new)) }
+            (shown.building self.old) ≡ shown.unless stop (shown.building self.new)) }
     {
         if is_sign(&word) || word.quoted {
             return Ok(Some(Stop::Unsupported));
@@ -399,56 +239,38 @@ impl Building {
         if is_strange(name) {
             return Ok(Some(Stop::Unsupported));
         }
-        let name = name.to_vec(self.alloc)?;
-        self.enter(Compound::In(name), outer)
+        self.nest.set_name(name.to_vec(self.alloc)?)?;
+        Ok(None)
     }
 
-    /// The word behind the name of a `for`, which was taken.
-    fn read_behind_name(
-        &mut self,
-        name: Vec<u8>,
-        word: FoundWord,
-        outer: Block,
-    ) -> Result<Option<Stop>, AllocError>
-        ensures { IfOk result (λ stop. says.behind_name name.items (tokens.word word)
-            (shown.block outer) (shown.opens self.old.opens) (shown.building self.old)
-            ≡ shown.unless stop (shown.building self.new)) }
+    /// The word behind the name of a `for`.
+    fn read_behind_name(&mut self, word: FoundWord) -> Result<Option<Stop>, AllocError>
+        ensures { IfOk result (λ stop. says.behind_name (tokens.word word)
+            (shown.building self.old) ≡ shown.unless stop (shown.building self.new)) }
     {
-        if is_in(&word) {
-            return self.enter(Compound::Words(name), outer);
+        let reserved = reserved_in(&word);
+        if is_in(reserved) {
+            return self.go_on(Reserved::In);
         }
-        if is_do(&word) {
-            return self.enter(Compound::Each(name, Vec::new(self.alloc)), outer);
+        if is_do(reserved) {
+            return self.go_on(Reserved::Do);
         }
         Ok(Some(Stop::Unsupported))
     }
 
     /// A word.
     fn read_word(&mut self, word: FoundWord) -> Result<Option<Stop>, AllocError>
-        ensures { IfOk result (λ stop. says.word_in (shown.opens self.old.opens)
+        ensures { IfOk result (λ stop. says.word_at (says.part_in (shown.building self.old))
             (tokens.word word) (shown.building self.old)
             ≡ shown.unless stop (shown.building self.new)) }
     {
-        let Some((compound, outer)) = self.opens.pop() else {
-            return self.read_command_word(word);
-        };
-        match compound {
-            Compound::Name => self.read_name(word, outer),
-            Compound::In(name) => self.read_behind_name(name, word, outer),
-            Compound::Words(name) => {
-                self.opens.push(Compound::Words(name), outer)?;
-                self.read_word_of_for(word)
-            }
-            Compound::Do(name, words) => {
-                if !is_do(&word) {
-                    return Ok(Some(Stop::Unsupported));
-                }
-                self.enter(Compound::Each(name, words), outer)
-            }
-            compound => {
-                self.opens.push(compound, outer)?;
-                self.read_command_word(word)
-            }
+        match self.nest.part() {
+            Part::Name => self.read_name(word),
+            Part::In => self.read_behind_name(word),
+            Part::Words => self.read_word_of_for(word),
+            Part::Do if is_do(reserved_in(&word)) => self.go_on(Reserved::Do),
+            Part::Do => Ok(Some(Stop::Unsupported)),
+            _ => self.read_command_word(word),
         }
     }
 
@@ -461,7 +283,7 @@ impl Building {
             return Ok(());
         }
         self.end_command()?;
-        self.block.op = op;
+        self.nest.set_operator(op);
         Ok(())
     }
 
@@ -470,7 +292,7 @@ impl Building {
         ensures { IfOk result (λ stop. says.join_in op (shown.building self.old)
             ≡ shown.unless stop (shown.building self.new)) }
     {
-        if self.opens.in_header() {
+        if is_header(self.nest.part()) {
             return Ok(Some(Stop::Unsupported));
         }
         self.join_by(op)?;
@@ -483,7 +305,7 @@ impl Building {
             ≡ says.all_ended (shown.building self.old)) }
     {
         self.end_command()?;
-        self.block.end_list()
+        self.nest.end_list()
     }
 
     /// The and-or list on the way ends at a separator, if a command is on the way.
@@ -497,53 +319,27 @@ impl Building {
         self.end_list()
     }
 
-    /// The words of a `for`, which was taken, are whole, unless a newline stands straight behind `in`.
-    fn end_words(
-        &mut self,
-        name: Vec<u8>,
-        newline: bool,
-        outer: Block,
-    ) -> Result<Option<Stop>, AllocError>
-        ensures { IfOk result (λ stop. shown.after_words name.items newline
-            (shown.block outer) (shown.opens self.old.opens) (shown.building self.old)
-            ≡ shown.unless stop (shown.building self.new)) }
+    /// The words of a `for` are whole.
+    fn end_words(&mut self) -> Result<(), AllocError>
+        ensures { OnOk result (shown.building self.new ≡ says.words_ended (shown.building self.old)) }
     {
-        if newline && self.words.is_empty() {
-            self.opens.push(Compound::Words(name), outer)?;
-            return Ok(None);
-        }
         let found = mem::replace(&mut self.words, Vec::new(self.alloc));
-        let words = words_of(self.alloc, found)?;
-        self.opens.push(Compound::Do(name, words), outer)?;
-        Ok(None)
+        self.nest.set_words(words_of(self.alloc, found)?)
     }
 
     /// `;`, or a newline.
     fn end(&mut self, newline: bool) -> Result<Option<Stop>, AllocError>
-        ensures { IfOk result (λ stop. says.end_in (shown.opens self.old.opens) newline
+        ensures { IfOk result (λ stop. says.end_at (says.part_in (shown.building self.old)) newline
             (shown.building self.old) ≡ shown.unless stop (shown.building self.new)) }
     {
-        let Some((compound, outer)) = self.opens.pop() else {
-            self.separate()?;
-            return Ok(None);
-        };
-        match compound {
-            Compound::Name => Ok(Some(Stop::Unsupported)),
-            Compound::In(name) => {
-                self.opens.push(Compound::In(name), outer)?;
-                Ok(None)
-            }
-            Compound::Words(name) => self.end_words(name, newline, outer),
-            Compound::Do(name, words) => {
-                self.opens.push(Compound::Do(name, words), outer)?;
-                Ok(None)
-            }
-            compound => {
-                self.opens.push(compound, outer)?;
-                self.separate()?;
-                Ok(None)
-            }
+        match self.nest.part() {
+            Part::Name => return Ok(Some(Stop::Unsupported)),
+            Part::Words if newline && self.words.is_empty() => (),
+            Part::Words => self.end_words()?,
+            Part::In | Part::Do => (),
+            _ => self.separate()?,
         }
+        Ok(None)
     }
 
     /// Reads a token. The answer is how the reading stops there, if it does.
@@ -571,18 +367,15 @@ impl Building {
         }
     }
 
-    /// The tree, if no compound command is open.
-    #[tactic(auto, using(hushlang::proofs::ViewLemmas::what_it_says))]
-    pub(crate) fn into_text(self) -> Result<ModernText, AllocError>
-        ensures { IfOk result (λ text. shown.text text ≡ says.text_ended (shown.building self)) }
+    /// Ends the text: its tree, if no compound command is open.
+    pub(crate) fn end_text(&mut self) -> Result<ModernText, AllocError>
+        ensures { IfOk result (λ text. shown.text text ≡ says.text_ended (shown.building self.old)) }
     {
-        let mut building = self;
-        if building.opens.len() > 0 {
+        if self.nest.is_open() {
             return Ok(ModernText::Unread(Stop::Fails));
         }
-        building.end_list()?;
-        let block = building.block;
-        Ok(ModernText::Read(Script { lists: block.lists }))
+        self.end_list()?;
+        Ok(ModernText::Read(self.nest.take_script()))
     }
 }
 
@@ -612,36 +405,15 @@ fn command_of(
     simple(alloc, found)
 }
 
-/// The arms of an `if` with a further one, whose block has these lists.
-fn with_arm(
-    alloc: Global,
-    arms: Arms,
-    condition: Rc<Script>,
-    lists: Vec<AndOr>,
-) -> Result<Arms, AllocError>
-    ensures { IfOk result (λ more. map view.arm more.items ≡ map view.arm arms.items
-        ++ (view.script condition.value, old.body_of (map view.list lists.items)) ∷ []) }
+/// Whether a block that this word ends, in this part, has to hold a command.
+fn needs_command(part: Part, word: Reserved) -> bool
+    ensures { result ≡ says.needs_command part word }
 {
-    let mut arms = arms;
-    let body = body_of(alloc, lists)?;
-    arms.push((condition, body))?;
-    Ok(arms)
-}
-
-fn is_in(word: &FoundWord) -> bool
-    ensures { result ≡ says.is_in (words.reserved_in (tokens.word word.now)) }
-{
-    match reserved_in(word) {
-        Some(Reserved::In) => true,
-        _ => false,
-    }
-}
-
-fn is_do(word: &FoundWord) -> bool
-    ensures { result ≡ says.is_do (words.reserved_in (tokens.word word.now)) }
-{
-    match reserved_in(word) {
-        Some(Reserved::Do) => true,
+    match (part, word) {
+        (Part::Condition, Reserved::Then) => true,
+        (Part::Arm(further), Reserved::Elif) => further,
+        (Part::Test, Reserved::Do) => true,
+        (Part::Each, Reserved::Done) => true,
         _ => false,
     }
 }

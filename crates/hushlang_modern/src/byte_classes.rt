@@ -4,11 +4,7 @@ ghost use Rattle.std.specs.List.{list_all};
 ghost use Rattle.hushlang.specs.ByteClasses as classes;
 ghost use Rattle.hushlang_modern.specs.ModernTokens as says;
 
-fn is_between(low: u8, high: u8, byte: u8) -> bool
-    ensures { result ≡ classes.is_between low high byte }
-{
-    low <= byte && byte <= high
-}
+use hushlang_old::is_between;
 
 /// Whether a byte is one that is not followed.
 pub(crate) fn is_foreign(byte: u8) -> bool

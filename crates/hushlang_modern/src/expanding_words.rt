@@ -8,9 +8,10 @@ ghost use Rattle.hushlang_modern.specs.ModernTokens.{guarded};
 ghost use Rattle.hushlang_modern.specs.ModernWords as words;
 
 use crate::byte_classes::is_guarded;
-use crate::found_words::{are_constant, bytes_of, have_lasting};
+use crate::found_words::{bytes_of, have_lasting};
 use crate::word_bytes::without_guards;
 use hushlang::{Piece, Vars, Word};
+use hushlang_old::are_constant_pieces;
 use itoa::Buffer;
 use std::alloc::{AllocError, Global};
 use std::mem;
@@ -242,7 +243,7 @@ fn word_fields<V: Vars>(alloc: Global, word: &Word, vars: &V) -> Result<Vec<Vec<
     ensures { IfOk result (λ found. map (λ field. field.items) found.items
         ≡ says.modern_fields_of_word (V.parameters vars.now) (view.word word.now)) }
 {
-    if !are_constant(&word.pieces) {
+    if !are_constant_pieces(&word.pieces) {
         return expanded(alloc, word, vars);
     }
     constant_field(alloc, word)

@@ -1,54 +1,23 @@
 //! What a word says: a reserved word, a name, an assignment, or a word of a command.
-ghost use Rattle.std.specs.Prelude.{◌≡◌, ◌++◌, ◌≤◌, map, drop, length, IfOk, OnOk};
-ghost use Rattle.std.specs.List.{list_all, list_any, prefix_len};
+ghost use Rattle.std.specs.Prelude.{◌≡◌, ◌++◌, ◌≤◌, map, length, IfOk, OnOk};
+ghost use Rattle.std.specs.List.{list_any, prefix_len};
 ghost use Rattle.text.specs.TextsShown.{option_bytes};
 ghost use Rattle.hushlang.specs.ByteClasses as classes;
-ghost use Rattle.hushlang.specs.KnownFields as known;
 ghost use Rattle.hushlang.specs.TreesShown as view;
 ghost use Rattle.hushlang.specs.WordPieces.{in_piece};
-ghost use Rattle.hushlang_old.specs.OldFields as old;
-ghost use Rattle.hushlang_old.specs.OldTrees as old_trees;
 ghost use Rattle.hushlang_modern.specs.ModernTokensShown as shown;
 ghost use Rattle.hushlang_modern.specs.ModernWords as says;
 ghost use Rattle.hushlang_modern.specs.ModernWordsShown.{IsCutAtEquals};
 
 use crate::byte_classes::{is_name, is_name_byte};
 use crate::modern_tokens::FoundWord;
-use crate::reserved::{Reserved, reserved_bytes};
-use crate::word_bytes::{unescaped, without_guards};
+use crate::word_bytes::without_guards;
 use hushlang::{Piece, Word};
+use hushlang_old::{
+    Reserved, are_constant_pieces, have_quotes, only_bytes, reserved_bytes, unescaped,
+    without_first,
+};
 use std::alloc::{AllocError, Global};
-
-fn is_constant(piece: &Piece) -> bool
-    ensures { result ≡ known.is_constant (view.piece piece.now) }
-{
-    match piece {
-        Piece::Bytes(_) | Piece::Mark => true,
-        Piece::Var { name: _, split: _ } | Piece::Status => false,
-    }
-}
-
-/// Whether no variable and no status can change pieces.
-pub(crate) fn are_constant(pieces: &[Piece]) -> bool
-    ensures { result ≡ list_all (λ piece. known.is_constant (view.piece piece)) pieces.now }
-{
-    pieces.iter().all(|piece| is_constant(piece))
-}
-
-fn is_mark(piece: &Piece) -> bool
-    ensures { result ≡ old.is_mark (view.piece piece.now) }
-{
-    match piece {
-        Piece::Mark => true,
-        Piece::Bytes(_) | Piece::Var { name: _, split: _ } | Piece::Status => false,
-    }
-}
-
-fn have_mark(pieces: &[Piece]) -> bool
-    ensures { result ≡ list_any (λ piece. old.is_mark (view.piece piece)) pieces.now }
-{
-    pieces.iter().any(|piece| is_mark(piece))
-}
 
 fn is_lasting(piece: &Piece) -> bool
     ensures { result ≡ says.is_lasting (view.piece piece.now) }
@@ -75,17 +44,6 @@ pub(crate) fn is_sure(word: &FoundWord) -> bool
     have_lasting(&word.pieces)
 }
 
-/// The bytes of pieces that nothing can change.
-fn only_bytes(pieces: &[Piece]) -> Option<&[u8]>
-    ensures { option_bytes result ≡ old_trees.only_bytes (map view.piece pieces.now) }
-{
-    match pieces {
-        [] => Some(&[]),
-        [Piece::Bytes(bytes)] => Some(bytes),
-        _ => None,
-    }
-}
-
 /// The bytes of a word that has no quotes, no backslash and no variable.
 fn bare_bytes(word: &FoundWord) -> Option<&[u8]>
     ensures { option_bytes result ≡ says.bare_bytes (shown.word word.now) }
@@ -110,8 +68,8 @@ pub(crate) fn reserved_in(word: &FoundWord) -> Option<Reserved>
 pub(crate) fn is_sign(word: &FoundWord) -> bool
     ensures { result ≡ says.is_sign (shown.word word.now) }
 {
-    match reserved_in(word) {
-        Some(Reserved::Sign) => true,
+    match bare_bytes(word) {
+        Some([byte]) => *byte == b'!' || *byte == b'{' || *byte == b'}',
         _ => false,
     }
 }
@@ -181,17 +139,6 @@ fn unescaped_pieces(alloc: Global, pieces: Vec<Piece>) -> Result<Vec<Piece>, All
     Ok(made)
 }
 
-/// The pieces behind the first one.
-fn without_first(pieces: Vec<Piece>) -> Vec<Piece>
-    ensures { map view.piece result.items ≡ drop 1 (map view.piece pieces.items) }
-{
-    let mut pieces = pieces;
-    if !pieces.is_empty() {
-        pieces.remove(0);
-    }
-    pieces
-}
-
 /// Whether a word is an assignment where one may stand.
 pub(crate) fn is_assignment(word: &FoundWord) -> bool
     ensures { result ≡ says.is_assignment (shown.word word.now) }
@@ -222,7 +169,7 @@ fn mark_of(alloc: Global, pieces: &[Piece]) -> Result<Vec<Piece>, AllocError>
     ensures { IfOk result (λ made. map view.piece made.items ≡ says.mark_of (map view.piece pieces.now)) }
 {
     let mut made = Vec::new(alloc);
-    if have_mark(pieces) {
+    if have_quotes(pieces) {
         made.push(Piece::Mark)?;
     }
     Ok(made)
@@ -254,7 +201,7 @@ fn settled(alloc: Global, pieces: &[Piece]) -> Result<Vec<Piece>, AllocError>
 fn word_of(alloc: Global, word: FoundWord) -> Result<Word, AllocError>
     ensures { IfOk result (λ made. view.word made ≡ says.word_of (shown.word word)) }
 {
-    if !are_constant(&word.pieces) {
+    if !are_constant_pieces(&word.pieces) {
         return Ok(Word {
             pieces: word.pieces,
         });

@@ -8,8 +8,6 @@ mod found_words;
 mod modern_text;
 mod modern_tokens;
 mod modern_trees;
-mod open_commands;
-mod reserved;
 mod stop;
 mod word_bytes;
 

@@ -1,7 +1,6 @@
 //! The tokens of a text, byte by byte (`parse_stream`).
 ghost use Rattle.std.specs.Prelude.{◌≡◌, IfOk, OnOk};
 ghost use Rattle.hushlang.specs.TreesShown as view;
-ghost use Rattle.hushlang_old.specs.OldTokens as old;
 ghost use Rattle.hushlang_modern.specs.ModernTokens as says;
 ghost use Rattle.hushlang_modern.specs.ModernTokensShown as shown;
 
@@ -11,6 +10,7 @@ use crate::byte_classes::{
 };
 use crate::stop::Stop;
 use hushlang::{Op, Piece};
+use hushlang_old::sign_of;
 use std::alloc::{AllocError, Global};
 use std::mem;
 
@@ -87,15 +87,6 @@ pub(crate) struct FoundTokens {
     pub(crate) tokens: Vec<Token>,
     pub(crate) stop: Option<Stop>,
     pub(crate) quoted: bool,
-}
-
-fn sign_of(op: Op) -> u8
-    ensures { result ≡ old.sign_of op }
-{
-    match op {
-        Op::And => b'&',
-        Op::Or => b'|',
-    }
 }
 
 impl TextReading {
@@ -583,6 +574,17 @@ impl TextReading {
         }
     }
 
+    /// Reads bytes.
+    fn read_all(&mut self, text: &[u8]) -> Result<(), AllocError>
+        ensures { OnOk result
+            (shown.reading self.new ≡ says.read_all text.now (shown.reading self.old)) }
+    {
+        for byte in text {
+            self.read(*byte)?;
+        }
+        Ok(())
+    }
+
     /// How the reading stops if the text ends here.
     fn stop(&self) -> Option<Stop>
         ensures { result ≡ says.stop_at (shown.place self.now.place self.now.name.items) self.now.double }
@@ -615,21 +617,30 @@ impl TextReading {
         self.end_word()
     }
 
-    /// The tokens that are whole, and how the reading stops behind them.
-    fn into_tokens(self) -> Result<FoundTokens, AllocError>
-        ensures { IfOk result (λ found. shown.found found ≡ says.tokens_in (shown.reading self)) }
+    /// Takes the tokens that are whole, and how the reading stops behind them.
+    fn take_tokens(&mut self) -> Result<FoundTokens, AllocError>
+        ensures { IfOk result (λ found. shown.found found ≡ says.tokens_in (shown.reading self.old)) }
     {
-        let mut reading = self;
-        let stop = reading.stop();
-        let quoted = stop.is_some() && reading.quoted;
+        let stop = self.stop();
+        let quoted = stop.is_some() && self.quoted;
         if stop.is_none() {
-            reading.end_text()?;
+            self.end_text()?;
         }
+        let tokens = mem::replace(&mut self.tokens, Vec::new(self.alloc));
         Ok(FoundTokens {
-            tokens: reading.tokens,
+            tokens,
             stop,
             quoted,
         })
+    }
+
+    /// Reads a text to its end.
+    fn read_text(&mut self, text: &[u8]) -> Result<FoundTokens, AllocError>
+        ensures { IfOk result (λ found. shown.found found
+            ≡ says.tokens_in (says.read_all text.now (shown.reading self.old))) }
+    {
+        self.read_all(text)?;
+        self.take_tokens()
     }
 }
 
@@ -639,8 +650,5 @@ pub(crate) fn modern_tokens(alloc: Global, text: &[u8]) -> Result<FoundTokens, A
     ensures { IfOk result (λ found. shown.found found ≡ says.modern_tokens text.now) }
 {
     let mut reading = TextReading::new(alloc);
-    for byte in text {
-        reading.read(*byte)?;
-    }
-    reading.into_tokens()
+    reading.read_text(text)
 }

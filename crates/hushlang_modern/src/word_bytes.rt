@@ -1,25 +1,10 @@
 //! The bytes of words, as U-Boot's modern shell keeps them.
 ghost use Rattle.std.specs.Prelude.{◌≡◌, false, IfOk};
-ghost use Rattle.hushlang_old.specs.OldFields as old;
 ghost use Rattle.hushlang_modern.specs.ModernWords as says;
 
 use crate::byte_classes::is_wild;
+use hushlang_old::unescaped;
 use std::alloc::{AllocError, Global};
-
-/// Bytes without the backslash before each byte (`unbackslash`). Errors: memory ran out.
-pub(crate) fn unescaped(alloc: Global, word: &[u8]) -> Result<Vec<u8>, AllocError>
-    ensures { IfOk result (λ bytes. bytes.items ≡ old.unescaped false word.now) }
-{
-    let mut bytes = Vec::new(alloc);
-    let mut behind = false;
-    for byte in word {
-        behind = *byte == b'\\' && !behind;
-        if !behind {
-            bytes.push(*byte)?;
-        }
-    }
-    Ok(bytes)
-}
 
 /// Whether a byte acts in a pattern.
 fn acts(behind: bool, byte: u8) -> bool

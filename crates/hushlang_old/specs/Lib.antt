@@ -1,3 +1,5 @@
+pub mod Nests
+pub mod NestsShown
 pub mod OldFields
 pub mod OldFieldsShown
 pub mod OldTokens

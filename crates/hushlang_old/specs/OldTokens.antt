@@ -209,5 +209,8 @@ abbrev pub tokens_in : Reading → Option (List Token)
 tokens_in r = tokens_read r.place r.double (r.tokens ++ found r ++ Ends ∷ [])
 
 -- a newline is added at the end of a text (`parse_string_outer`)
+abbrev pub tokens_behind : (text : List ℕ) → Reading → Option (List Token)
+tokens_behind text r = tokens_in (read ascii.newline (read_all text r))
+
 unfoldable pub old_tokens : (text : List ℕ) → Option (List Token)
-old_tokens text = tokens_in (read ascii.newline (read_all text nothing_read))
+old_tokens text = tokens_behind text nothing_read

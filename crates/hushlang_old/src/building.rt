@@ -1,8 +1,7 @@
 //! The tree of a text on the way, token by token.
-ghost use Rattle.std.specs.Prelude.{◌≡◌, ◌++◌, ◌∷◌, [], map, option_map, IfOk, OnOk};
+ghost use Rattle.std.specs.Prelude.{◌≡◌, map, option_map, IfOk, OnOk};
 ghost use Rattle.std.specs.List.{list_all};
 ghost use Rattle.hushlang.specs.TreesShown as view;
-ghost use Rattle.hushlang.specs.Grammar.{max_nesting};
 ghost use Rattle.hushlang_old.specs.OldTokensShown as tokens;
 ghost use Rattle.hushlang_old.specs.OldTrees as says;
 ghost use Rattle.hushlang_old.specs.OldTreesShown as shown;
@@ -10,44 +9,28 @@ ghost use Rattle.hushlang_old.specs.OldTreesShown as shown;
 use crate::found_words::{
     changes_shell, is_assignment, is_constant_word, name_in, reserved_in, values_of, words_of,
 };
+use crate::nest::{Gone, Nest};
 use crate::old_tokens::{FoundWord, Token};
-use crate::open_commands::{Arms, Block, Compound, Opens, body_of};
+use crate::part::{Part, is_header};
 use crate::plain_exit::simple_call;
-use crate::reserved::Reserved;
-use hushlang::{AndOr, Command, Op, Script};
+use crate::reserved::{Reserved, begins, is_do, is_in};
+use hushlang::{Command, Op, Script};
 use std::alloc::{AllocError, Global};
 use std::mem;
-use std::rc::Rc;
 
-/// How deep compound commands may be nested.
-const MAX_NESTING: usize = 64;
-
-/// Whether the text is read for 2025.01; the block on the way; the compound commands that are open;
-/// the words on the way, whether all of them are assignments, and whether assignments are in front of
-/// them; and whether a compound command has just ended.
+/// Whether the text is read for 2025.01; the block on the way and the compound commands that are open;
+/// whether that block has had a separator; the words on the way, whether all of them are assignments,
+/// and whether assignments are in front of them; and whether a compound command has just ended.
 #[derive(Drop)]
 pub(crate) struct Building {
     alloc: Global,
     newer: bool,
-    block: Block,
-    opens: Opens,
+    nest: Nest,
+    separated: bool,
     words: Vec<FoundWord>,
     assigning: bool,
     behind: bool,
     closed: bool,
-}
-
-/// The compound command that a word begins.
-fn begun_by(alloc: Global, word: Reserved) -> Option<Compound>
-    ensures { option_map shown.compound result ≡ says.begun_by word }
-{
-    match word {
-        Reserved::If => Some(Compound::Condition(Vec::new(alloc))),
-        Reserved::While => Some(Compound::Test(false)),
-        Reserved::Until => Some(Compound::Test(true)),
-        Reserved::For => Some(Compound::Name),
-        _ => None,
-    }
 }
 
 impl Building {
@@ -58,8 +41,8 @@ impl Building {
         Building {
             alloc,
             newer,
-            block: Block::new(alloc),
-            opens: Opens::new(alloc),
+            nest: Nest::new(alloc),
+            separated: false,
             words: Vec::new(alloc),
             assigning: false,
             behind: false,
@@ -97,142 +80,36 @@ impl Building {
         }
         let command = self.take_command()?;
         self.behind = false;
-        self.block.push(command)
+        self.nest.push(command)
     }
 
     /// A compound command begins.
-    fn begin(&mut self, compound: Compound) -> Result<bool, AllocError>
-        ensures { IfOk result (λ followed. says.opened (shown.compound compound) (shown.building self.old)
+    fn begin(&mut self, word: Reserved) -> Result<bool, AllocError>
+        ensures { IfOk result (λ followed. says.opened word (shown.building self.old)
             ≡ shown.when followed (shown.building self.new)) }
     {
-        if self.opens.len() >= MAX_NESTING {
+        if self.nest.is_full() {
             return Ok(false);
         }
-        let outer = mem::replace(&mut self.block, Block::new(self.alloc));
-        self.opens.push(compound, outer)?;
+        self.nest.begin(word)?;
+        self.separated = false;
         Ok(true)
     }
 
-    /// The innermost compound command, which was taken, goes on with its next block.
-    fn enter(&mut self, compound: Compound, outer: Block) -> Result<bool, AllocError>
-        ensures { IfOk result (λ followed. says.entered (shown.compound compound) (shown.block outer)
-            (shown.opens self.old.opens) (shown.building self.old)
-            ≡ shown.when followed (shown.building self.new)) }
-    {
-        self.block = Block::new(self.alloc);
-        self.opens.push(compound, outer)?;
-        Ok(true)
-    }
-
-    /// The innermost compound command, which was taken, ends.
-    fn close(&mut self, command: Command, outer: Block) -> Result<bool, AllocError>
-        ensures { IfOk result (λ followed. says.ended (view.command command) (shown.block outer)
-            (shown.opens self.old.opens) (shown.building self.old)
-            ≡ shown.when followed (shown.building self.new)) }
-    {
-        self.block = outer;
-        self.block.push(command)?;
-        self.closed = true;
-        Ok(true)
-    }
-
-    /// The block behind a condition begins, if the condition holds a command.
-    #[tactic(auto, using(hushlang::proofs::ViewLemmas::what_it_says, crate::proofs::BuildingLemmas::blocks))]
-    fn enter_arm(&mut self, arms: Arms, lists: Vec<AndOr>, outer: Block) -> Result<bool, AllocError>
-        ensures { IfOk result (λ followed. says.entered_by (map view.list lists.items)
-            (says.Arm (map view.arm arms.items)) (shown.block outer)
-            (shown.opens self.old.opens) (shown.building self.old)
-            ≡ shown.when followed (shown.building self.new)) }
-    {
-        if lists.is_empty() {
-            return Ok(false);
-        }
-        let condition = Rc::new(self.alloc, Script { lists })?;
-        self.enter(Compound::Arm(arms, condition), outer)
-    }
-
-    /// The body of a loop begins, if the condition holds a command.
-    #[tactic(auto, using(hushlang::proofs::ViewLemmas::what_it_says, crate::proofs::BuildingLemmas::blocks))]
-    fn enter_body(
-        &mut self,
-        until: bool,
-        lists: Vec<AndOr>,
-        outer: Block,
-    ) -> Result<bool, AllocError>
-        ensures { IfOk result (λ followed. says.entered_by (map view.list lists.items)
-            (says.Body until) (shown.block outer)
-            (shown.opens self.old.opens) (shown.building self.old)
-            ≡ shown.when followed (shown.building self.new)) }
-    {
-        if lists.is_empty() {
-            return Ok(false);
-        }
-        let condition = Rc::new(self.alloc, Script { lists })?;
-        self.enter(Compound::Body(until, condition), outer)
-    }
-
-    /// A reserved word goes on with the innermost compound command, which was taken, or ends it. The
-    /// block that it ends has these lists.
-    #[tactic(auto, using(hushlang::proofs::ViewLemmas::what_it_says, crate::proofs::BuildingLemmas::blocks))]
-    fn next_part(
-        &mut self,
-        compound: Compound,
-        word: Reserved,
-        lists: Vec<AndOr>,
-        separated: bool,
-        outer: Block,
-    ) -> Result<bool, AllocError>
-        ensures { IfOk result (λ followed. says.next_part (shown.compound compound) word
-            (map view.list lists.items) separated (shown.block outer)
-            (shown.opens self.old.opens) (shown.building self.old)
-            ≡ shown.when followed (shown.building self.new)) }
-    {
-        match (compound, word) {
-            (Compound::Condition(arms), Reserved::Then) => self.enter_arm(arms, lists, outer),
-            (Compound::Arm(arms, condition), Reserved::Elif) => {
-                if !separated && lists.is_empty() {
-                    return Ok(false);
-                }
-                let arms = with_arm(self.alloc, arms, condition, lists)?;
-                self.enter(Compound::Condition(arms), outer)
-            }
-            (Compound::Arm(arms, condition), Reserved::Else) => {
-                let arms = with_arm(self.alloc, arms, condition, lists)?;
-                self.enter(Compound::Else(arms), outer)
-            }
-            (Compound::Arm(arms, condition), Reserved::Fi) => {
-                let arms = with_arm(self.alloc, arms, condition, lists)?;
-                self.close(Command::If { arms, other: None }, outer)
-            }
-            (Compound::Else(arms), Reserved::Fi) => {
-                let other = Some(body_of(self.alloc, lists)?);
-                self.close(Command::If { arms, other }, outer)
-            }
-            (Compound::Test(until), Reserved::Do) => self.enter_body(until, lists, outer),
-            (Compound::Body(until, cond), Reserved::Done) => {
-                let body = body_of(self.alloc, lists)?;
-                self.close(Command::Loop { until, cond, body }, outer)
-            }
-            (Compound::Each(name, words), Reserved::Done) => {
-                let body = body_of(self.alloc, lists)?;
-                self.close(Command::For { name, words, body }, outer)
-            }
-            _ => Ok(false),
-        }
-    }
-
-    /// A reserved word that begins no compound command.
+    /// A reserved word goes on with the innermost compound command, or ends it.
     fn go_on(&mut self, word: Reserved) -> Result<bool, AllocError>
-        ensures { IfOk result (λ followed. says.goes_on word (shown.opens self.old.opens)
-            (shown.building self.old) ≡ shown.when followed (shown.building self.new)) }
+        ensures { IfOk result (λ followed. says.goes_on word (shown.building self.old)
+            ≡ shown.when followed (shown.building self.new)) }
     {
-        let Some((compound, outer)) = self.opens.pop() else {
+        if needs_command(self.nest.part(), word, self.separated) && self.nest.lacks_command() {
             return Ok(false);
-        };
-        self.block.end_list()?;
-        let separated = self.block.separated;
-        let lists = mem::replace(&mut self.block.lists, Vec::new(self.alloc));
-        self.next_part(compound, word, lists, separated, outer)
+        }
+        match self.nest.go_on(word)? {
+            Gone::Entered => self.separated = false,
+            Gone::Closed => self.closed = true,
+            Gone::Astray => return Ok(false),
+        }
+        Ok(true)
     }
 
     /// A reserved word at the beginning of a command.
@@ -240,10 +117,10 @@ impl Building {
         ensures { IfOk result (λ followed. says.reserved_read word (shown.building self.old)
             ≡ shown.when followed (shown.building self.new)) }
     {
-        match begun_by(self.alloc, word) {
-            Some(compound) => self.begin(compound),
-            None => self.go_on(word),
+        if begins(word) {
+            return self.begin(word);
         }
+        self.go_on(word)
     }
 
     /// The first word of a command, which is not reserved.
@@ -328,50 +205,32 @@ impl Building {
         Ok(true)
     }
 
-    /// The word behind `for`, which was taken: its name.
-    fn read_name(&mut self, word: FoundWord, outer: Block) -> Result<bool, AllocError>
+    /// The word behind `for`: its name.
+    fn read_name(&mut self, word: FoundWord) -> Result<bool, AllocError>
         ensures { IfOk result (λ followed. says.named (says.name_in (tokens.word word))
-            (shown.block outer) (shown.opens self.old.opens) (shown.building self.old)
-            ≡ shown.when followed (shown.building self.new)) }
+            (shown.building self.old) ≡ shown.when followed (shown.building self.new)) }
     {
         let Some(name) = name_in(&word) else {
             return Ok(false);
         };
-        let name = name.to_vec(self.alloc)?;
-        self.enter(Compound::In(name), outer)
+        self.nest.set_name(name.to_vec(self.alloc)?)?;
+        Ok(true)
     }
 
     /// A word.
     fn read_word(&mut self, word: FoundWord) -> Result<bool, AllocError>
-        ensures { IfOk result (λ followed. says.word_in (shown.opens self.old.opens)
+        ensures { IfOk result (λ followed. says.word_at (says.part_in (shown.building self.old))
             (tokens.word word) (shown.building self.old)
             ≡ shown.when followed (shown.building self.new)) }
     {
-        let Some((compound, outer)) = self.opens.pop() else {
-            return self.read_command_word(word);
-        };
-        match compound {
-            Compound::Name => self.read_name(word, outer),
-            Compound::In(name) => {
-                if !is_in(&word) {
-                    return Ok(false);
-                }
-                self.enter(Compound::Words(name), outer)
-            }
-            Compound::Words(name) => {
-                self.opens.push(Compound::Words(name), outer)?;
-                self.read_word_of_for(word)
-            }
-            Compound::Do(name, words) => {
-                if !is_do(&word) {
-                    return Ok(false);
-                }
-                self.enter(Compound::Each(name, words), outer)
-            }
-            compound => {
-                self.opens.push(compound, outer)?;
-                self.read_command_word(word)
-            }
+        match self.nest.part() {
+            Part::Name => self.read_name(word),
+            Part::In if is_in(reserved_in(&word)) => self.go_on(Reserved::In),
+            Part::In => Ok(false),
+            Part::Words => self.read_word_of_for(word),
+            Part::Do if is_do(reserved_in(&word)) => self.go_on(Reserved::Do),
+            Part::Do => Ok(false),
+            _ => self.read_command_word(word),
         }
     }
 
@@ -381,7 +240,7 @@ impl Building {
             ≡ says.joined_by op (shown.building self.old)) }
     {
         self.end_command()?;
-        self.block.op = op;
+        self.nest.set_operator(op);
         Ok(())
     }
 
@@ -393,7 +252,7 @@ impl Building {
         if !self.closed && self.words.is_empty() {
             return Ok(false);
         }
-        if self.opens.in_header() {
+        if is_header(self.nest.part()) {
             return Ok(false);
         }
         self.join_by(op)?;
@@ -406,46 +265,31 @@ impl Building {
             ≡ says.list_separated (shown.building self.old)) }
     {
         self.end_command()?;
-        self.block.end_list()?;
-        self.block.separated = true;
+        self.nest.end_list()?;
+        self.separated = true;
         Ok(())
     }
 
-    /// The words of a `for`, which was taken, are whole.
-    fn end_words(&mut self, name: Vec<u8>, outer: Block) -> Result<bool, AllocError>
-        ensures { IfOk result (λ followed. says.end_at (says.Words name.items)
-            (shown.block outer) (shown.opens self.old.opens) (shown.building self.old)
-            ≡ shown.when followed (shown.building self.new)) }
+    /// The words of a `for` are whole.
+    fn end_words(&mut self) -> Result<(), AllocError>
+        ensures { OnOk result (shown.building self.new ≡ says.for_worded (shown.building self.old)) }
     {
         let found = mem::replace(&mut self.words, Vec::new(self.alloc));
-        let words = words_of(self.alloc, found)?;
-        self.opens.push(Compound::Do(name, words), outer)?;
-        Ok(true)
+        self.nest.set_words(words_of(self.alloc, found)?)
     }
 
     /// `;` or a newline.
     fn end(&mut self) -> Result<bool, AllocError>
-        ensures { IfOk result (λ followed. says.end_in (shown.opens self.old.opens)
+        ensures { IfOk result (λ followed. says.end_at (says.part_in (shown.building self.old))
             (shown.building self.old) ≡ shown.when followed (shown.building self.new)) }
     {
-        let Some((compound, outer)) = self.opens.pop() else {
-            self.separate()?;
-            return Ok(true);
-        };
-        match compound {
-            Compound::Name => Ok(false),
-            Compound::In(_) => Ok(false),
-            Compound::Words(name) => self.end_words(name, outer),
-            Compound::Do(name, words) => {
-                self.opens.push(Compound::Do(name, words), outer)?;
-                Ok(true)
-            }
-            compound => {
-                self.opens.push(compound, outer)?;
-                self.separate()?;
-                Ok(true)
-            }
+        match self.nest.part() {
+            Part::Name | Part::In => return Ok(false),
+            Part::Words => self.end_words()?,
+            Part::Do => (),
+            _ => self.separate()?,
         }
+        Ok(true)
     }
 
     /// Reads a token. The answer is whether it is followed.
@@ -465,58 +309,34 @@ impl Building {
     pub(crate) fn is_open(&self) -> bool
         ensures { result ≡ says.is_open (shown.building self.now) }
     {
-        self.opens.len() > 0
+        self.nest.is_open()
     }
 
-    /// The tree, if no compound command is open.
-    #[tactic(auto, using(hushlang::proofs::ViewLemmas::what_it_says))]
-    pub(crate) fn into_tree(self) -> Option<Script>
-        ensures { option_map view.script result ≡ says.tree_in (shown.building self) }
+    /// Takes the tree, if no compound command is open.
+    pub(crate) fn take_tree(&mut self) -> Option<Script>
+        ensures { option_map view.script result ≡ says.tree_in (shown.building self.old) }
     {
-        if self.opens.len() > 0 {
+        if self.is_open() {
             return None;
         }
-        let block = self.block;
-        Some(Script { lists: block.lists })
+        Some(self.nest.take_script())
     }
 }
 
-/// The arms of an `if` with a further one, whose block has these lists.
-fn with_arm(
-    alloc: Global,
-    arms: Arms,
-    condition: Rc<Script>,
-    lists: Vec<AndOr>,
-) -> Result<Arms, AllocError>
-    ensures { IfOk result (λ more. map view.arm more.items ≡ map view.arm arms.items
-        ++ (view.script condition.value, says.body_of (map view.list lists.items)) ∷ []) }
+/// Whether a block that this word ends, in this part, has to hold a command.
+fn needs_command(part: Part, word: Reserved, separated: bool) -> bool
+    ensures { result ≡ says.needs_command part word separated }
 {
-    let mut arms = arms;
-    let body = body_of(alloc, lists)?;
-    arms.push((condition, body))?;
-    Ok(arms)
+    match (part, word) {
+        (Part::Condition, Reserved::Then) => true,
+        (Part::Arm(_), Reserved::Elif) => !separated,
+        (Part::Test, Reserved::Do) => true,
+        _ => false,
+    }
 }
 
 fn are_constant(words: &[FoundWord]) -> bool
     ensures { result ≡ list_all (λ word. says.is_constant_word (tokens.word word)) words.now }
 {
     words.iter().all(|word| is_constant_word(word))
-}
-
-fn is_in(word: &FoundWord) -> bool
-    ensures { result ≡ says.is_in (says.reserved_in (tokens.word word.now)) }
-{
-    match reserved_in(word) {
-        Some(Reserved::In) => true,
-        _ => false,
-    }
-}
-
-fn is_do(word: &FoundWord) -> bool
-    ensures { result ≡ says.is_do (says.reserved_in (tokens.word word.now)) }
-{
-    match reserved_in(word) {
-        Some(Reserved::Do) => true,
-        _ => false,
-    }
 }

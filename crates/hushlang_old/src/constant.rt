@@ -21,7 +21,8 @@ fn is_constant(piece: &Piece) -> bool
     }
 }
 
-pub(crate) fn are_constant_pieces(pieces: &[Piece]) -> bool
+/// Whether no variable and no status can change pieces.
+pub fn are_constant_pieces(pieces: &[Piece]) -> bool
     ensures { result ≡ list_all (λ piece. known.is_constant (view.piece piece)) pieces.now }
 {
     pieces.iter().all(|piece| is_constant(piece))

@@ -22,8 +22,8 @@ pub(crate) fn is_constant_word(word: &FoundWord) -> bool
     are_constant_pieces(&word.pieces)
 }
 
-/// The bytes of pieces that nothing can change.
-fn only_bytes(pieces: &[Piece]) -> Option<&[u8]>
+/// The bytes of pieces that nothing can change, if they are at most one piece.
+pub fn only_bytes(pieces: &[Piece]) -> Option<&[u8]>
     ensures { option_bytes result ≡ says.only_bytes (map view.piece pieces.now) }
 {
     match pieces {
@@ -131,7 +131,7 @@ pub(crate) fn changes_shell(word: &FoundWord) -> bool
 }
 
 /// The pieces behind the first one.
-fn without_first(pieces: Vec<Piece>) -> Vec<Piece>
+pub fn without_first(pieces: Vec<Piece>) -> Vec<Piece>
     ensures { map view.piece result.items ≡ drop 1 (map view.piece pieces.items) }
 {
     let mut pieces = pieces;

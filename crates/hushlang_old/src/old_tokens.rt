@@ -67,7 +67,8 @@ struct TextReading {
     name: Vec<u8>,
 }
 
-fn is_between(low: u8, high: u8, byte: u8) -> bool
+/// Whether a byte is one of these two, or between them.
+pub fn is_between(low: u8, high: u8, byte: u8) -> bool
     ensures { result ≡ classes.is_between low high byte }
 {
     low <= byte && byte <= high
@@ -108,7 +109,8 @@ fn is_brace_byte(byte: u8) -> bool
     is_between(b'!', b'~', byte) && !is_brace_exception(byte)
 }
 
-fn sign_of(op: Op) -> u8
+/// The byte that an operator has twice.
+pub fn sign_of(op: Op) -> u8
     ensures { result ≡ says.sign_of op }
 {
     match op {
@@ -407,20 +409,40 @@ impl TextReading {
         }
     }
 
-    /// The tokens, if the text ends where a byte may act and outside double quotes.
-    fn into_tokens(self) -> Result<Option<Vec<Token>>, AllocError>
-        ensures { IfOk result (λ tokens. option_map shown.tokens tokens
-            ≡ says.tokens_in (shown.reading self)) }
+    /// Reads bytes.
+    fn read_all(&mut self, text: &[u8]) -> Result<(), AllocError>
+        ensures { OnOk result
+            (shown.reading self.new ≡ says.read_all text.now (shown.reading self.old)) }
     {
-        let mut reading = self;
-        if reading.double {
+        for byte in text {
+            self.read(*byte)?;
+        }
+        Ok(())
+    }
+
+    /// Takes the tokens, if the text ends where a byte may act and outside double quotes.
+    fn take_tokens(&mut self) -> Result<Option<Vec<Token>>, AllocError>
+        ensures { IfOk result (λ tokens. option_map shown.tokens tokens
+            ≡ says.tokens_in (shown.reading self.old)) }
+    {
+        if self.double {
             return Ok(None);
         }
-        let Place::Open = reading.place else {
+        let Place::Open = self.place else {
             return Ok(None);
         };
-        reading.push_token(Token::Ends)?;
-        Ok(Some(reading.tokens))
+        self.push_token(Token::Ends)?;
+        Ok(Some(mem::replace(&mut self.tokens, Vec::new(self.alloc))))
+    }
+
+    /// Reads a text to its end, and a newline behind it.
+    fn read_text(&mut self, text: &[u8]) -> Result<Option<Vec<Token>>, AllocError>
+        ensures { IfOk result (λ tokens. option_map shown.tokens tokens
+            ≡ says.tokens_behind text.now (shown.reading self.old)) }
+    {
+        self.read_all(text)?;
+        self.read(b'\n')?;
+        self.take_tokens()
     }
 }
 
@@ -430,9 +452,5 @@ pub(crate) fn old_tokens(alloc: Global, text: &[u8]) -> Result<Option<Vec<Token>
     ensures { IfOk result (λ tokens. option_map shown.tokens tokens ≡ says.old_tokens text.now) }
 {
     let mut reading = TextReading::new(alloc);
-    for byte in text {
-        reading.read(*byte)?;
-    }
-    reading.read(b'\n')?;
-    reading.into_tokens()
+    reading.read_text(text)
 }

@@ -1,5 +1,5 @@
 //! The tree of a text as U-Boot's old shell reads it.
-ghost use Rattle.std.specs.Prelude.{◌≡◌, map, option_map, IfOk};
+ghost use Rattle.std.specs.Prelude.{◌≡◌, option_map, IfOk};
 ghost use Rattle.hushlang.specs.TreesShown as view;
 ghost use Rattle.hushlang_old.specs.OldTokensShown as tokens;
 ghost use Rattle.hushlang_old.specs.OldTrees as says;
@@ -10,22 +10,41 @@ use crate::old_tokens::{Token, old_tokens};
 use hushlang::Script;
 use std::alloc::{AllocError, Global};
 
-/// What is built of tokens, if all of them are followed. `newer` says whether for 2025.01.
-fn build(alloc: Global, newer: bool, found: Vec<Token>) -> Result<Option<Building>, AllocError>
-    ensures { IfOk result (λ built. option_map shown.building built
-        ≡ says.read_tokens (tokens.tokens found) (says.nothing_built newer)) }
+/// Reads tokens. The answer is whether all of them are followed.
+fn read_all(building: &mut Building, found: Vec<Token>) -> Result<bool, AllocError>
+    ensures { IfOk result (λ followed. says.read_tokens (tokens.tokens found)
+        (shown.building building.old) ≡ shown.when followed (shown.building building.new)) }
 {
-    let mut building = Building::new(alloc, newer);
     for token in found.into_iter() {
         let followed = building.read_token(token)?;
         if !followed {
-            return Ok(None);
+            return Ok(false);
         }
     }
-    Ok(Some(building))
+    Ok(true)
 }
 
-/// The tree of tokens.
+/// The tree behind these tokens.
+fn tree_behind(building: &mut Building, found: Vec<Token>) -> Result<Option<Script>, AllocError>
+    ensures { IfOk result (λ script. option_map view.script script
+        ≡ says.tree_behind (says.read_tokens (tokens.tokens found) (shown.building building.old))) }
+{
+    if !read_all(building, found)? {
+        return Ok(None);
+    }
+    Ok(building.take_tree())
+}
+
+/// Whether a compound command is open behind these tokens.
+fn is_open_behind(building: &mut Building, found: Vec<Token>) -> Result<bool, AllocError>
+    ensures { IfOk result (λ is. is
+        ≡ says.is_open_behind (says.read_tokens (tokens.tokens found) (shown.building building.old))) }
+{
+    let followed = read_all(building, found)?;
+    Ok(followed && building.is_open())
+}
+
+/// The tree of tokens. `newer` says whether for 2025.01.
 fn tree_of_tokens(
     alloc: Global,
     newer: bool,
@@ -34,20 +53,16 @@ fn tree_of_tokens(
     ensures { IfOk result (λ script. option_map view.script script
         ≡ says.tree_of_tokens newer (tokens.tokens found)) }
 {
-    match build(alloc, newer, found)? {
-        Some(building) => Ok(building.into_tree()),
-        None => Ok(None),
-    }
+    let mut building = Building::new(alloc, newer);
+    tree_behind(&mut building, found)
 }
 
 /// Whether tokens end in a compound command that is open.
 fn are_open(alloc: Global, newer: bool, found: Vec<Token>) -> Result<bool, AllocError>
     ensures { IfOk result (λ is. is ≡ says.are_open newer (tokens.tokens found)) }
 {
-    match build(alloc, newer, found)? {
-        Some(building) => Ok(building.is_open()),
-        None => Ok(false),
-    }
+    let mut building = Building::new(alloc, newer);
+    is_open_behind(&mut building, found)
 }
 
 /// Reads the tree of a text as U-Boot's old shell does, that of 2023.01 or a newer one, that of

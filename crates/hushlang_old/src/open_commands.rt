@@ -1,16 +1,18 @@
 //! Blocks on the way, and the compound commands that are open.
 ghost use Rattle.std.specs.Prelude.{◌≡◌, ◌∷◌, [], map, length, IfOk, OnOk};
 ghost use Rattle.hushlang.specs.TreesShown as view;
-ghost use Rattle.hushlang_old.specs.OldTrees as says;
-ghost use Rattle.hushlang_old.specs.OldTreesShown as shown;
+ghost use Rattle.hushlang_old.specs.Nests as says;
+ghost use Rattle.hushlang_old.specs.NestsShown as shown;
 
-use hushlang::{AndOr, Call, Command, Op, Script, Word};
+use crate::calls::call_of;
+use crate::part::Part;
+use hushlang::{AndOr, Command, Op, Script, Word};
 use std::alloc::{AllocError, Global};
 use std::mem;
 use std::rc::Rc;
 
 /// A block on the way: its and-or lists that are whole; of the list on the way its first command,
-/// those that are joined to it, and the operator behind them; and whether it has had a separator.
+/// those that are joined to it, and the operator behind them.
 #[derive(Drop)]
 pub(crate) struct Block {
     alloc: Global,
@@ -18,7 +20,6 @@ pub(crate) struct Block {
     first: Option<Command>,
     rest: Vec<(Op, Command)>,
     pub(crate) op: Op,
-    pub(crate) separated: bool,
 }
 
 /// The arms of an `if` that are whole.
@@ -66,7 +67,6 @@ impl Block {
             first: None,
             rest: Vec::new(alloc),
             op: Op::And,
-            separated: false,
         }
     }
 
@@ -94,6 +94,13 @@ impl Block {
         Ok(())
     }
 
+    /// Whether it holds no command.
+    pub(crate) fn lacks_command(&self) -> bool
+        ensures { result ≡ says.lacks_command (shown.block self.now) }
+    {
+        self.lists.is_empty() && self.first.is_none()
+    }
+
     /// Ends the list on the way.
     pub(crate) fn end_list(&mut self) -> Result<(), AllocError>
         ensures { OnOk result (shown.block self.new ≡ says.list_ended (shown.block self.old)) }
@@ -102,6 +109,16 @@ impl Block {
             Some(first) => self.push_list(first),
             None => Ok(()),
         }
+    }
+
+    /// Ends the block: its script.
+    pub(crate) fn take_body(&mut self) -> Result<Rc<Script>, AllocError>
+        ensures { IfOk result (λ body. view.script body.value
+            ≡ says.body_of (says.list_ended (shown.block self.old)).lists) }
+    {
+        self.end_list()?;
+        let lists = mem::replace(&mut self.lists, Vec::new(self.alloc));
+        body_of(self.alloc, lists)
     }
 }
 
@@ -118,7 +135,7 @@ fn empty_body(alloc: Global) -> Result<Rc<Script>, AllocError>
 }
 
 /// The script of a block.
-#[tactic(auto, using(hushlang::proofs::ViewLemmas::what_it_says, crate::proofs::BuildingLemmas::blocks))]
+#[tactic(auto, using(hushlang::proofs::ViewLemmas::what_it_says, crate::proofs::NestViewLemmas::blocks))]
 pub(crate) fn body_of(alloc: Global, lists: Vec<AndOr>) -> Result<Rc<Script>, AllocError>
     ensures { IfOk result (λ body. view.script body.value
         ≡ says.body_of (map view.list lists.items)) }
@@ -129,19 +146,9 @@ pub(crate) fn body_of(alloc: Global, lists: Vec<AndOr>) -> Result<Rc<Script>, Al
     Ok(Rc::new(alloc, Script { lists })?)
 }
 
-/// A simple command of these words.
-pub(crate) fn call_of(alloc: Global, words: Vec<Word>) -> Result<Call, AllocError>
-    ensures { IfOk result (λ call. view.call call ≡ view.words_in words) }
-{
-    match Call::new(alloc, words) {
-        Ok(call) => Ok(call),
-        Err(_) => Err(AllocError),
-    }
-}
-
 impl Opens {
     /// No compound command is open.
-    #[tactic(auto, unfolding(crate::specs::OldTreesShown::opens))]
+    #[tactic(auto, unfolding(crate::specs::NestsShown::opens))]
     pub(crate) fn new(alloc: Global) -> Opens
         ensures { shown.opens result ≡ shown.none_open }
     {
@@ -151,7 +158,7 @@ impl Opens {
     }
 
     /// How many are open.
-    #[tactic(auto, unfolding(crate::specs::OldTreesShown::opens))]
+    #[tactic(auto, unfolding(crate::specs::NestsShown::opens))]
     pub(crate) fn len(&self) -> usize
         ensures { result ≡ length (shown.opens self.now) }
     {
@@ -159,7 +166,7 @@ impl Opens {
     }
 
     /// A further one begins, in this block.
-    #[tactic(auto, using(crate::proofs::BuildingLemmas::pushed), unfolding(crate::specs::OldTreesShown::opens))]
+    #[tactic(auto, using(crate::proofs::NestViewLemmas::pushed), unfolding(crate::specs::NestsShown::opens))]
     pub(crate) fn push(&mut self, compound: Compound, outer: Block) -> Result<(), AllocError>
         ensures { OnOk result (shown.opens self.new
             ≡ (shown.compound compound, shown.block outer) ∷ shown.opens self.old) }
@@ -169,30 +176,38 @@ impl Opens {
     }
 
     /// Takes the innermost one.
-    #[tactic(auto, using(crate::proofs::BuildingLemmas::pushed), unfolding(crate::specs::OldTreesShown::opens))]
+    #[tactic(auto, using(crate::proofs::NestViewLemmas::pushed), unfolding(crate::specs::NestsShown::opens))]
     pub(crate) fn pop(&mut self) -> Option<(Compound, Block)>
         ensures { shown.IsTaken (shown.opens self.old) result (shown.opens self.new) }
     {
         self.stack.pop()
     }
 
-    /// Whether the innermost one is a `for` in front of its body.
-    #[tactic(auto, unfolding(crate::specs::OldTreesShown::opens))]
-    pub(crate) fn in_header(&self) -> bool
-        ensures { result ≡ says.in_header (shown.opens self.now) }
+    /// The part of the innermost one that the text is in.
+    #[tactic(auto, unfolding(crate::specs::NestsShown::opens))]
+    pub(crate) fn part(&self) -> Part
+        ensures { result ≡ says.part_among (shown.opens self.now) }
     {
         match self.stack.last() {
-            Some((compound, _)) => is_header(compound),
-            None => false,
+            Some((compound, _)) => part_of(compound),
+            None => Part::Outside,
         }
     }
 }
 
-fn is_header(compound: &Compound) -> bool
-    ensures { result ≡ says.is_header (shown.compound compound.now) }
+fn part_of(compound: &Compound) -> Part
+    ensures { result ≡ says.part_of (shown.compound compound.now) }
 {
     match compound {
-        Compound::Name | Compound::In(_) | Compound::Words(_) | Compound::Do(_, _) => true,
-        _ => false,
+        Compound::Condition(_) => Part::Condition,
+        Compound::Arm(arms, _) => Part::Arm(!arms.is_empty()),
+        Compound::Else(_) => Part::Else,
+        Compound::Test(_) => Part::Test,
+        Compound::Body(_, _) => Part::Body,
+        Compound::Name => Part::Name,
+        Compound::In(_) => Part::In,
+        Compound::Words(_) => Part::Words,
+        Compound::Do(_, _) => Part::Do,
+        Compound::Each(_, _) => Part::Each,
     }
 }

@@ -4,7 +4,7 @@ ghost use Rattle.hushlang.specs.KnownFields.{known_fields};
 ghost use Rattle.hushlang.specs.TreesShown as view;
 ghost use Rattle.hushlang_old.specs.OldTrees as says;
 
-use crate::open_commands::call_of;
+use crate::calls::call_of;
 use commands::ends_text;
 use hushlang::{Call, Piece, Word};
 use std::alloc::{AllocError, Global};

@@ -30,8 +30,8 @@ struct Reading {
     place: Place,
 }
 
-/// Bytes without the backslash before each byte.
-fn unescaped(alloc: Global, word: &[u8]) -> Result<Vec<u8>, AllocError>
+/// Bytes without the backslash before each byte (`unbackslash`). Errors: memory ran out.
+pub fn unescaped(alloc: Global, word: &[u8]) -> Result<Vec<u8>, AllocError>
     ensures { IfOk result (λ bytes. bytes.items ≡ says.unescaped false word.now) }
 {
     let mut bytes = Vec::new(alloc);

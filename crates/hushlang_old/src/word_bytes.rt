@@ -79,7 +79,8 @@ fn is_mark(piece: &Piece) -> bool
     }
 }
 
-fn have_quotes(pieces: &[Piece]) -> bool
+/// Whether quotes are among pieces.
+pub fn have_quotes(pieces: &[Piece]) -> bool
     ensures { result ≡ list_any (λ piece. says.is_mark (view.piece piece)) pieces.now }
 {
     pieces.iter().any(|piece| is_mark(piece))

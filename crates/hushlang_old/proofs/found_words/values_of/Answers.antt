@@ -1,4 +1,4 @@
-use Rattle.std.proofs.Common.{◌≡◌, ◌∙◌, sym, ap, map, [], ◌++◌, length, arith, rules}
+use Rattle.std.proofs.Common.{◌≡◌, ◌∙◌, sym, ap, map, ◌++◌, length, arith, rules}
 use Rattle.std.specs.Vec.{vec_len}
 use Rattle.std.specs.Vec.Iter.{into_iter_items, into_iter_len}
 use Rattle.hushlang.specs.TreesShown as view
@@ -29,4 +29,4 @@ loop-word-preserved c =
 pub returns : goal.returns
 returns c =
     let none = none_left (into_iter_items c.loop-word.word-iterator) (sym c.loop-word.invariant.len ∙ c.in-None.ensures.steps.0) in
-    made_all view.value (λ word. says.value_of word) shown.word _ _ _ none c.loop-word.invariant.made
+    made_all view.value (λ word. says.value_of word) shown.word c.loop-word.values.items (into_iter_items c.loop-word.word-iterator) c.args.found.items none c.loop-word.invariant.made

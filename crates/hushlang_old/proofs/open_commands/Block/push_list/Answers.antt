@@ -1,10 +1,10 @@
-use Rattle.std.proofs.Common.{◌≡◌, ◌∙◌, ap, map, [], ◌∷◌, ◌++◌, List, option_map}
+use Rattle.std.proofs.Common.{◌∙◌, ap, map, [], ◌∷◌, ◌++◌, List, option_map}
 use Rattle.std.proofs.lemmas.List.{map_push}
 use Rattle.hushlang.specs.Tree as tree
 use Rattle.hushlang.specs.TreesShown as view
 use Rattle.hushlang.specs.declared.tree.Op.{Op}
 use Rattle.hushlang.proofs.ViewLemmas.{list_of}
-use Rattle.hushlang_old.specs.OldTrees as says
+use Rattle.hushlang_old.specs.Nests as says
 use Rattle.hushlang_old.proofs.open_commands.Block.push_list.Goals as goal
 
 pub returns : goal.returns
@@ -16,7 +16,6 @@ returns c =
       first = option_map view.command old.first;
       rest = rest;
       op = old.op;
-      separated = old.separated;
     } in
     let one = list_of c.args.first c.replace-rest.result
     ∙ ap (λ rest. tree.Starts (view.command c.args.first) (view.joins (map view.joined rest.items))) c.replace-rest.ensures.value in

@@ -3,9 +3,9 @@ use Rattle.std.specs.Vec.Iter.{into_iter_items}
 use Rattle.hushlang_old.specs.OldTokensShown as tokens
 use Rattle.hushlang_old.specs.OldTrees as says
 use Rattle.hushlang_old.specs.OldTreesShown as shown
-use Rattle.hushlang_old.proofs.old_trees.build.Given as goal
+use Rattle.hushlang_old.proofs.old_trees.read_all.Given as goal
 
 abbrev pub invariant-loop-token : goal.invariant-loop-token
 invariant-loop-token l =
     says.read_tokens (map tokens.token (into_iter_items l.token-iterator)) (shown.building l.building)
-    ≡ says.read_tokens (tokens.tokens l.fn.found) (says.nothing_built l.fn.newer)
+    ≡ says.read_tokens (tokens.tokens l.fn.found) (shown.building l.initial.building)

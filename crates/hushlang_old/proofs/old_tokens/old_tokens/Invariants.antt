@@ -1,7 +1,0 @@
-use Rattle.std.proofs.Common.{◌≡◌, drop}
-use Rattle.hushlang_old.specs.OldTokens.{nothing_read, read_all}
-use Rattle.hushlang_old.specs.OldTokensShown as shown
-use Rattle.hushlang_old.proofs.old_tokens.old_tokens.Given as goal
-
-abbrev pub invariant-loop-byte : goal.invariant-loop-byte
-invariant-loop-byte l = read_all (drop l.byte-index l.text) (shown.reading l.reading) ≡ read_all l.text nothing_read

@@ -1,0 +1,40 @@
+//! The part of a compound command that a text is in.
+ghost use Rattle.std.specs.Prelude.{◌≡◌};
+ghost use Rattle.hushlang_old.specs.Nests as says;
+
+/// The part of the innermost compound command that a text is in.
+#[derive(Clone, Copy)]
+pub enum Part {
+    /// None: no compound command is open.
+    Outside,
+    /// `if`, in a condition.
+    Condition,
+    /// `if`, in the block behind a condition, and whether it has other arms in front of that.
+    Arm(bool),
+    /// `if`, in the `else` block.
+    Else,
+    /// `while` or `until`, in its condition.
+    Test,
+    /// `while` or `until`, in its body.
+    Body,
+    /// `for`, in front of its name.
+    Name,
+    /// `for`, in front of `in`.
+    In,
+    /// `for`, in its words.
+    Words,
+    /// `for`, in front of `do`.
+    Do,
+    /// `for`, in its body.
+    Each,
+}
+
+/// Whether a part is of a `for` in front of its body.
+pub fn is_header(part: Part) -> bool
+    ensures { result ≡ says.is_header part }
+{
+    match part {
+        Part::Name | Part::In | Part::Words | Part::Do => true,
+        _ => false,
+    }
+}
