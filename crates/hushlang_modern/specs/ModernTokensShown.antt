@@ -1,7 +1,7 @@
 -- What the code's tokens, and the text that it reads, say.
-use Rattle.std.specs.Prelude.{ℕ, List, [], ◌∷◌, ◌++◌, map}
+use Rattle.std.specs.Prelude.{ℕ, List, [], ◌∷◌, map}
 use Rattle.hushlang.specs.TreesShown as view
-use Rattle.hushlang.specs.WordPieces.{in_piece}
+use Rattle.hushlang_old.specs.GatheredShown.{gathered}
 use Rattle.hushlang_modern.specs.ModernTokens as says
 use Rattle.hushlang_modern.specs.declared.modern_tokens.FoundWord.{FoundWord}
 use Rattle.hushlang_modern.specs.declared.modern_tokens.FoundTokens.{FoundTokens}
@@ -49,18 +49,13 @@ in_brace = places.Brace
 abbrev pub reading : TextReading → says.Reading
 reading r = record {
   tokens = map token r.tokens.items;
-  pieces = map view.piece r.pieces.items;
-  bytes = r.bytes.items;
+  word = gathered r.word;
   quoted = r.quoted;
   doubled = r.doubled;
   assigns = r.assigns;
   double = r.double;
   place = place r.place r.name.items;
 }
-
--- the bytes behind the pieces are a piece
-abbrev pub bytes_closed : says.Reading → says.Reading
-bytes_closed r = record r { pieces = r.pieces ++ in_piece r.bytes; bytes = [] }
 
 abbrev pub one : ℕ → List ℕ
 one byte = byte ∷ []

@@ -10,7 +10,7 @@ use crate::byte_classes::{
 };
 use crate::stop::Stop;
 use hushlang::{Op, Piece};
-use hushlang_old::sign_of;
+use hushlang_old::{Gathered, sign_of};
 use std::alloc::{AllocError, Global};
 use std::mem;
 
@@ -63,15 +63,14 @@ enum Place {
     Stopped(Stop),
 }
 
-/// A text that is being read: the tokens that are whole; of the word on the way its whole pieces, the
-/// bytes behind them, whether it has quotes or a backslash, whether double quotes, and whether it is an
-/// assignment; whether double quotes are open; what the next byte is; and the bytes of a name.
+/// A text that is being read: the tokens that are whole; of the word on the way what has been read,
+/// whether it has quotes or a backslash, whether double quotes, and whether it is an assignment; whether
+/// double quotes are open; what the next byte is; and the bytes of a name.
 #[derive(Drop)]
 struct TextReading {
     alloc: Global,
     tokens: Vec<Token>,
-    pieces: Vec<Piece>,
-    bytes: Vec<u8>,
+    word: Gathered,
     quoted: bool,
     doubled: bool,
     assigns: bool,
@@ -96,8 +95,7 @@ impl TextReading {
         TextReading {
             alloc,
             tokens: Vec::new(alloc),
-            pieces: Vec::new(alloc),
-            bytes: Vec::new(alloc),
+            word: Gathered::new(alloc),
             quoted: false,
             doubled: false,
             assigns: false,
@@ -107,40 +105,11 @@ impl TextReading {
         }
     }
 
-    /// Whether a byte or a variable has been read of the word on the way.
-    fn has_read(&self) -> bool
-        ensures { result ≡ says.has_read (shown.reading self.now) }
-    {
-        !self.bytes.is_empty() || !self.pieces.is_empty()
-    }
-
     /// Whether a word is on the way.
     fn has_begun(&self) -> bool
         ensures { result ≡ says.has_begun (shown.reading self.now) }
     {
-        self.quoted || self.has_read()
-    }
-
-    /// Makes a piece of the bytes behind the pieces, if there are any.
-    fn close_bytes(&mut self) -> Result<(), AllocError>
-        ensures { OnOk result
-            (shown.reading self.new ≡ shown.bytes_closed (shown.reading self.old)) }
-    {
-        if self.bytes.is_empty() {
-            return Ok(());
-        }
-        let bytes = mem::replace(&mut self.bytes, Vec::new(self.alloc));
-        self.pieces.push(Piece::Bytes(bytes))?;
-        Ok(())
-    }
-
-    fn push_piece(&mut self, piece: Piece) -> Result<(), AllocError>
-        ensures { OnOk result (shown.reading self.new
-            ≡ says.with_piece (view.piece piece) (shown.reading self.old)) }
-    {
-        self.close_bytes()?;
-        self.pieces.push(piece)?;
-        Ok(())
+        self.quoted || self.word.has_read()
     }
 
     /// Ends the word on the way (`done_word`).
@@ -149,8 +118,7 @@ impl TextReading {
             (shown.reading self.new ≡ says.word_ended (shown.reading self.old)) }
     {
         let found = self.has_begun();
-        self.close_bytes()?;
-        let pieces = mem::replace(&mut self.pieces, Vec::new(self.alloc));
+        let pieces = self.word.take()?;
         if found {
             self.tokens.push(Token::Word(FoundWord {
                 pieces,
@@ -180,9 +148,9 @@ impl TextReading {
             ≡ says.with_bytes (says.guarded byte) (shown.reading self.old)) }
     {
         if is_guarded(byte) {
-            self.bytes.push(b'\\')?;
+            self.word.push_byte(b'\\')?;
         }
-        self.bytes.push(byte)?;
+        self.word.push_byte(byte)?;
         Ok(())
     }
 
@@ -191,9 +159,9 @@ impl TextReading {
         ensures { result ≡ says.makes_assignment byte (shown.reading self.now) }
     {
         byte == b'='
-            && self.pieces.is_empty()
+            && !self.word.has_pieces()
             && !self.doubled
-            && (self.bytes.is_empty() || is_name(&self.bytes))
+            && (self.word.bytes().is_empty() || is_name(self.word.bytes()))
     }
 
     fn read_ordinary(&mut self, byte: u8) -> Result<(), AllocError>
@@ -201,7 +169,7 @@ impl TextReading {
             ≡ says.read_ordinary byte (shown.reading self.old)) }
     {
         let assigns = self.assigns || self.makes_assignment(byte);
-        self.bytes.push(byte)?;
+        self.word.push_byte(byte)?;
         self.assigns = assigns;
         Ok(())
     }
@@ -309,7 +277,7 @@ impl TextReading {
         self.place = Place::Open;
         if byte == b'"' {
             self.double = false;
-            return self.push_piece(Piece::Mark);
+            return self.word.push_piece(Piece::Mark);
         }
         self.read_strict(byte)
     }
@@ -320,13 +288,13 @@ impl TextReading {
             ≡ says.with_bytes (says.escaped self.old.double byte) (shown.reading self.old)) }
     {
         if !self.double {
-            self.bytes.push(b'\\')?;
-            self.bytes.push(byte)?;
+            self.word.push_byte(b'\\')?;
+            self.word.push_byte(byte)?;
             return Ok(());
         }
         if !is_escapable(byte) {
-            self.bytes.push(b'\\')?;
-            self.bytes.push(b'\\')?;
+            self.word.push_byte(b'\\')?;
+            self.word.push_byte(b'\\')?;
         }
         self.guard(byte)
     }
@@ -370,9 +338,9 @@ impl TextReading {
             ≡ says.with_value (view.piece piece) (shown.reading self.old)) }
     {
         if self.double {
-            self.push_piece(Piece::Mark)?;
+            self.word.push_piece(Piece::Mark)?;
         }
-        self.push_piece(piece)
+        self.word.push_piece(piece)
     }
 
     /// Adds the variable of the name.
@@ -429,7 +397,7 @@ impl TextReading {
             self.place = Place::Stopped(Stop::Unsupported);
             return Ok(());
         }
-        self.bytes.push(b'$')?;
+        self.word.push_byte(b'$')?;
         self.place = Place::Open;
         self.read_strict(byte)
     }
@@ -606,7 +574,7 @@ impl TextReading {
         ensures { OnOk result (shown.reading self.new ≡ shown.with_last (shown.reading self.old)) }
     {
         match self.place {
-            Place::Dollar => self.bytes.push(b'$')?,
+            Place::Dollar => self.word.push_byte(b'$')?,
             Place::Name => {
                 self.place = Place::Open;
                 self.push_variable()?;

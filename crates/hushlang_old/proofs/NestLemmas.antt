@@ -1,10 +1,10 @@
 -- The trees of nested commands hold a command in each block.
-use Rattle.std.proofs.Common.{◌≡◌, ℕ, Bool, true, false, List, [], ◌∷◌, ◌++◌, Option, Some, None}
+use Rattle.std.proofs.Common.{ℕ, List, [], ◌∷◌, ◌++◌, Option, Some, None}
 use Rattle.hushlang.specs.Tree as tree
-use Rattle.hushlang.specs.Tree.{Script, AndOr, Joined, Command, Arms, IsProper, IsProperList, IsProperJoined, IsProperCommand, HasArm, AreProperArms, HoldsCommand}
+use Rattle.hushlang.specs.Tree.{Script, AndOr, Command, IsProper, IsProperList, IsProperJoined, IsProperCommand, HasArm, AreProperArms, HoldsCommand}
 use Rattle.hushlang.specs.TreesShown.{runs, joins, arms}
 use Rattle.hushlang.specs.declared.tree.Op.{Op}
-use Rattle.hushlang_old.specs.Nests.{Block, no_command, with_command, list_ended, body_of, Compound, Condition, Arm, Else, Test, Body, Name, In, Words, Do, Each, Next, Enters, Closes, Strays, next_part, name_read, words_read, begun_by, Nest, nothing_open, command_added, operator_read, list_closed, begun, Gone, Entered, Closed, Astray, gone_to, goes_among, goes_on, turned, named, worded, script_in}
+use Rattle.hushlang_old.specs.Nests.{Block, with_command, list_ended, body_of, Compound, Condition, Arm, Else, Test, Body, Name, In, Words, Do, Each, Next, Enters, Closes, Strays, next_part, name_read, words_read, Nest, nothing_open, command_added, operator_read, list_closed, begun, Gone, Entered, Closed, Astray, gone_to, goes_among, goes_on, turned, named, worded, script_in}
 use Rattle.hushlang_old.specs.declared.reserved.Reserved.{Reserved}
 use Rattle.hushlang_old.specs.declared.reserved.Reserved.TheVariants as r
 

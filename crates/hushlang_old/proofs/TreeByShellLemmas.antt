@@ -1,5 +1,5 @@
 -- In each shell the trees of texts hold a command in each block, and a text that has a tree has its end.
-use Rattle.std.proofs.Common.{◌≡◌, ℕ, Bool, true, false, List, Option, Some, refl}
+use Rattle.std.proofs.Common.{◌≡◌, ℕ, true, false, List, Some, refl}
 use Rattle.hushlang.specs.Tree.{Script, IsProper}
 use Rattle.hushlang.proofs.ProperLemmas.{trees_are_proper}
 use Rattle.hushlang_old.specs.TreesByShell.{tree_in, lacks_end_in}

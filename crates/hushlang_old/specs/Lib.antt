@@ -1,3 +1,5 @@
+pub mod Gathered
+pub mod GatheredShown
 pub mod Nests
 pub mod NestsShown
 pub mod OldFields

@@ -2,7 +2,7 @@
 -- have the same reserved words, and nest commands alike. What each of them refuses is in the rules of its trees.
 use Rattle.std.specs.Prelude.{ℕ, ◌==◌, Bool, true, false, not, ◌&&◌, List, [], ◌∷◌, ◌++◌, length, nat_lt, if◌then◌else◌, Option, Some, None, is_some, codes, bytes_eq}
 use Rattle.hushlang.specs.Tree as tree
-use Rattle.hushlang.specs.Tree.{Script, AndOr, Joined, Command, Arms}
+use Rattle.hushlang.specs.Tree.{Script, AndOr, Command}
 use Rattle.hushlang.specs.TreesShown.{runs, joins, arms as all_arms}
 use Rattle.hushlang.specs.Grammar.{max_nesting}
 use Rattle.hushlang.specs.declared.tree.Op.{Op}
@@ -206,8 +206,8 @@ begun word n = elim (begun_by word) [
   | Some compound ↦ record { block = no_command; opens = (compound, n.block) ∷ n.opens }
 ]
 
--- where another reserved word leads to: the innermost compound command has gone on with its next part, or has ended, or the word may
--- not stand here
+-- where another reserved word leads to: the innermost compound command has gone on with its next part, or has ended, or the word
+-- may not stand here
 pub data Gone : Type 0 where
   Entered : (nest : Nest) → Gone
   Closed : (nest : Nest) → Gone

@@ -9,7 +9,8 @@ use Rattle.hushlang.specs.Tree as tree
 use Rattle.hushlang.specs.Tree.{Piece}
 use Rattle.hushlang.specs.declared.tree.Op.{Op}
 use Rattle.hushlang.specs.declared.tree.Op.TheVariants.{And, Or}
-use Rattle.hushlang.specs.WordPieces.{in_piece}
+use Rattle.hushlang_old.specs.Gathered as gathered
+use Rattle.hushlang_old.specs.Gathered.{Gathered}
 use Rattle.hushlang_old.specs.OldFields.{has_bytes, is_newline, is_space_or_tab}
 
 -- a word: its pieces, none of which is quotes; whether it has quotes; and whether it has a backslash, which keeps it from
@@ -45,19 +46,18 @@ pub data Place : Type 0 where
   -- a byte behind what is not followed
   Refused : Place
 
--- the tokens that are whole; of the word on the way its whole pieces, the bytes behind them, whether it has quotes and
--- whether a backslash; whether double quotes are open; and what the next byte is
+-- the tokens that are whole; of the word on the way what has been read, whether it has quotes and whether a backslash; whether
+-- double quotes are open; and what the next byte is
 pub record Reading : Type 0 where
   pub tokens : List Token
-  pub pieces : List Piece
-  pub bytes : List ℕ
+  pub word : Gathered
   pub quoted : Bool
   pub escaped : Bool
   pub double : Bool
   pub place : Place
 
 abbrev pub nothing_read : Reading
-nothing_read = record { tokens = []; pieces = []; bytes = []; quoted = false; escaped = false; double = false; place = Open }
+nothing_read = record { tokens = []; word = gathered.nothing; quoted = false; escaped = false; double = false; place = Open }
 
 abbrev pub at_place : Place → Reading → Reading
 at_place place r = record r { place = place }
@@ -65,30 +65,19 @@ at_place place r = record r { place = place }
 -- ---- the word on the way
 
 abbrev pub with_byte : ℕ → Reading → Reading
-with_byte byte r = record r { bytes = r.bytes ++ byte ∷ [] }
-
-abbrev pub bytes_closed : Reading → Reading
-bytes_closed r = record r { pieces = r.pieces ++ in_piece r.bytes; bytes = [] }
+with_byte byte r = record r { word = gathered.with_byte byte r.word }
 
 abbrev pub with_piece : Piece → Reading → Reading
-with_piece piece r = record (bytes_closed r) { pieces = (r.pieces ++ in_piece r.bytes) ++ piece ∷ [] }
-
-abbrev pub has_pieces : List Piece → Bool
-has_pieces [] = false
-has_pieces (piece ∷ pieces) = true
-
--- whether a byte or a variable has been read of the word on the way
-abbrev pub has_read : Reading → Bool
-has_read r = has_bytes r.bytes || has_pieces r.pieces
+with_piece piece r = record r { word = gathered.with_piece piece r.word }
 
 abbrev pub found : Reading → List Token
 found r =
-    if r.quoted || has_read r
-    then Word (record { pieces = r.pieces ++ in_piece r.bytes; quoted = r.quoted; escaped = r.escaped }) ∷ [] else []
+    if r.quoted || gathered.has_read r.word
+    then Word (record { pieces = gathered.all_pieces r.word; quoted = r.quoted; escaped = r.escaped }) ∷ [] else []
 
 -- the word on the way ends (`done_word`)
 abbrev pub word_ended : Reading → Reading
-word_ended r = record r { tokens = r.tokens ++ found r; pieces = []; bytes = []; quoted = false; escaped = false }
+word_ended r = record r { tokens = r.tokens ++ found r; word = gathered.nothing; quoted = false; escaped = false }
 
 -- a token that is no word
 abbrev pub with_token : Token → Reading → Reading
@@ -118,7 +107,7 @@ read_bare byte r =
     else (if is_space_or_tab byte then word_ended r
     else (if byte == ascii.ampersand then at_place (Joint And) (word_ended r)
     else (if byte == ascii.bar then at_place (Joint Or) (word_ended r)
-    else (if byte == ascii.hash && not (has_read r) then at_place Comment r
+    else (if byte == ascii.hash && not (gathered.has_read r.word) then at_place Comment r
     else with_byte byte r))))
 
 -- a byte that may act: quotes begin a word, and double quotes close what double quotes have opened

@@ -3,6 +3,7 @@ use Rattle.std.specs.Prelude.{ℕ, List, map}
 use Rattle.std.specs.declared.alloc.Global.{Global}
 use Rattle.std.specs.declared.vec.Vec.{Vec}
 use Rattle.hushlang.specs.TreesShown as view
+use Rattle.hushlang_old.specs.GatheredShown.{gathered}
 use Rattle.hushlang_old.specs.OldTokens as says
 use Rattle.hushlang_old.specs.declared.old_tokens.FoundWord.{FoundWord}
 use Rattle.hushlang_old.specs.declared.old_tokens.Token.{Token}
@@ -46,8 +47,7 @@ in_brace = places.Brace
 abbrev pub reading : TextReading → says.Reading
 reading r = record {
   tokens = map token r.tokens.items;
-  pieces = map view.piece r.pieces.items;
-  bytes = r.bytes.items;
+  word = gathered r.word;
   quoted = r.quoted;
   escaped = r.escaped;
   double = r.double;

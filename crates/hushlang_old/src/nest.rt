@@ -1,6 +1,5 @@
 //! The block on the way and the compound commands that are open, as U-Boot's shells nest them.
-ghost use Rattle.std.specs.Prelude.{◌≡◌, map, option_map, IfOk, OnOk};
-ghost use Rattle.hushlang.specs.Grammar.{max_nesting};
+ghost use Rattle.std.specs.Prelude.{◌≡◌, option_map, IfOk, OnOk};
 ghost use Rattle.hushlang.specs.TreesShown as view;
 ghost use Rattle.hushlang_old.specs.Nests as says;
 ghost use Rattle.hushlang_old.specs.NestsShown as shown;

@@ -1,10 +1,10 @@
 //! The tokens of a text, byte by byte.
-ghost use Rattle.std.specs.Prelude.{◌≡◌, false, map, option_map, IfOk, OnOk};
-ghost use Rattle.hushlang.specs.TreesShown as view;
+ghost use Rattle.std.specs.Prelude.{◌≡◌, false, option_map, IfOk, OnOk};
 ghost use Rattle.hushlang.specs.ByteClasses as classes;
 ghost use Rattle.hushlang_old.specs.OldTokens as says;
 ghost use Rattle.hushlang_old.specs.OldTokensShown as shown;
 
+use crate::gathered::Gathered;
 use hushlang::{Op, Piece};
 use std::alloc::{AllocError, Global};
 use std::mem;
@@ -51,15 +51,14 @@ enum Place {
     Refused,
 }
 
-/// A text that is being read: the tokens that are whole; of the word on the way its whole pieces, the
-/// bytes behind them, whether it has quotes and whether a backslash; whether double quotes are open;
-/// what the next byte is; and the bytes of a name.
+/// A text that is being read: the tokens that are whole; of the word on the way what has been read,
+/// whether it has quotes and whether a backslash; whether double quotes are open; what the next byte
+/// is; and the bytes of a name.
 #[derive(Drop)]
 struct TextReading {
     alloc: Global,
     tokens: Vec<Token>,
-    pieces: Vec<Piece>,
-    bytes: Vec<u8>,
+    word: Gathered,
     quoted: bool,
     escaped: bool,
     double: bool,
@@ -126,8 +125,7 @@ impl TextReading {
         TextReading {
             alloc,
             tokens: Vec::new(alloc),
-            pieces: Vec::new(alloc),
-            bytes: Vec::new(alloc),
+            word: Gathered::new(alloc),
             quoted: false,
             escaped: false,
             double: false,
@@ -136,43 +134,13 @@ impl TextReading {
         }
     }
 
-    /// Whether a byte or a variable has been read of the word on the way.
-    fn has_read(&self) -> bool
-        ensures { result ≡ says.has_read (shown.reading self.now) }
-    {
-        !self.bytes.is_empty() || !self.pieces.is_empty()
-    }
-
-    /// Makes a piece of the bytes behind the pieces, if there are any.
-    fn close_bytes(&mut self) -> Result<(), AllocError>
-        ensures { OnOk result
-            (shown.reading self.new ≡ says.bytes_closed (shown.reading self.old)) }
-    {
-        if self.bytes.is_empty() {
-            return Ok(());
-        }
-        let bytes = mem::replace(&mut self.bytes, Vec::new(self.alloc));
-        self.pieces.push(Piece::Bytes(bytes))?;
-        Ok(())
-    }
-
-    fn push_piece(&mut self, piece: Piece) -> Result<(), AllocError>
-        ensures { OnOk result (shown.reading self.new
-            ≡ says.with_piece (view.piece piece) (shown.reading self.old)) }
-    {
-        self.close_bytes()?;
-        self.pieces.push(piece)?;
-        Ok(())
-    }
-
     /// Ends the word on the way.
     fn end_word(&mut self) -> Result<(), AllocError>
         ensures { OnOk result
             (shown.reading self.new ≡ says.word_ended (shown.reading self.old)) }
     {
-        let found = self.quoted || self.has_read();
-        self.close_bytes()?;
-        let pieces = mem::replace(&mut self.pieces, Vec::new(self.alloc));
+        let found = self.quoted || self.word.has_read();
+        let pieces = self.word.take()?;
         if found {
             self.tokens.push(Token::Word(FoundWord {
                 pieces,
@@ -216,11 +184,11 @@ impl TextReading {
             self.place = Place::Joint(Op::Or);
             return Ok(());
         }
-        if byte == b'#' && !self.has_read() {
+        if byte == b'#' && !self.word.has_read() {
             self.place = Place::Comment;
             return Ok(());
         }
-        self.bytes.push(byte)?;
+        self.word.push_byte(byte)?;
         Ok(())
     }
 
@@ -247,7 +215,7 @@ impl TextReading {
             b'$' => self.place = Place::Dollar,
             _ => {
                 if self.double {
-                    self.bytes.push(byte)?;
+                    self.word.push_byte(byte)?;
                     return Ok(());
                 }
                 return self.read_bare(byte);
@@ -267,9 +235,9 @@ impl TextReading {
         }
         self.escaped = true;
         if self.double {
-            self.bytes.push(b'\\')?;
+            self.word.push_byte(b'\\')?;
         }
-        self.bytes.push(byte)?;
+        self.word.push_byte(byte)?;
         self.place = Place::Open;
         Ok(())
     }
@@ -292,7 +260,7 @@ impl TextReading {
             self.place = Place::Single(true);
             return Ok(());
         }
-        self.bytes.push(byte)?;
+        self.word.push_byte(byte)?;
         self.place = Place::Single(false);
         Ok(())
     }
@@ -305,7 +273,7 @@ impl TextReading {
     {
         let name = mem::replace(&mut self.name, Vec::new(self.alloc));
         let split = !self.double;
-        self.push_piece(Piece::Var { name, split })
+        self.word.push_piece(Piece::Var { name, split })
     }
 
     /// Reads the byte behind `$`.
@@ -321,14 +289,14 @@ impl TextReading {
         }
         if byte == b'?' {
             self.place = Place::Open;
-            return self.push_piece(Piece::Status);
+            return self.word.push_piece(Piece::Status);
         }
         if byte == b'{' {
             self.name.clear();
             self.place = Place::Brace;
             return Ok(());
         }
-        self.bytes.push(b'$')?;
+        self.word.push_byte(b'$')?;
         self.place = Place::Open;
         self.read_open(byte)
     }
