@@ -1,4 +1,5 @@
-# The causes among the runs of what listed.awk writes: each run is compared with all others.
+# The causes among the runs of what listed.awk writes: each run is compared with all others. And in the file `checked` the status
+# of a check, and the causes that it tells: those that do not boot.
 function within(v, w,   lines, count, i, left, at) {
     left = "\n" why[w]
     count = split(why[v], lines, "\n")
@@ -18,6 +19,11 @@ function needless(w,   v) {
 /^dev 1 / { failed = failed "fails " substr($0, 7) "\n"; failures++ }
 /^(end|cut|stop|booted|restarted|halted) / { last[++runs] = $0; why[runs] = failed; count[runs] = failures }
 END {
-    for (w = 1; w <= runs; w++)
-        if (!needless(w)) printf "cause %d %s\n%s", count[w], last[w], why[w]
+    for (w = 1; w <= runs; w++) {
+        if (needless(w)) continue
+        cause = sprintf("cause %d %s\n%s", count[w], last[w], why[w])
+        printf "%s", cause
+        if (last[w] !~ /^booted /) wrong = wrong cause
+    }
+    printf "%d, %s", wrong != "", wrong >"checked"
 }

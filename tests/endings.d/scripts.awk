@@ -1,4 +1,4 @@
-# A random script, from a seed: the entries of an environment. Commands ask, set, print, test, loop, run and end the script; some
+# Random scripts, so many: the variables of seed N in the file entriesN. Commands ask, set, print, test, loop, run and end the script; some
 # texts are none, and some commands are in no list.
 function any(list,   parts) { return parts[1 + int(rand() * split(list, parts, "~"))] }
 function simple() {
@@ -24,9 +24,13 @@ function list(depth,   text, left) {
     return text
 }
 BEGIN {
-    srand(seed)
-    print "bootcmd=" list(0) (rand() < 0.02 ? " fi" : "")
-    print "t=" list(1)
-    print "u=" any("load u~run t~probe && bootm~setenv x 1~run u~fi")
-    if (rand() < 0.5) print "x=" any("1~2~a b")
+    for (seed = 1; seed <= count; seed++) {
+        srand(seed)
+        file = "entries" seed
+        print "bootcmd=" list(0) (rand() < 0.02 ? " fi" : "") >file
+        print "t=" list(1) >file
+        print "u=" any("load u~run t~probe && bootm~setenv x 1~run u~fi") >file
+        if (rand() < 0.5) print "x=" any("1~2~a b") >file
+        close(file)
+    }
 }
