@@ -9,6 +9,7 @@ use Rattle.hushlang.specs.Trees.{tree_of}
 use Rattle.rehearse_rules.specs.Execution.{End, CutDevices, Unknown}
 use Rattle.rehearse_rules.specs.Runs.{Task, run_on}
 use Rattle.rehearse_rules.proofs.ExampleRehearsals.{only_load, limits, bootcmd}
+use Rattle.rehearse_states.specs.Drawing.{asks_in}
 use Rattle.rehearse_states.specs.Flow.{Node, Asks, Ends, Seen, walk, numbered, seen_of, flow_text}
 
 -- `load a || load b`
@@ -19,6 +20,10 @@ attempts =
     ∷ Ends (End 1)
     ∷ Ends (End 0)
     ∷ []
+
+-- two of them ask
+attempts_ask : asks_in attempts ≡ 2
+attempts_ask = refl
 
 attempts_lines : flow_text attempts ≡ codes "1 ask load a success 4 failure 2\n2 ask load b success 4 failure 3\n3 ends end 1\n4 ends end 0\n"
 unfolding digits

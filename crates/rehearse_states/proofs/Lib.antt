@@ -6,6 +6,8 @@ pub mod SaturatedCountLemmas
 pub mod NodeLemmas
 mod EndingsExamples
 mod FlowExamples
+mod PlaceNumberExamples
 pub mod RowLemmas
 pub mod EndingLineLemmas
 pub mod NumberedNodes
+mod PlaceNumberLemmas

@@ -1,6 +1,7 @@
 -- The nodes that are made, and the lines that are written of them.
-use Rattle.std.proofs.Common.{ℕ, suc, ◌+◌, ◌<◌, ◌≤◌, true, List, [], ◌∷◌, ◌++◌, map, length, get_or, take, Some, option_map, refl, sym, ap, ◌∙◌, ◌≡◌, append_assoc, append-nil, nat_lt, codes, decimal, arith}
+use Rattle.std.proofs.Common.{ℕ, suc, ◌+◌, ◌<◌, ◌≤◌, true, List, [], ◌∷◌, ◌++◌, map, length, get_or, take, Some, option_map, refl, sym, ap, ◌∙◌, ◌≡◌, append_assoc, append-nil, nat_lt, codes, decimal, arith, reverse}
 use Rattle.std.specs.List.{slice_get}
+use Rattle.std.proofs.lemmas.Grind.{reverse_onto}
 use Rattle.std.proofs.lemmas.Bool.{ltb-true}
 use Rattle.std.proofs.lemmas.Option.{slice_get-map, slice_get_read}
 use Rattle.std.proofs.lemmas.List.{length-map, length-take-le, map_more}
@@ -9,8 +10,8 @@ use Rattle.rehearse_rules.specs.Listing.{line}
 use Rattle.rehearse_rules.specs.EndingsShown.{halt_shown}
 use Rattle.rehearse_rules.specs.declared.halt.Halt.{Halt}
 use Rattle.rehearse_states.specs.Endings.{ending_eq}
-use Rattle.rehearse_states.specs.Flow.{Node, Ends, node_text, flow_from, flow_text}
-use Rattle.rehearse_states.specs.Drawing.{node_shown}
+use Rattle.rehearse_states.specs.Flow.{Node, Asks, Ends, node_text, flow_from, flow_text}
+use Rattle.rehearse_states.specs.Drawing.{asks_in, node_shown, renumbered}
 use Rattle.rehearse_states.specs.declared.flow.Node as rt
 use Rattle.rehearse_states.specs.declared.flow.Node.TheVariants as made
 use Rattle.rehearse_states.proofs.RowsOfRuns.{ending_same}
@@ -53,3 +54,25 @@ lines_on items i node number old within is at so_far =
     ∙ sym (flow_more 1 (map node_shown (take i items)) (node_shown node))
     ∙ ap (λ (n : rt.Node). flow_from 1 (map node_shown (take i items) ++ node_shown n ∷ [])) is
     ∙ ap (flow_from 1) (sym (map_more node_shown items i node within))
+
+-- ---- the nodes that ask
+
+pub asks_append : (xs ys : List Node) → asks_in (xs ++ ys) ≡ asks_in xs + asks_in ys
+asks_append [] ys = let e : asks_in ys ≡ 0 + asks_in ys = omega arith in e
+asks_append (Asks words success failure ∷ xs) ys = let e = asks_append xs ys in omega arith
+asks_append (Ends ending ∷ xs) ys = asks_append xs ys
+
+asks_renumbered : (count : ℕ) (node : Node) → asks_in (renumbered count node ∷ []) ≡ asks_in (node ∷ [])
+asks_renumbered count (Asks words success failure) = refl
+asks_renumbered count (Ends ending) = refl
+
+-- as many ask in the order of the lines
+pub asks_in_lines : (count : ℕ) (nodes : List Node) → asks_in (reverse (map (renumbered count) nodes)) ≡ asks_in nodes
+asks_in_lines count [] = refl
+asks_in_lines count (node ∷ nodes) =
+    let front = asks_append (node ∷ []) nodes in
+    let back = asks_append (reverse (map (renumbered count) nodes)) (renumbered count node ∷ []) in
+    let turned = ap asks_in (reverse_onto (map (renumbered count) nodes) (renumbered count node) []) in
+    let one = asks_renumbered count node in
+    let rest = asks_in_lines count nodes in
+    omega (arith, front, back, turned, one, rest)

@@ -1,6 +1,6 @@
 -- The nodes of a flow while they are made. A node comes after the nodes to which it leads, and places count from 0.
 -- Ours.
-use Rattle.std.specs.Prelude.{◌≡◌, ℕ, ◌-◌, List, ◌++◌, map, Vec}
+use Rattle.std.specs.Prelude.{◌≡◌, ℕ, suc, ◌-◌, List, [], ◌∷◌, ◌++◌, map, Vec}
 use Rattle.std.specs.declared.alloc.Global.{Global}
 use Rattle.text.specs.TextsShown.{bytes_of_words}
 use Rattle.rehearse_rules.specs.EndingsShown.{halt_shown}
@@ -21,6 +21,12 @@ nodes_shown nodes = map node_shown nodes.items
 -- the old nodes, and more nodes after them
 abbrev pub HasMore : (old new : List Node) → Type 0
 HasMore old new = (more : List Node) × (new ≡ old ++ more)
+
+-- how many nodes are those of device commands that ask
+abbrev pub asks_in : List Node → ℕ
+asks_in [] = 0
+asks_in (Asks words success failure ∷ nodes) = suc (asks_in nodes)
+asks_in (Ends ending ∷ nodes) = asks_in nodes
 
 -- ---- the order of the lines: the last node made is the first
 

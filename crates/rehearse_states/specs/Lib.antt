@@ -6,3 +6,4 @@ pub mod Drawing
 pub mod Summaries
 pub mod RowsShown
 pub mod EndingLines
+pub mod PlaceNumbers

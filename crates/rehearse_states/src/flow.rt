@@ -4,7 +4,7 @@ ghost use Rattle.std.specs.List.{slice_get};
 ghost use Rattle.text.specs.TextsShown.{bytes_of_words};
 ghost use Rattle.rehearse_rules.specs.EndingsShown.{halt_shown};
 ghost use Rattle.rehearse_states.specs.Flow.{Asks, Ends};
-ghost use Rattle.rehearse_states.specs.Drawing.{node_shown, nodes_shown, renumbered, HasMore};
+ghost use Rattle.rehearse_states.specs.Drawing.{asks_in, node_shown, nodes_shown, renumbered, HasMore};
 
 use crate::run_end::{copy_halt, same_halt};
 use bootstore_state::StoreError;
@@ -70,6 +70,8 @@ impl Flow {
             (HasMore (nodes_shown self.old.nodes) (nodes_shown self.new.nodes)) }
         ensures last { IfOk result (λ place. self.old.nodes.items ≡ [] → place + 1
             ≡ length self.new.nodes.items) }
+        ensures asks { OnOk result
+            (asks_in (nodes_shown self.new.nodes) ≡ asks_in (nodes_shown self.old.nodes)) }
     {
         if let Some(place) = self.find(halt) {
             return Ok(place);
