@@ -1,5 +1,5 @@
 -- Keys with what a moment has at them: one after another, and at two moments.
-use Rattle.std.proofs.Common.{◌≡◌, ◌∙◌, refl, sym, ap, subst, ℕ, ◌+◌, ◌<◌, ◌≤◌, List, [], ◌∷◌, ◌++◌, length, take, get_or, append_assoc, append-nil, add-one, Option, Vec, Global, Bool, true, false, IsTrue, inl, inr}
+use Rattle.std.proofs.Common.{◌≡◌, ◌∙◌, refl, sym, ap, subst, ℕ, zero, suc, arith, ◌+◌, ◌<◌, ◌≤◌, List, [], ◌∷◌, ◌++◌, length, take, get_or, append_assoc, append-nil, add-one, Option, Vec, Global, Bool, true, false, IsTrue, inl, inr}
 use Rattle.std.proofs.Math.Bool.{beq}
 use Rattle.std.proofs.Math.Seq.{take-suc}
 use Rattle.std.proofs.lemmas.List.{map-append, take_all}
@@ -20,6 +20,18 @@ same_answer true true h = refl
 same_answer true false h = absurd (let g = h in cc)
 same_answer false true h = absurd (let g = h in cc)
 same_answer false false h = refl
+
+pub answer_told : (a b : Bool) → a ≡ b → IsTrue (beq a b)
+answer_told true true h = refl
+answer_told true false h = absurd (let g = h in cc)
+answer_told false true h = absurd (let g = h in cc)
+answer_told false false h = refl
+
+-- of things that hold each holds
+pub holds_one : (m : Moment) (all : List Known) (i : ℕ) (known : Known) → i < length all → known ≡ get_or all i known → AllHold m all → Holds m known
+holds_one m [] i known within is h = absurd (omega arith)
+holds_one m (k ∷ all) zero known within is h = subst (Holds m) (sym is) h.0
+holds_one m (k ∷ all) (suc i) known within is h = holds_one m all i known (omega arith) is h.1
 
 pub hold_more : (m : Moment) (some more : List Known) → AllHold m some → AllHold m more → AllHold m (some ++ more)
 hold_more m [] more h k = k

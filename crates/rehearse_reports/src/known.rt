@@ -60,7 +60,8 @@ fn copied(alloc: Global, value: Option<&[u8]>) -> Result<Option<Vec<u8>>, AllocE
 
 /// Whether a value is this one.
 fn is_value(value: Option<&[u8]>, other: &Option<Vec<u8>>) -> bool
-    ensures { IsTrue result → option_bytes value.entry ≡ value_shown other.now }
+    ensures same { IsTrue result → option_bytes value.entry ≡ value_shown other.now }
+    ensures told { option_bytes value.entry ≡ value_shown other.now → IsTrue result }
 {
     match (value, other) {
         (Some(bytes), Some(others)) => bytes == others.as_slice(),
@@ -99,7 +100,8 @@ impl Known {
 
     /// Whether the present state of a store has the same at the key.
     fn holds<S: Store>(&self, store: &S) -> bool
-        ensures { IsTrue result → Holds (S.record_of store.now).present self.now }
+        ensures same { IsTrue result → Holds (S.record_of store.now).present self.now }
+        ensures told { Holds (S.record_of store.now).present self.now → IsTrue result }
     {
         match self {
             Known::Environment(name, value) => is_value(store.get_env(name), value),
@@ -143,7 +145,8 @@ pub fn known_at<S: Store>(
 
 /// Whether the present state of a store has the same at all of these keys.
 pub fn all_hold<S: Store>(store: &S, known: &[Known]) -> bool
-    ensures { IsTrue result → AllHold (S.record_of store.now).present known.now }
+    ensures same { IsTrue result → AllHold (S.record_of store.now).present known.now }
+    ensures told { AllHold (S.record_of store.now).present known.now → IsTrue result }
 {
     for one in known {
         if !one.holds(store) {
