@@ -1,21 +1,39 @@
 -- The states that the search enters, each by the outcomes that lead to it. No two are alike.
-use Rattle.std.proofs.Common.{ℕ, ◌+◌, ◌≤◌, ◌<◌, List, [], ◌∷◌, ◌++◌, length, sym, ap, subst, ◌∙◌, ◌≡◌, arith, append_assoc, append-nil, length-append}
-use Rattle.std.specs.Prelude.{Result, Err, IfErr}
-use Rattle.std.specs.List.{AllByRecursion}
-use Rattle.bootstore_state.specs.Moment.{Moment, RunningFrame}
+use Rattle.std.proofs.Common.{ℕ, suc, zero, ◌+◌, ◌≤◌, List, [], ◌∷◌, ◌++◌, length, reverse, Some, refl, sym, ap, subst, ◌∙◌, ◌≡◌, arith, append_assoc, append-nil, length-append, inl, inr, map}
+use Rattle.std.specs.Prelude.{Result, Err, IfErr, Option, None, MatchOption}
+use Rattle.std.specs.List.{AllByRecursion, slice_get}
+use Rattle.std.specs.FinMap.{get-entries}
+use Rattle.std.specs.declared.alloc.Global.{Global}
+use Rattle.bootstore_state.specs.Moment.{Moment}
+use Rattle.bootstore_state.specs.StoredState.{state_at}
 use Rattle.rehearse_terms.specs.Outcomes.{OutcomeWord, Outcome, Success, Failure}
+use Rattle.rehearse_terms.specs.State.{Text}
+use Rattle.rehearse_rules.specs.Execution.{Limits}
 use Rattle.rehearse_rules.specs.Runs.{Task, kind, run_on}
 use Rattle.rehearse_machine.specs.declared.rehearsal.Stop.{Stop}
 use Rattle.rehearse_machine.specs.declared.rehearsal.Stop.TheVariants.{Asks}
-use Rattle.rehearse_reuse.specs.Futures.{came_kind}
-use Rattle.rehearse_endings.proofs.SearchLemmas.{kind_settled}
 use Rattle.rehearse_machine.specs.StoppedTexts.{StoppedAt}
-use Rattle.rehearse_endings.specs.States.{Asked, IsMet, IsUnlike, NoTwoAlike, HasStates, Entered, BeginsWith, IsNewAt, HasEntered}
-use Rattle.rehearse_endings.specs.Searching.{IsKept}
+use Rattle.rehearse_frames.specs.KeysToCome.{AreEnoughAt}
+use Rattle.rehearse_reads.specs.Keys as keys
+use Rattle.rehearse_reads.specs.Keys.{Key, AgreeAt, AgreeOn, IsAmong}
+use Rattle.rehearse_reports.specs.Known.{AllHold, Holds, key_of, keys_of}
 use Rattle.rehearse_reports.specs.declared.known.Known.{Known}
+use Rattle.rehearse_reports.specs.declared.known.Known.TheVariants.{Environment, Local, AnswerTo, Succeeded, Status}
+use Rattle.rehearse_reuse.specs.Futures.{came_kind}
+use Rattle.rehearse_reuse.specs.SummedRuns.{FitsIf}
+use Rattle.rehearse_states.specs.Drawing.{asks_in, node_shown, nodes_shown}
+use Rattle.rehearse_states.specs.Flow as flow
+use Rattle.rehearse_states.specs.RowsShown.{summary_shown, saturated_summary}
 use Rattle.rehearse_states.specs.Summaries.{Summary}
+use Rattle.rehearse_states.specs.declared.flow.Flow.{Flow}
+use Rattle.rehearse_states.proofs.NodeLemmas.{asks_append}
+use Rattle.rehearse_endings.proofs.SearchLemmas.{kind_settled}
+use Rattle.rehearse_endings.specs.Indexed.{Fits, NoneFits}
+use Rattle.rehearse_endings.specs.Searching.{IsKeptAt, SummedFrom}
+use Rattle.rehearse_endings.specs.States.{AreApart, AreKeptAs, AreOnOneRun, Asked, ComesBefore, ComesBy, ComesToStates, Entered, HasEntered, HasStates, IsKeptAs, IsLike, IsMet, IsSearchedIn, IsUnlike, NoTwoAlike, Searched}
 use Rattle.rehearse_endings.specs.declared.sum_error.SumError.{SumError}
 use Rattle.rehearse_endings.specs.declared.sum_error.SumError.TheVariants.{States}
+use Rattle.rehearse_endings.specs.declared.table.Entry.{Entry}
 use Rattle.rehearse_endings.specs.declared.table.Table.{Table}
 
 -- ---- lists
@@ -24,64 +42,63 @@ all_and : {A : Type 0} (P : A → Type 0) (xs ys : List A) → AllByRecursion P 
 all_and P [] ys h k = k
 all_and P (x ∷ xs) ys h k = (h.0, all_and P xs ys h.1 k)
 
-all_front : {A : Type 0} (P : A → Type 0) (xs ys : List A) → AllByRecursion P (xs ++ ys) → AllByRecursion P xs
-all_front P [] ys h = tt
-all_front P (x ∷ xs) ys h = (h.0, all_front P xs ys h.1)
-
 all_as : {A : Type 0} (P Q : A → Type 0) (xs : List A) → ((x : A) → P x → Q x) → AllByRecursion P xs → AllByRecursion Q xs
 all_as P Q [] f h = tt
 all_as P Q (x ∷ xs) f h = (f x h.0, all_as P Q xs f h.1)
 
-all_insert : {A : Type 0} (P : A → Type 0) (xs ys : List A) (t : A) → AllByRecursion P (xs ++ ys) → P t → AllByRecursion P (xs ++ t ∷ ys)
-all_insert P [] ys t h k = (k, h)
-all_insert P (x ∷ xs) ys t h k = (h.0, all_insert P xs ys t h.1 k)
+both_of : {A : Type 0} (P Q R : A → Type 0) (xs : List A) → ((x : A) → P x → Q x → R x) → AllByRecursion P xs → AllByRecursion Q xs → AllByRecursion R xs
+both_of P Q R [] f h k = tt
+both_of P Q R (x ∷ xs) f h k = (f x h.0 k.0, both_of P Q R xs f h.1 k.1)
 
-unlike_insert : (xs ys : List Asked) (t : Asked) → NoTwoAlike (xs ++ ys) → AllByRecursion (λ s. IsUnlike s t) xs → AllByRecursion (IsUnlike t) ys → NoTwoAlike (xs ++ t ∷ ys)
-unlike_insert [] ys t h a b = (b, h)
-unlike_insert (x ∷ xs) ys t h a b = (all_insert (IsUnlike x) xs ys t h.0 a.0, unlike_insert xs ys t h.1 a.1 b)
+-- ---- what a look-up says
+
+pub something : {A : Type 0} (P : Type 0) (Q : A → Type 0) (o : Option A) (x : A) → o ≡ Some x → MatchOption o P Q → Q x
+something P Q None x e h = absurd (let f = e in cc)
+something P Q (Some y) x e h = subst Q (let f = e in cc) h
 
 -- ---- outcomes
 
-begins_self : (p : OutcomeWord) → BeginsWith p p
-begins_self p = ([], sym (append-nil p))
+comes_next : (p : OutcomeWord) (d : Outcome) → ComesBefore p (p ++ d ∷ [])
+comes_next p d = (d, [], refl)
 
-begins_before : (p w : OutcomeWord) (d : Outcome) → BeginsWith (p ++ d ∷ []) w → BeginsWith p w
-begins_before p w d h = (d ∷ h.0, h.1 ∙ append_assoc p (d ∷ []) h.0)
+comes_on : (q p : OutcomeWord) (d : Outcome) → ComesBefore q p → ComesBefore q (p ++ d ∷ [])
+comes_on q p d h = (h.0, h.1 ++ d ∷ [], ap (λ (w : OutcomeWord). w ++ d ∷ []) h.2 ∙ append_assoc q (h.0 ∷ h.1) (d ∷ []))
 
-same_next : (p v w : OutcomeWord) (c d : Outcome) → p ++ c ∷ v ≡ p ++ d ∷ w → c ≡ d
-same_next [] v w c d e = cc
-same_next (x ∷ p) v w c d e = same_next p v w c d (let f = e in cc)
+-- the search comes to the next outcome by one more state
+pub comes_by : (p : OutcomeWord) (d : Outcome) (m : Moment) (begun : List Asked) → ComesBy p begun → ComesBy (p ++ d ∷ []) ((p, m) ∷ begun)
+comes_by p d m begun h = (comes_next p d, all_as (λ t. ComesBefore t.0 p) (λ t. ComesBefore t.0 (p ++ d ∷ [])) begun (λ t k. comes_on t.0 p d k) h)
 
-won_or_lost : (p w : OutcomeWord) → BeginsWith (p ++ Success ∷ []) w → BeginsWith (p ++ Failure ∷ []) w → ⊥
-won_or_lost p w h k =
-    let e : p ++ Success ∷ h.0 ≡ p ++ Failure ∷ k.0 = sym (append_assoc p (Success ∷ []) h.0) ∙ sym h.1 ∙ k.1 ∙ append_assoc p (Failure ∷ []) k.0 in
-    let f : Success ≡ Failure = same_next p h.0 k.0 Success Failure e in
-    cc
+-- ---- a state that is like one that was searched fits its entry
 
--- ---- how far the search is
+held_there : (m n : Moment) (known : Known) → Holds m known → AgreeAt (key_of known) (state_at m []) (state_at n []) → Holds n known
+held_there m n (Environment name value) h k = get-entries n.environment name.items ∙ k ∙ sym (get-entries m.environment name.items) ∙ h
+held_there m n (Local name value) h k = get-entries n.locals name.items ∙ k ∙ sym (get-entries m.locals name.items) ∙ h
+held_there m n (AnswerTo call answer) h k = k ∙ h
+held_there m n (Succeeded start has) h k = k ∙ h
+held_there m n (Status status) h k = k ∙ h
 
-is_longer : (p : OutcomeWord) (d : Outcome) → length (p ++ d ∷ []) ≡ length p + 1
-is_longer p d = let a = length-append p (d ∷ []) in omega arith
+all_held_there : (m n : Moment) (all : List Known) → AllHold m all → AgreeOn (keys_of all) (state_at m []) (state_at n []) → AllHold n all
+all_held_there m n [] h agree = tt
+all_held_there m n (known ∷ all) h agree = (held_there m n known h.0 (agree (key_of known) (inl refl)), all_held_there m n all h.1 (λ key among. agree key (inr among)))
 
-new_before : (p : OutcomeWord) (d : Outcome) (m : Moment) (pending : List Asked) → AllByRecursion (λ s. length s.0 < length p) pending → AllByRecursion (λ s. length s.0 < length (p ++ d ∷ [])) ((p, m) ∷ pending)
-new_before p d m pending h =
-    let a = is_longer p d in
-    (omega arith, all_as (λ s. length s.0 < length p) (λ s. length s.0 < length (p ++ d ∷ [])) pending (λ s l. let b = is_longer p d in omega arith) h)
+like_fits : (limits : Limits) (s : Searched) (e : Entry) (m : Moment) → IsKeptAs s e → IsLike limits s m → Fits limits.step_bound limits.device_bound e m
+like_fits limits s e m kept like = record {
+  frames = kept.frames ∙ sym like.frames;
+  known = all_held_there s.asked.1 m e.known.items kept.known (subst (λ (ks : List Key). AgreeOn ks (state_at s.asked.1 []) (state_at m [])) (sym kept.keys) like.agree);
+  steps =
+      subst (λ (x : Summary). FitsIf x.cut_steps e.steps m.steps x.steps limits.step_bound) (sym kept.shown)
+      (subst (λ (n : ℕ). FitsIf s.to_come.cut_steps n m.steps s.to_come.steps limits.step_bound) (sym kept.steps) like.steps);
+  devices =
+      subst (λ (x : Summary). FitsIf x.cut_devices e.devices (length m.log) x.devices limits.device_bound) (sym kept.shown)
+      (subst (λ (n : ℕ). FitsIf s.to_come.cut_devices n (length m.log) s.to_come.devices limits.device_bound) (sym kept.devices) like.devices);
+}
 
-still_fresh : (p : OutcomeWord) (d : Outcome) (kept : List Asked) → AllByRecursion (λ s. BeginsWith p s.0 → ⊥) kept → AllByRecursion (λ s. BeginsWith (p ++ d ∷ []) s.0 → ⊥) kept
-still_fresh p d kept h = all_as (λ s. BeginsWith p s.0 → ⊥) (λ s. BeginsWith (p ++ d ∷ []) s.0 → ⊥) kept (λ s k b. k (begins_before p s.0 d b)) h
-
-pub new_won : (p : OutcomeWord) (m : Moment) (kept pending : List Asked) → IsNewAt p kept pending → IsNewAt (p ++ Success ∷ []) kept ((p, m) ∷ pending)
-new_won p m kept pending h = record { fresh = still_fresh p Success kept h.fresh; before = new_before p Success m pending h.before }
-
-pub new_lost : (p : OutcomeWord) (m : Moment) (kept further pending : List Asked) → IsNewAt p kept pending → AllByRecursion (λ s. BeginsWith (p ++ Success ∷ []) s.0) further → IsNewAt (p ++ Failure ∷ []) (kept ++ further) ((p, m) ∷ pending)
-new_lost p m kept further pending h k =
-    record {
-      fresh =
-          all_and (λ s. BeginsWith (p ++ Failure ∷ []) s.0 → ⊥) kept further (still_fresh p Failure kept h.fresh)
-          (all_as (λ s. BeginsWith (p ++ Success ∷ []) s.0) (λ s. BeginsWith (p ++ Failure ∷ []) s.0 → ⊥) further (λ s a b. won_or_lost p s.0 a b) k);
-      before = new_before p Failure m pending h.before;
-    }
+-- a state for which no entry fits is unlike all
+none_like : (limits : Limits) (searched : List Searched) (entries : List Entry) (t : Asked) → AreKeptAs searched entries → NoneFits limits.step_bound limits.device_bound entries t.1 → AllByRecursion (λ s. IsUnlike limits s t) searched
+none_like limits [] entries t kept none = tt
+none_like limits (s ∷ searched) [] t kept none = absurd kept
+none_like limits (s ∷ searched) (e ∷ entries) t kept none =
+    (inl (λ like. none zero e refl (like_fits limits s e t.1 kept.0 like)), none_like limits searched entries t kept.1 (λ place other got. none (suc place) other got))
 
 -- ---- a state that is entered
 
@@ -91,94 +108,123 @@ met_as task p stop other m e h = subst (λ (x : Stop). StoppedAt task p x m) e h
 is_met : (task : Task) (p : OutcomeWord) (m : Moment) → StoppedAt task p Asks m → IsMet task (p, m)
 is_met task p m at = (ap (kind task) (sym (append-nil p)) ∙ sym (kind_settled (run_on task (p ++ []))) ∙ ap came_kind at.2, at)
 
-kept_unlike : (p : OutcomeWord) (m : Moment) (kept : List Asked) → AllByRecursion (λ s. BeginsWith p s.0 → ⊥) kept → AllByRecursion (λ s. IsUnlike s (p, m)) kept
-kept_unlike p m kept h = all_as (λ s. BeginsWith p s.0 → ⊥) (λ s. IsUnlike s (p, m)) kept (λ s k e. k ([], e ∙ sym (append-nil p))) h
-
-pending_unlike : (p : OutcomeWord) (m : Moment) (pending : List Asked) → AllByRecursion (λ s. length s.0 < length p) pending → AllByRecursion (IsUnlike (p, m)) pending
-pending_unlike p m pending h = all_as (λ s. length s.0 < length p) (IsUnlike (p, m)) pending (λ s l e. let a = ap length e in absurd (omega arith)) h
-
-module _ (task : Task) (p : OutcomeWord) (m : Moment) (kept pending : List Asked) (at : StoppedAt task p Asks m) (new_at : IsNewAt p kept pending) (old : Table) (entered : Entered task kept pending old) where
-  all_met : AllByRecursion (IsMet task) (kept ++ (p, m) ∷ pending)
-  all_met = all_insert (IsMet task) kept pending (p, m) entered.met (is_met task p m at)
-
-  no_two_alike : NoTwoAlike (kept ++ (p, m) ∷ pending)
-  no_two_alike = unlike_insert kept pending (p, m) entered.unlike (kept_unlike p m kept new_at.fresh) (pending_unlike p m pending new_at.before)
-
-  pub enters : (new : Table) → new.entries.items ≡ old.entries.items → new.visited ≡ old.visited + 1 → Entered task kept ((p, m) ∷ pending) new
-  enters new e v = record {
-    kept_as = entered.kept_as ∙ ap length (sym e);
-    many = let a = entered.many in omega arith;
-    met = all_met;
-    unlike = no_two_alike;
+module _ (names : List Text) (task : Task) (p : OutcomeWord) (m : Moment) (begun : List Asked) (at : StoppedAt task p Asks m) (by : ComesBy p begun) (old : Table) (has : HasEntered names task begun old)
+    (none : NoneFits task.limits.step_bound task.limits.device_bound old.entries.items m) where
+  one_more : AreApart names task has.0 ((p, m) ∷ begun)
+  one_more = record {
+    found = has.1.apart.found;
+    met = (is_met task p m at, has.1.apart.met);
+    unlike = has.1.apart.unlike;
+    anew = (none_like task.limits has.0 old.entries.items (p, m) has.1.kept_as none, has.1.apart.anew);
+    one_run = (by, has.1.apart.one_run);
   }
 
-  pub too_many : old.visited ≤ old.most → old.most ≤ old.visited → HasStates task (old.most + 1)
-  too_many l h = record {
-    states = kept ++ (p, m) ∷ pending;
-    many = let a = entered.many in let b = length-append kept ((p, m) ∷ pending) in omega arith;
-    met = all_met;
-    unlike = no_two_alike;
-  }
+  pub enters : (new : Table) → new.entries.items ≡ old.entries.items → new.flow ≡ old.flow → new.visited ≡ old.visited + 1 → HasEntered names task ((p, m) ∷ begun) new
+  enters new e f v = (
+    has.0,
+    record {
+      kept_as = subst (AreKeptAs has.0) (sym e) has.1.kept_as;
+      many = let a = has.1.many in omega arith;
+      apart = one_more;
+      asks = ap (λ (x : Flow). asks_in (nodes_shown x.nodes)) f ∙ has.1.asks;
+    },
+  )
+
+  pub too_many : old.visited ≤ old.most → old.most ≤ old.visited → ComesToStates names task (old.most + 1)
+  too_many l h = (has.0, (p, m) ∷ begun, (let a = has.1.many in omega arith), one_more)
 
 -- the answer that the table is full is passed on
-pub refused_as : {A : Type 0} (task : Task) (count : ℕ) (r : Result A SumError) (e : SumError) → r ≡ Err e → (e ≡ States → HasStates task count) → IfErr r (λ (x : SumError). x ≡ States → HasStates task count)
-refused_as {A} task count r e is h = subst (λ (x : Result A SumError). IfErr x (λ (y : SumError). y ≡ States → HasStates task count)) (sym is) h
+pub refused_as : {A : Type 0} (names : List Text) (task : Task) (count : ℕ) (r : Result A SumError) (e : SumError) → r ≡ Err e → (e ≡ States → ComesToStates names task count) → IfErr r (λ (x : SumError). x ≡ States → ComesToStates names task count)
+refused_as {A} names task count r e is h = subst (λ (x : Result A SumError). IfErr x (λ (y : SumError). y ≡ States → ComesToStates names task count)) (sym is) h
 
 -- ---- a state that was searched
 
-regrouped : (kept won lost pending : List Asked) (t : Asked) → ((kept ++ won) ++ lost) ++ t ∷ pending ≡ (kept ++ ((won ++ lost) ++ t ∷ [])) ++ pending
-regrouped kept won lost pending t =
-    sym (append_assoc ((kept ++ won) ++ lost) (t ∷ []) pending)
-    ∙ ap (λ (xs : List Asked). xs ++ pending) (ap (λ (xs : List Asked). xs ++ t ∷ []) (append_assoc kept won lost) ∙ append_assoc kept (won ++ lost) (t ∷ []))
+kept_more : (searched : List Searched) (entries : List Entry) (s : Searched) (e : Entry) → AreKeptAs searched entries → IsKeptAs s e → AreKeptAs (searched ++ s ∷ []) (entries ++ e ∷ [])
+kept_more [] [] s e h k = (k, tt)
+kept_more [] (x ∷ entries) s e h k = absurd h
+kept_more (x ∷ searched) [] s e h k = absurd h
+kept_more (x ∷ searched) (y ∷ entries) s e h k = (h.0, kept_more searched entries s e h.1 k)
 
-behind_both : (p : OutcomeWord) (m : Moment) (won lost : List Asked) → AllByRecursion (λ s. BeginsWith (p ++ Success ∷ []) s.0) won → AllByRecursion (λ s. BeginsWith (p ++ Failure ∷ []) s.0) lost → AllByRecursion (λ s. BeginsWith p s.0) ((won ++ lost) ++ (p, m) ∷ [])
-behind_both p m won lost h k =
-    all_and (λ s. BeginsWith p s.0) (won ++ lost) ((p, m) ∷ [])
-    (all_and (λ s. BeginsWith p s.0) won lost (all_as (λ s. BeginsWith (p ++ Success ∷ []) s.0) (λ s. BeginsWith p s.0) won (λ s b. begins_before p s.0 Success b) h) (all_as (λ s. BeginsWith (p ++ Failure ∷ []) s.0) (λ s. BeginsWith p s.0) lost (λ s b. begins_before p s.0 Failure b) k))
-    (begins_self p, tt)
+unlike_more : (limits : Limits) (searched : List Searched) (s : Searched) → NoTwoAlike limits searched → AllByRecursion (λ x. IsUnlike limits x s.asked) searched → NoTwoAlike limits (searched ++ s ∷ [])
+unlike_more limits [] s h k = (tt, tt)
+unlike_more limits (x ∷ searched) s h k = (all_and (λ other. IsUnlike limits x other.asked) searched (s ∷ []) h.0 (k.0, tt), unlike_more limits searched s h.1 k.1)
 
-pub gone_through : (task : Task) (p : OutcomeWord) (m : Moment) (kept won lost pending : List Asked) (old new : Table) (frames : List RunningFrame) (known : List Known) (steps devices place : ℕ) (shown : Summary)
-    → AllByRecursion (λ s. BeginsWith (p ++ Success ∷ []) s.0) won → AllByRecursion (λ s. BeginsWith (p ++ Failure ∷ []) s.0) lost
-    → Entered task ((kept ++ won) ++ lost) ((p, m) ∷ pending) old → IsKept old.entries.items new.entries.items frames known steps devices place shown → new.visited ≡ old.visited → HasEntered task p kept pending new
-gone_through task p m kept won lost pending old new frames known steps devices place shown h k entered is visited =
-    let same = regrouped kept won lost pending (p, m) in
-    record {
-      further = (won ++ lost) ++ (p, m) ∷ [];
-      behind = behind_both p m won lost h k;
-      entered =
-          record {
-            kept_as = let a = entered.kept_as in let b = ap length (append_assoc kept (won ++ lost) ((p, m) ∷ [])) in let c = ap length (append_assoc kept won lost) in let d = length-append (kept ++ (won ++ lost)) ((p, m) ∷ []) in let e = ap length is.1 in let f = length-append old.entries.items (is.0 ∷ []) in omega arith;
-            many = let a = entered.many in let b = ap length same in let c = length-append ((kept ++ won) ++ lost) ((p, m) ∷ pending) in let d = length-append (kept ++ ((won ++ lost) ++ (p, m) ∷ [])) pending in omega arith;
-            met = subst (AllByRecursion (IsMet task)) same entered.met;
-            unlike = subst NoTwoAlike same entered.unlike;
-          };
+pub gone_through : (names : List Text) (task : Task) (p : OutcomeWord) (m : Moment) (begun : List Asked) (old new : Table) (made : Flow) (node_words : List Text) (won lost : ℕ) (key_list : List Key) (devices place : ℕ) (shown : Summary)
+    → HasEntered names task ((p, m) ∷ begun) old → nodes_shown made.nodes ≡ nodes_shown old.flow.nodes ++ flow.Asks node_words won lost ∷ []
+    → IsKeptAt old.entries.items new.entries.items m key_list devices place shown → new.flow ≡ made → new.visited ≡ old.visited
+    → AreEnoughAt task.limits names m key_list → SummedFrom names task.limits Asks m shown → devices ≡ length m.log → HasEntered names task begun new
+gone_through names task p m begun old new made node_words won lost key_list devices place shown has nodes kept flows visited enough summed logged = (
+  searched,
+  record {
+    kept_as = subst (AreKeptAs searched) (sym kept.kept.1) (kept_more has.0 old.entries.items s e has.1.kept_as kept_as);
+    many = let a = has.1.many in let b = length-append has.0 (s ∷ []) in omega arith;
+    apart = record {
+      found = all_and (IsSearchedIn names task) has.0 (s ∷ []) has.1.apart.found (here, tt);
+      met = has.1.apart.met.1;
+      unlike = unlike_more task.limits has.0 s has.1.apart.unlike has.1.apart.anew.0;
+      anew = both_of (λ t. AllByRecursion (λ x. IsUnlike task.limits x t) has.0) (λ t. ComesBefore t.0 p) (λ t. AllByRecursion (λ x. IsUnlike task.limits x t) searched) begun
+          (λ t before comes. all_and (λ x. IsUnlike task.limits x t) has.0 (s ∷ []) before (inr comes, tt)) has.1.apart.anew.1 has.1.apart.one_run.0;
+      one_run = has.1.apart.one_run.1;
+    };
+    asks =
+        let a = ap (λ (x : Flow). asks_in (nodes_shown x.nodes)) flows in
+        let b = ap asks_in nodes in
+        let c = asks_append (nodes_shown old.flow.nodes) (flow.Asks node_words won lost ∷ []) in
+        let d = has.1.asks in
+        let f = length-append has.0 (s ∷ []) in
+        omega (arith, a, b, c, d, f);
+  },
+)
+  where
+    e : Entry
+    e = kept.kept.0
+
+    s : Searched
+    s = record { asked = (p, m); keys = key_list; to_come = summed.0 }
+
+    searched : List Searched
+    searched = has.0 ++ s ∷ []
+
+    kept_as : IsKeptAs s e
+    kept_as = record {
+      frames = ap reverse kept.kept.2 ∙ kept.frames;
+      known = subst (AllHold m) (sym kept.kept.3) kept.holds;
+      keys = ap keys_of kept.kept.3 ∙ kept.same;
+      steps = kept.kept.4;
+      devices = kept.kept.5 ∙ logged;
+      shown = kept.kept.6 ∙ summed.2;
     }
 
-pub none_further : (task : Task) (p : OutcomeWord) (kept pending : List Asked) (table : Table) → Entered task kept pending table → HasEntered task p kept pending table
-none_further task p kept pending table h = record { further = []; behind = tt; entered = subst (λ (xs : List Asked). Entered task xs pending table) (sym (append-nil kept)) h }
+    here : IsSearchedIn names task s
+    here = record { met = has.1.apart.met.0; enough = enough; sums = summed.1 }
 
-pub none_entered : (task : Task) (p : OutcomeWord) (kept pending : List Asked) (old new : Table) → new.entries.items ≡ old.entries.items → new.visited ≡ old.visited → Entered task kept pending old → HasEntered task p kept pending new
-none_entered task p kept pending old new e v h = none_further task p kept pending new (record {
-  kept_as = h.kept_as ∙ sym (ap length e);
-  many = h.many ∙ sym v;
-  met = h.met;
-  unlike = h.unlike;
-})
+-- no further state was entered
+pub none_entered : (names : List Text) (task : Task) (begun : List Asked) (old new : Table) → new.entries.items ≡ old.entries.items → asks_in (nodes_shown new.flow.nodes) ≡ asks_in (nodes_shown old.flow.nodes) → new.visited ≡ old.visited → HasEntered names task begun old → HasEntered names task begun new
+none_entered names task begun old new e asks v h = (
+  h.0,
+  record {
+    kept_as = subst (AreKeptAs h.0) (sym e) h.1.kept_as;
+    many = h.1.many ∙ sym v;
+    apart = h.1.apart;
+    asks = asks ∙ h.1.asks;
+  },
+)
 
 -- ---- the whole
 
-pub first_entered : (task : Task) (table : Table) → table.entries.items ≡ [] → table.visited ≡ 0 → Entered task [] [] table
-first_entered task table e v = record { kept_as = sym (ap length e); many = sym v; met = tt; unlike = tt }
+pub first_entered : (names : List Text) (task : Task) (table : Table) → table.entries.items ≡ [] → table.flow.nodes.items ≡ [] → table.visited ≡ 0 → HasEntered names task [] table
+first_entered names task table e f v = (
+  [],
+  record {
+    kept_as = subst (AreKeptAs []) (sym e) tt;
+    many = sym v;
+    apart = record { found = tt; met = tt; unlike = tt; anew = tt; one_run = tt };
+    asks = ap (λ ns. asks_in (map node_shown ns)) f;
+  },
+)
 
-pub first_new : IsNewAt [] [] []
-first_new = record { fresh = tt; before = tt }
+pub whole_states : (names : List Text) (task : Task) (table : Table) → HasEntered names task [] table → HasStates names task table.visited
+whole_states names task table h = (h.0, (let a = h.1.many in omega arith), h.1.apart)
 
-pub whole_states : (task : Task) (table : Table) → HasEntered task [] [] [] table → HasStates task table.visited
-whole_states task table h =
-    let same = append-nil h.further in
-    record {
-      states = h.further ++ [];
-      many = let a = h.entered.many in let b = ap length same in omega arith;
-      met = h.entered.met;
-      unlike = h.entered.unlike;
-    }
+pub whole_asks : (names : List Text) (task : Task) (table : Table) → HasEntered names task [] table → asks_in (nodes_shown table.flow.nodes) ≡ table.visited
+whole_asks names task table h = let a = h.1.many in let b = h.1.asks in omega arith

@@ -43,7 +43,10 @@ use Rattle.rehearse_reports.specs.ReportsShown.{keys_shown}
 use Rattle.rehearse_reports.proofs.AskedSame.{places_are_same}
 use Rattle.rehearse_reports.proofs.FollowingLemmas.{keys_of_both_outcomes}
 use Rattle.rehearse_reports.proofs.KnownLemmas.{agree_on_known}
-use Rattle.rehearse_endings.specs.Searching.{future, SummedFrom, seen_from, IsReached, IsEntry, AreEntries, IsKeptAt}
+use Rattle.rehearse_states.specs.PlaceNumbers.{place_number}
+use Rattle.std.proofs.lemmas.Option.{get_or_from_slice_get, slice_get_within}
+use Rattle.rehearse_endings.specs.Indexed.{AreNoted, Fits, IsNoted, IsTaken, LeadTo, NoneFits, NoneFrom, TakesOne}
+use Rattle.rehearse_endings.specs.Searching.{future, SummedFrom, seen_from, IsReached, IsEntry, AreEntries, IsFound, IsKeptAt}
 use Rattle.rehearse_endings.specs.Searched.{IsSearched}
 use Rattle.rehearse_endings.specs.declared.table.Future.{Future}
 use Rattle.rehearse_endings.specs.declared.table.Table.{Table}
@@ -199,34 +202,27 @@ module _ (names : List Text) (task : Task) (depth : ℕ) (m : Moment) (reached :
 
 -- ---- the table
 
--- if an entry is found, the table has it
-pub some_there : (es slice : List Entry) (i : ℕ) → slice ≡ es → true ≡ nat_lt i (length slice) → (o : Option Future) → MatchOption o ⊤ (λ f. es ≢ [])
-some_there es slice i same within None = tt
-some_there es slice i same within (Some f) = λ none. let l = ltb-true i (length slice) (sym within) in let a : length slice ≡ 0 = ap length (same ∙ none) in absurd (omega arith)
-
 -- an entry that fits
-module _ (names : List Text) (limits : Limits) (nodes : List Node) (e : Entry) (t : Moment) (depth : ℕ) (h : IsEntry names limits nodes e) (asks : IsAsking limits t) (log : length t.log ≡ depth) (frames : reverse e.frames.items ≡ t.frames) (known : AllHold t e.known.items)
-    (steps : FitsIf e.summary.cut_steps e.steps t.steps e.summary.steps limits.step_bound) (devices : FitsIf e.summary.cut_devices e.devices depth e.summary.devices limits.device_bound) where
+module _ (names : List Text) (limits : Limits) (nodes : List Node) (e : Entry) (t : Moment) (h : IsEntry names limits nodes e) (asks : IsAsking limits t) (fits : Fits limits.step_bound limits.device_bound e t) where
   fits_there : FitsByKeys limits (keys_of e.known.items) h.summary h.moment t
   fits_there =
       let m : Moment = h.moment in
       let kept : Summary = h.summary in
       let shown : summary_shown e.summary ≡ saturated_summary kept = h.shown in
-      let agree : AgreeOn (keys_of e.known.items) (state_at m []) (state_at t []) = agree_on_known m t e.known.items h.known known in
+      let agree : AgreeOn (keys_of e.known.items) (state_at m []) (state_at t []) = agree_on_known m t e.known.items h.known fits.known in
       let fits_steps : FitsIf kept.cut_steps m.steps t.steps kept.steps limits.step_bound =
-      subst (λ (x : Summary). FitsIf x.cut_steps m.steps t.steps x.steps limits.step_bound) shown (subst (λ (n : ℕ). FitsIf e.summary.cut_steps n t.steps e.summary.steps limits.step_bound) h.steps steps) in
+      subst (λ (x : Summary). FitsIf x.cut_steps m.steps t.steps x.steps limits.step_bound) shown (subst (λ (n : ℕ). FitsIf e.summary.cut_steps n t.steps e.summary.steps limits.step_bound) h.steps fits.steps) in
       let fits_devices : FitsIf kept.cut_devices (length m.log) (length t.log) kept.devices limits.device_bound =
       subst (λ (x : Summary). FitsIf x.cut_devices (length m.log) (length t.log) x.devices limits.device_bound) shown
-      (subst (λ (n : ℕ). FitsIf e.summary.cut_devices (length m.log) n e.summary.devices limits.device_bound) (sym log)
-      (subst (λ (n : ℕ). FitsIf e.summary.cut_devices n depth e.summary.devices limits.device_bound) h.devices devices)) in
+      (subst (λ (n : ℕ). FitsIf e.summary.cut_devices n (length t.log) e.summary.devices limits.device_bound) h.devices fits.devices) in
       record {
-        place = places_are_same limits m t h.asks asks (sym frames ∙ h.frames) (agree_fewer (asked_reads m) (keys_of e.known.items) (state_at m []) (state_at t []) h.asked agree);
+        place = places_are_same limits m t h.asks asks (sym fits.frames ∙ h.frames) (agree_fewer (asked_reads m) (keys_of e.known.items) (state_at m []) (state_at t []) h.asked agree);
         agree = agree;
         steps = fits_steps;
         devices = fits_devices;
       }
 
-  summed_there : (s : Summary) → s ≡ moved_by e.steps t.steps e.devices depth (summary_shown e.summary) → SummedFrom names limits Asks t s
+  summed_there : (s : Summary) → s ≡ moved_by e.steps t.steps e.devices (length t.log) (summary_shown e.summary) → SummedFrom names limits Asks t s
   summed_there s is =
       let m : Moment = h.moment in
       let kept : Summary = h.summary in
@@ -234,9 +230,8 @@ module _ (names : List Text) (limits : Limits) (nodes : List Node) (e : Entry) (
         moved_on m t kept,
         summaries_are_reused limits names m t (keys_of e.known.items) kept h.asks asks h.enough h.sums fits_there,
         is
-            ∙ ap (λ (n : ℕ). moved_by n t.steps e.devices depth (summary_shown e.summary)) h.steps
-            ∙ ap (λ (n : ℕ). moved_by m.steps t.steps n depth (summary_shown e.summary)) h.devices
-            ∙ ap (λ (n : ℕ). moved_by m.steps t.steps (length m.log) n (summary_shown e.summary)) (sym log)
+            ∙ ap (λ (n : ℕ). moved_by n t.steps e.devices (length t.log) (summary_shown e.summary)) h.steps
+            ∙ ap (λ (n : ℕ). moved_by m.steps t.steps n (length t.log) (summary_shown e.summary)) h.devices
             ∙ ap (λ (x : Summary). moved_by m.steps t.steps (length m.log) (length t.log) x) shown,
       )
 
@@ -246,22 +241,27 @@ module _ (names : List Text) (limits : Limits) (nodes : List Node) (e : Entry) (
       (draws_as nodes e.summary.place (seen_at limits h.moment) (seen_at limits t) (λ w. sym (nodes_are_reused limits names h.moment t (keys_of e.known.items) h.summary h.asks asks h.enough h.sums fits_there w)) h.draws)
 
   -- what a look-up in the table finds
-  pub look_there : (o : Option Future) (steps_now : ℕ) → steps_now ≡ t.steps → MatchOption o ⊤ (λ f. summary_shown f.summary ≡ moved_by e.steps steps_now e.devices depth (summary_shown e.summary)) → MatchOption o ⊤ (λ f. SummedFrom names limits Asks t (summary_shown f.summary))
-  look_there None steps_now at is = is
-  look_there (Some f) steps_now at is = summed_there (summary_shown f.summary) (is ∙ ap (λ (n : ℕ). moved_by e.steps n e.devices depth (summary_shown e.summary)) at)
+  found_there : (es : List Entry) (i : ℕ) (f : Future) → slice_get es i ≡ Some e → IsTaken e t f → IsFound names limits nodes es t f
+  found_there es i f got taken = record {
+    sums = summed_there (summary_shown f.summary) taken.sums;
+    draws = drawn_there f.summary.place taken.place;
+    keys = subst (AreEnoughAt limits names t) (sym taken.keys) (keys_are_reused limits names h.moment t (keys_of e.known.items) h.summary h.asks asks h.enough h.sums fits_there);
+    some = λ none. let l = slice_get_within es i e got in let a : length es ≡ 0 = ap length none in absurd (omega arith);
+  }
 
-  pub place_there : (o : Option Future) → MatchOption o ⊤ (λ f. f.summary.place ≡ e.summary.place) → MatchOption o ⊤ (λ f. Draws nodes f.summary.place (seen_at limits t))
-  place_there None is = is
-  place_there (Some f) is = drawn_there f.summary.place is
+entry_in : (names : List Text) (limits : Limits) (nodes : List Node) (es : List Entry) (i : ℕ) (e : Entry) → slice_get es i ≡ Some e → AreEntries names limits nodes es → IsEntry names limits nodes e
+entry_in names limits nodes es i e got all = subst (IsEntry names limits nodes) (get_or_from_slice_get es i e e got) (all i e (slice_get_within es i e got))
 
-  pub keys_there : (o : Option Future) → MatchOption o ⊤ (λ f. keys_shown f.keys.items ≡ keys_of e.known.items) → MatchOption o ⊤ (λ f. AreEnoughAt limits names t (keys_shown f.keys.items))
-  keys_there None is = is
-  keys_there (Some f) is =
-      subst (AreEnoughAt limits names t) (sym is) (keys_are_reused limits names h.moment t (keys_of e.known.items) h.summary h.asks asks h.enough h.sums fits_there)
-
-pub entry_in : (names : List Text) (limits : Limits) (nodes : List Node) (es slice : List Entry) (i : ℕ) (e : Entry) → slice ≡ es → true ≡ nat_lt i (length slice) → e ≡ get_or slice i e → AreEntries names limits nodes es → IsEntry names limits nodes e
-entry_in names limits nodes es slice i e same within is all =
-    subst (IsEntry names limits nodes) (sym is) ((subst (AreEntries names limits nodes) (sym same) all) i e (ltb-true i (length slice) (sym within)))
+-- what a look-up in the table finds, and if it finds nothing, no entry fits
+pub looked_up : (names : List Text) (limits : Limits) (nodes : List Node) (table : Table) (t : Moment) (number : ℕ) → AreEntries names limits nodes table.entries.items → AreNoted table → IsAsking limits t → number ≡ place_number t.frames
+    → (o : Option Future) → MatchOption o (NoneFrom limits.step_bound limits.device_bound table t number 0) (TakesOne limits.step_bound limits.device_bound table.entries.items t)
+    → MatchOption o (NoneFits limits.step_bound limits.device_bound table.entries.items t) (IsFound names limits nodes table.entries.items t)
+looked_up names limits nodes table t number all noted asks is None none = λ place e got fits.
+    let here : IsNoted table table.entries.items place e = noted place e got in
+    let same : place_number (reverse e.frames.items) ≡ number = ap place_number fits.frames ∙ sym is in
+    none place e e.known.items got (let l = here.short in omega arith) (subst (λ (n : ℕ). LeadTo table table.entries.items n 0 e.known.items place) same here.leads) fits.known fits
+looked_up names limits nodes table t number all noted asks is (Some f) takes =
+    found_there names limits nodes takes.1 t (entry_in names limits nodes table.entries.items takes.0 takes.1 takes.2 all) asks takes.3 table.entries.items takes.0 f takes.2 takes.4
 
 module _ (names : List Text) (limits : Limits) (nodes : List Node) where
   one_at : (e : Entry) → IsEntry names limits nodes e → (n : ℕ) (d : Entry) → n < 1 → IsEntry names limits nodes (get_or (e ∷ []) n d)
@@ -399,7 +399,8 @@ searched_behind names task stop r here done last before after f is returns h =
       begun = omega (arith, a, begun, begun_last);
       room = h.room;
       most = h.most;
-      entered = λ p kept pending at new entered. h.entered p kept pending (subst (λ (m : Moment). StoppedAt task p stop m) (sym present) at) new entered;
+      noted = h.noted;
+      entered = λ p begun at by entered. h.entered p begun (subst (λ (m : Moment). StoppedAt task p stop m) (sym present) at) by entered;
     }
 
 -- at the first mark of a state

@@ -1,3 +1,5 @@
+pub mod Numbers
+pub mod Indexed
 pub mod Searching
 pub mod States
 pub mod Searched

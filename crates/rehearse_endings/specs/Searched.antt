@@ -11,7 +11,8 @@ use Rattle.rehearse_reuse.specs.DrawnRuns.{Draws}
 use Rattle.rehearse_states.specs.Drawing.{HasMore, nodes_shown}
 use Rattle.rehearse_states.specs.RowsShown.{summary_shown}
 use Rattle.rehearse_endings.specs.Searching.{SummedFrom, seen_from, AreEntries}
-use Rattle.rehearse_endings.specs.States.{Asked, Entered, IsNewAt, HasEntered}
+use Rattle.rehearse_endings.specs.Indexed.{AreNoted}
+use Rattle.rehearse_endings.specs.States.{Asked, ComesBy, HasEntered}
 use Rattle.rehearse_reports.specs.Following.{AreEnoughAtStop}
 use Rattle.rehearse_reports.specs.ReportsShown.{keys_shown}
 use Rattle.rehearse_endings.specs.declared.table.Future.{Future}
@@ -29,4 +30,5 @@ pub record IsSearched (names : List Text) (task : Task) (stop : Stop) (old new :
   pub begun : new.begun + 2 * before.visited * most_steps ≤ old.begun + 2 * after.visited * most_steps
   pub room : after.visited ≤ after.most
   pub most : after.most ≡ before.most
-  pub entered : (p : OutcomeWord) (kept pending : List Asked) → StoppedAt task p stop old.present → IsNewAt p kept pending → Entered task kept pending before → HasEntered task p kept pending after
+  pub noted : AreNoted after
+  pub entered : (p : OutcomeWord) (begun : List Asked) → StoppedAt task p stop old.present → ComesBy p begun → HasEntered names task begun before → HasEntered names task begun after

@@ -1,5 +1,5 @@
 -- The search through the states in which device commands ask. Ours.
-use Rattle.std.specs.Prelude.{◌≡◌, ℕ, List, [], ◌∷◌, ◌++◌, length, reverse, All}
+use Rattle.std.specs.Prelude.{◌≡◌, ◌≢◌, ℕ, List, [], ◌∷◌, ◌++◌, length, reverse, All}
 use Rattle.bootstore_state.specs.Moment.{Moment, RunningFrame}
 use Rattle.rehearse_terms.specs.Outcomes.{OutcomeWord}
 use Rattle.rehearse_terms.specs.State.{Text}
@@ -16,6 +16,7 @@ use Rattle.rehearse_reads.specs.Keys.{Key, AreAmong}
 use Rattle.rehearse_frames.specs.KeysToCome.{AreEnoughAt}
 use Rattle.rehearse_reports.specs.Asked.{asked_reads}
 use Rattle.rehearse_reports.specs.Known.{AllHold, keys_of}
+use Rattle.rehearse_reports.specs.ReportsShown.{keys_shown}
 use Rattle.rehearse_reports.specs.declared.known.Known.{Known}
 use Rattle.rehearse_states.specs.Flow.{Node, Seen, asked_in}
 use Rattle.rehearse_reuse.specs.DrawnRuns.{Draws, seen_behind, seen_at}
@@ -23,6 +24,7 @@ use Rattle.rehearse_states.specs.Summaries.{Summary}
 use Rattle.rehearse_reuse.specs.SummedRuns.{Summed, SumsAt}
 use Rattle.rehearse_states.specs.RowsShown.{summary_shown, saturated_summary}
 use Rattle.rehearse_endings.specs.declared.table.Entry.{Entry}
+use Rattle.rehearse_endings.specs.declared.table.Future.{Future}
 
 -- what is to come of a text that has stopped
 abbrev pub future : Limits → Stop → Moment → OutcomeWord → Came
@@ -59,6 +61,13 @@ pub record IsEntry (names : List Text) (limits : Limits) (nodes : List Node) (e 
 
 abbrev pub AreEntries : (names : List Text) → Limits → List Node → List Entry → Type 0
 AreEntries names limits nodes entries = All (IsEntry names limits nodes) entries
+
+-- what was found of a moment at which a device command asks, in the table
+pub record IsFound (names : List Text) (limits : Limits) (nodes : List Node) (entries : List Entry) (m : Moment) (f : Future) : Type 0 where
+  pub sums : SummedFrom names limits Asks m (summary_shown f.summary)
+  pub draws : Draws nodes f.summary.place (seen_at limits m)
+  pub keys : AreEnoughAt limits names m (keys_shown f.keys.items)
+  pub some : entries ≢ []
 
 -- one more entry
 abbrev pub IsKept : (old new : List Entry) → List RunningFrame → List Known → (steps devices place : ℕ) → Summary → Type 0

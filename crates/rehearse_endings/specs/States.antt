@@ -1,11 +1,22 @@
 -- The states in which device commands ask, and to which the runs of a task come. Ours.
-use Rattle.std.specs.Prelude.{◌≡◌, ◌≢◌, ℕ, ◌+◌, ◌<◌, List, [], ◌∷◌, ◌++◌, length}
+use Rattle.std.specs.Prelude.{◌≡◌, ℕ, ◌+◌, List, [], ◌∷◌, ◌++◌, length, reverse, ◌⊎◌}
 use Rattle.std.specs.List.{AllByRecursion}
 use Rattle.bootstore_state.specs.Moment.{Moment}
-use Rattle.rehearse_terms.specs.Outcomes.{OutcomeWord, Short}
+use Rattle.bootstore_state.specs.StoredState.{state_at}
+use Rattle.rehearse_terms.specs.Outcomes.{OutcomeWord, Outcome, Short}
+use Rattle.rehearse_terms.specs.State.{Text}
+use Rattle.rehearse_rules.specs.Execution.{Limits}
 use Rattle.rehearse_rules.specs.Runs.{Task, kind}
 use Rattle.rehearse_machine.specs.declared.rehearsal.Stop.TheVariants.{Asks}
 use Rattle.rehearse_machine.specs.StoppedTexts.{StoppedAt}
+use Rattle.rehearse_reads.specs.Keys.{Key, AgreeOn}
+use Rattle.rehearse_frames.specs.KeysToCome.{AreEnoughAt}
+use Rattle.rehearse_reports.specs.Known.{AllHold, keys_of}
+use Rattle.rehearse_reuse.specs.SummedRuns.{FitsIf, SumsAt}
+use Rattle.rehearse_states.specs.Drawing.{asks_in, nodes_shown}
+use Rattle.rehearse_states.specs.RowsShown.{summary_shown, saturated_summary}
+use Rattle.rehearse_states.specs.Summaries.{Summary}
+use Rattle.rehearse_endings.specs.declared.table.Entry.{Entry}
 use Rattle.rehearse_endings.specs.declared.table.Table.{Table}
 
 -- a state in which a device command asks, and the outcomes that lead to it
@@ -16,42 +27,88 @@ Asked = OutcomeWord × Moment
 abbrev pub IsMet : Task → Asked → Type 0
 IsMet task s = (kind task s.0 ≡ Short) × StoppedAt task s.0 Asks s.1
 
--- different outcomes led to the two states
-abbrev pub IsUnlike : Asked → Asked → Type 0
-IsUnlike s t = s.0 ≢ t.0
+-- a state that was searched, keys that it was found to depend on, and what was found to come after it
+pub record Searched : Type 0 where
+  pub asked : Asked
+  pub keys : List Key
+  pub to_come : Summary
 
-abbrev pub NoTwoAlike : List Asked → Type 0
-NoTwoAlike [] = Unit {0}
-NoTwoAlike (s ∷ ss) = AllByRecursion (IsUnlike s) ss × NoTwoAlike ss
+-- runs of the task come to the state, the keys are enough for what is to come, and that is what the summary says
+pub record IsSearchedIn (names : List Text) (task : Task) (s : Searched) : Type 0 where
+  pub met : IsMet task s.asked
+  pub enough : AreEnoughAt task.limits names s.asked.1 s.keys
+  pub sums : SumsAt names task.limits s.asked.1 s.to_come
 
--- this many states, no two alike, to which runs of the task come
-pub record HasStates (task : Task) (count : ℕ) : Type 0 where
-  pub states : List Asked
-  pub many : length states ≡ count
-  pub met : AllByRecursion (IsMet task) states
-  pub unlike : NoTwoAlike states
+-- another state is at the same place, agrees on the keys of the one that was searched, and leaves room for what is to come
+pub record IsLike (limits : Limits) (s : Searched) (m : Moment) : Type 0 where
+  pub frames : m.frames ≡ s.asked.1.frames
+  pub agree : AgreeOn s.keys (state_at s.asked.1 []) (state_at m [])
+  pub steps : FitsIf s.to_come.cut_steps s.asked.1.steps m.steps s.to_come.steps limits.step_bound
+  pub devices : FitsIf s.to_come.cut_devices (length s.asked.1.log) (length m.log) s.to_come.devices limits.device_bound
+
+-- on a run the outcomes p come first, and later w
+abbrev pub ComesBefore : (p w : OutcomeWord) → Type 0
+ComesBefore p w = (d : Outcome) × (rest : OutcomeWord) × (w ≡ p ++ d ∷ rest)
+
+-- another state is not like one that was searched; or a run comes to the other one first, where fewer device commands were asked
+abbrev pub IsUnlike : Limits → Searched → Asked → Type 0
+IsUnlike limits s other = (IsLike limits s other.1 → ⊥) ⊎ ComesBefore other.0 s.asked.0
+
+-- each is unlike those before it
+abbrev pub NoTwoAlike : Limits → List Searched → Type 0
+NoTwoAlike limits [] = Unit {0}
+NoTwoAlike limits (s ∷ ss) = AllByRecursion (λ other. IsUnlike limits s other.asked) ss × NoTwoAlike limits ss
+
+-- one run comes to all of these, to the first one last
+abbrev pub AreOnOneRun : List Asked → Type 0
+AreOnOneRun [] = Unit {0}
+AreOnOneRun (t ∷ ts) = AllByRecursion (λ other. ComesBefore other.0 t.0) ts × AreOnOneRun ts
+
+-- states that were searched, and states on one run whose search has begun: runs of the task come to all of them, and no two are
+-- alike
+pub record AreApart (names : List Text) (task : Task) (searched : List Searched) (begun : List Asked) : Type 0 where
+  pub found : AllByRecursion (IsSearchedIn names task) searched
+  pub met : AllByRecursion (IsMet task) begun
+  pub unlike : NoTwoAlike task.limits searched
+  pub anew : AllByRecursion (λ t. AllByRecursion (λ s. IsUnlike task.limits s t) searched) begun
+  pub one_run : AreOnOneRun begun
+
+-- this many states, no two alike, to which runs of the task come, each with what is to come after it
+abbrev pub HasStates : (names : List Text) → Task → (count : ℕ) → Type 0
+HasStates names task count = (searched : List Searched) × (length searched ≡ count) × AreApart names task searched []
+
+-- this many, of which the last ones are on one run
+abbrev pub ComesToStates : (names : List Text) → Task → (count : ℕ) → Type 0
+ComesToStates names task count =
+    (searched : List Searched) × (begun : List Asked) × (length searched + length begun ≡ count) × AreApart names task searched begun
 
 -- ---- while the search goes on
 
--- the states that have entries, in the order of the entries, and the states that were entered but not searched to the
--- end
-pub record Entered (task : Task) (kept pending : List Asked) (table : Table) : Type 0 where
-  pub kept_as : length kept ≡ length table.entries.items
-  pub many : length kept + length pending ≡ table.visited
-  pub met : AllByRecursion (IsMet task) (kept ++ pending)
-  pub unlike : NoTwoAlike (kept ++ pending)
+-- the entry of a state that was searched
+pub record IsKeptAs (s : Searched) (e : Entry) : Type 0 where
+  pub frames : reverse e.frames.items ≡ s.asked.1.frames
+  pub known : AllHold s.asked.1 e.known.items
+  pub keys : keys_of e.known.items ≡ s.keys
+  pub steps : e.steps ≡ s.asked.1.steps
+  pub devices : e.devices ≡ length s.asked.1.log
+  pub shown : summary_shown e.summary ≡ saturated_summary s.to_come
 
--- the outcomes start with the outcomes of p
-abbrev pub BeginsWith : (p w : OutcomeWord) → Type 0
-BeginsWith p w = (rest : OutcomeWord) × (w ≡ p ++ rest)
+abbrev pub AreKeptAs : List Searched → List Entry → Type 0
+AreKeptAs [] [] = Unit {0}
+AreKeptAs (s ∷ ss) (e ∷ es) = IsKeptAs s e × AreKeptAs ss es
+AreKeptAs _ _ = ⊥
 
--- the search has come to the outcomes p: it has entered no state after them, and the pending states are before them
-pub record IsNewAt (p : OutcomeWord) (kept pending : List Asked) : Type 0 where
-  pub fresh : AllByRecursion (λ s. BeginsWith p s.0 → ⊥) kept
-  pub before : AllByRecursion (λ s. length s.0 < length p) pending
+-- the states that have entries, in the order of the entries, and the states that were entered but not searched to the end; a
+-- node asks for each entry
+pub record Entered (names : List Text) (task : Task) (searched : List Searched) (begun : List Asked) (table : Table) : Type 0 where
+  pub kept_as : AreKeptAs searched table.entries.items
+  pub many : length searched + length begun ≡ table.visited
+  pub apart : AreApart names task searched begun
+  pub asks : asks_in (nodes_shown table.flow.nodes) ≡ length searched
 
--- the search is done with everything that starts with p
-pub record HasEntered (task : Task) (p : OutcomeWord) (kept pending : List Asked) (table : Table) : Type 0 where
-  pub further : List Asked
-  pub behind : AllByRecursion (λ s. BeginsWith p s.0) further
-  pub entered : Entered task (kept ++ further) pending table
+abbrev pub HasEntered : (names : List Text) → Task → (begun : List Asked) → Table → Type 0
+HasEntered names task begun table = (searched : List Searched) × Entered names task searched begun table
+
+-- the search has come to the outcomes p, by the states that it has begun
+abbrev pub ComesBy : (p : OutcomeWord) → (begun : List Asked) → Type 0
+ComesBy p begun = AllByRecursion (λ t. ComesBefore t.0 p) begun

@@ -6,9 +6,10 @@ use Rattle.rehearse_terms.specs.State.{Text}
 use Rattle.rehearse_rules.specs.Runs.{Task, all_runs}
 use Rattle.rehearse_machine.specs.Tasks.{SourceShown}
 use Rattle.rehearse_states.specs.Endings.{endings}
+use Rattle.rehearse_states.specs.Drawing.{asks_in}
 use Rattle.rehearse_states.specs.Flow.{Node, IsFlow, flow_text}
 use Rattle.rehearse_states.specs.EndingLines.{endings_text, failing}
-use Rattle.rehearse_endings.specs.States.{HasStates}
+use Rattle.rehearse_endings.specs.States.{ComesToStates, HasStates}
 use Rattle.rehearse_endings.specs.declared.telling.EndingsAsk.{EndingsAsk}
 use Rattle.rehearse_rules.specs.declared.rehearse_error.RehearseError.{RehearseError}
 use Rattle.rehearse_rules.specs.declared.rehearse_error.RehearseError.TheVariants.{NoSuchVariable, States, Write, Memory}
@@ -21,26 +22,31 @@ names_of ask = map (λ n. n.now) ask.names.now
 abbrev pub source_of : EndingsAsk → SourceShown
 source_of ask = record { name = ask.name.now; given = option_bytes ask.text }
 
+-- a flow of the task has a node that asks for each of so many states
+abbrev pub IsFlowOf : Task → (states : ℕ) → List Node → Type 0
+IsFlowOf task states nodes = IsFlow task nodes × (asks_in nodes ≡ states)
+
 -- the flow of the task, or how its runs end, and the values of these variables there; its runs come to this many states
 abbrev pub Tells : (names : List Text) → (flow : Bool) → Task → (states : ℕ) → Text → Type 0
-Tells names true task states text = (nodes : List Node) × IsFlow task nodes × (text ≡ flow_text nodes)
-Tells names false task states text = text ≡ endings_text names (failing task) (endings names task) (length (all_runs task)) states
+Tells names true task states text = (nodes : List Node) × IsFlowOf task states nodes × (text ≡ flow_text nodes)
+Tells names false task states text = (nodes : List Node) × IsFlowOf task states nodes
+    × (text ≡ endings_text names (failing task) (endings names task) (length (all_runs task)) states)
 
 -- the lines of the task; its runs come to this many states, no two alike, and to no more than allowed
 abbrev pub AreLines : (names : List Text) → (flow : Bool) → (most : ℕ) → Option Task → Text → Type 0
 AreLines names flow most found text = (task : Task) × (states : ℕ) × (found ≡ Some task) × (states ≤ most)
-    × HasStates task states × Tells names flow task states text
+    × HasStates names task states × Tells names flow task states text
 
 -- the runs of the task come to more states than allowed, no two of them alike
-abbrev pub HasMoreStates : (most : ℕ) → Option Task → Type 0
-HasMoreStates most found = (task : Task) × (found ≡ Some task) × HasStates task (most + 1)
+abbrev pub HasMoreStates : (names : List Text) → (most : ℕ) → Option Task → Type 0
+HasMoreStates names most found = (task : Task) × (found ≡ Some task) × ComesToStates names task (most + 1)
 
 -- why there are no lines
-abbrev pub IsUntold : (most : ℕ) → Option Task → RehearseError → Type 0
-IsUntold most found NoSuchVariable = found ≡ None
-IsUntold most found States = HasMoreStates most found
-IsUntold most found Memory = Unit {0}
-IsUntold most found _ = ⊥
+abbrev pub IsUntold : (names : List Text) → (most : ℕ) → Option Task → RehearseError → Type 0
+IsUntold names most found NoSuchVariable = found ≡ None
+IsUntold names most found States = HasMoreStates names most found
+IsUntold names most found Memory = Unit {0}
+IsUntold names most found _ = ⊥
 
 -- the lines were written
 abbrev pub TellsEndings : (found : Option Task) → EndingsAsk → (old new : Sink) → Type 0
@@ -54,7 +60,7 @@ BreaksOff found ask old new =
 
 abbrev pub RefusesEndings : (found : Option Task) → EndingsAsk → (old new : Sink) → RehearseError → Type 0
 RefusesEndings found ask old new NoSuchVariable = (found ≡ None) × (new ≡ old)
-RefusesEndings found ask old new States = HasMoreStates ask.states found × (new ≡ old)
+RefusesEndings found ask old new States = HasMoreStates (names_of ask) ask.states found × (new ≡ old)
 RefusesEndings found ask old new Write = BreaksOff found ask old new
 RefusesEndings found ask old new Memory = new ≡ old
 RefusesEndings found ask old new _ = ⊥

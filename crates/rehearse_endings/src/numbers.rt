@@ -1,32 +1,67 @@
-//! The numbers under which the table keeps states: of a place, and of what is known there so far. Only the time of a
-//! look-up depends on them.
+//! The numbers under which the table keeps states: of a place, and of what is known there so far.
+ghost use Rattle.std.specs.Prelude.{◌≡◌, IsTrue};
+ghost use Rattle.rehearse_reports.specs.Known.{key_of, value_shown};
+ghost use Rattle.rehearse_endings.specs.Numbers.{mixed_answer, mixed_flag, mixed_known, mixed_value};
 
 use rehearse_reports::Known;
 use rehearse_states::{mix, mix_text, mix_words};
 
 /// Adds a value, or that there is none.
-fn mix_value(hash: u64, value: &Option<Vec<u8>>) -> u64 {
+fn mix_value(hash: u64, value: &Option<Vec<u8>>) -> u64
+    ensures { result ≡ mixed_value hash (value_shown value.now) }
+{
     match value {
         Some(bytes) => mix_text(mix(hash, 1), bytes),
         None => mix(hash, 0),
     }
 }
 
+/// Adds whether something is so.
+fn mix_flag(hash: u64, is_so: bool) -> u64
+    ensures { result ≡ mixed_flag hash is_so }
+{
+    if is_so { mix(hash, 1) } else { mix(hash, 0) }
+}
+
 /// Adds an answer, or that there is none.
-fn mix_answer(hash: u64, answer: Option<bool>) -> u64 {
+fn mix_answer(hash: u64, answer: Option<bool>) -> u64
+    ensures { result ≡ mixed_answer hash answer }
+{
     match answer {
-        Some(success) => mix(mix(hash, 1), u64::from(success)),
+        Some(success) => mix_flag(mix(hash, 1), success),
         None => mix(hash, 0),
     }
 }
 
+/// Whether both are known of the same key.
+pub(crate) fn have_one_key(one: &Known, other: &Known) -> bool
+    ensures { IsTrue result → key_of one.now ≡ key_of other.now }
+{
+    match (one, other) {
+        (Known::Environment(name, _), Known::Environment(other, _)) => {
+            name.as_slice() == other.as_slice()
+        }
+        (Known::Local(name, _), Known::Local(other, _)) => name.as_slice() == other.as_slice(),
+        (Known::AnswerTo(call, _), Known::AnswerTo(other, _)) => {
+            call.as_slice() == other.as_slice()
+        }
+        (Known::Succeeded(start, _), Known::Succeeded(other, _)) => {
+            start.as_slice() == other.as_slice()
+        }
+        (Known::Status(_), Known::Status(_)) => true,
+        _ => false,
+    }
+}
+
 /// Adds a key and what is known at it. The first part tells the kind of the key.
-pub(crate) fn mix_known(hash: u64, known: &Known) -> u64 {
+pub(crate) fn mix_known(hash: u64, known: &Known) -> u64
+    ensures { result ≡ mixed_known hash known.now }
+{
     match known {
         Known::Environment(name, value) => mix_value(mix_text(mix(hash, 1), name), value),
         Known::Local(name, value) => mix_value(mix_text(mix(hash, 2), name), value),
         Known::AnswerTo(call, answer) => mix_answer(mix_words(mix(hash, 3), call), *answer),
-        Known::Succeeded(start, has) => mix(mix_words(mix(hash, 4), start), u64::from(*has)),
+        Known::Succeeded(start, has) => mix_flag(mix_words(mix(hash, 4), start), *has),
         Known::Status(status) => mix(mix(hash, 5), u64::from(*status)),
     }
 }

@@ -8,9 +8,11 @@ ghost use Rattle.rehearse_states.specs.RowsShown.{rows_shown, saturated, summary
 ghost use Rattle.rehearse_states.specs.Endings.{endings};
 ghost use Rattle.rehearse_reports.specs.ReportsShown.{keys_shown};
 ghost use Rattle.rehearse_states.specs.Flow.{IsFlow};
-ghost use Rattle.rehearse_states.specs.Drawing.{nodes_shown};
+ghost use Rattle.rehearse_states.specs.Drawing.{asks_in, nodes_shown};
 ghost use Rattle.rehearse_endings.specs.Searching.{IsReached, AreEntries, IsKeptAt};
-ghost use Rattle.rehearse_endings.specs.States.{Asked, HasStates, Entered, IsNewAt};
+ghost use Rattle.rehearse_endings.specs.Indexed.{AreNoted};
+ghost use Rattle.rehearse_endings.specs.States.{Asked, ComesBy, ComesToStates, HasEntered, HasStates};
+ghost use Rattle.rehearse_states.specs.PlaceNumbers.{place_number};
 ghost use Rattle.rehearse_endings.specs.Searched.{IsSearched};
 ghost use Rattle.rehearse_endings.specs.declared.sum_error.SumError.TheVariants.{Memory, States};
 
@@ -56,10 +58,12 @@ fn keep<S: Store>(
     devices: u32,
     summary: &Summary,
 ) -> Result<Vec<Key>, SumError>
+    requires { hash ≡ place_number (S.record_of store.now).present.frames }
     ensures err { IfErr result (λ e. e ≡ Memory) }
     ensures keys { IfOk result (λ kept. keys_shown kept.items ≡ keys_shown keys.items) }
     ensures kept { OnOk result (IsKeptAt table.old.entries.items table.new.entries.items
         (S.record_of store.now).present (keys_shown keys.items) devices summary.now.place (summary_shown summary.now)) }
+    ensures noted { OnOk result (AreNoted table.old → AreNoted table.new) }
     ensures flow { table.new.flow ≡ table.old.flow }
     ensures visited { table.new.visited ≡ table.old.visited }
     ensures most { table.new.most ≡ table.old.most }
@@ -85,16 +89,17 @@ fn summed<S: Store>(
         (S.record_of store.old).present }
     requires table { AreEntries (map (λ n. n.now) names.now) (task_in rehearsal.now).limits (nodes_shown table.old.flow.nodes)
         table.old.entries.items }
+    requires noted { AreNoted table.old }
     requires within { (S.record_of store.old).present.steps ≤ most_steps }
     requires bound { (task_in rehearsal.now).limits.device_bound < 2 ^ 32 }
     requires begun { (S.record_of store.old).begun ≤ (2 * table.old.visited + 1) * most_steps }
     requires room { table.old.visited ≤ table.old.most }
     ensures searched { IfOk result (λ f. IsSearched (map (λ n. n.now) names.now) (task_in rehearsal.now) stop
         (S.record_of store.old) (S.record_of store.new) table.old table.new f) }
-    ensures refused { (p : OutcomeWord) (kept pending : List Asked)
-        → StoppedAt (task_in rehearsal.now) p stop (S.record_of store.old).present
-        → IsNewAt p kept pending → Entered (task_in rehearsal.now) kept pending table.old
-        → IfErr result (λ e. e ≡ States → HasStates (task_in rehearsal.now) (table.old.most + 1)) }
+    ensures refused { (p : OutcomeWord) (begun : List Asked)
+        → StoppedAt (task_in rehearsal.now) p stop (S.record_of store.old).present → ComesBy p begun
+        → HasEntered (map (λ n. n.now) names.now) (task_in rehearsal.now) begun table.old
+        → IfErr result (λ e. e ≡ States → ComesToStates (map (λ n. n.now) names.now) (task_in rehearsal.now) (table.old.most + 1)) }
 {
     let devices = logged(store);
     match stop {
@@ -163,7 +168,8 @@ fn summed<S: Store>(
 /// unexpected answers. Runs that leave other values of the named variables are told apart. The endings are in
 /// the order of their first runs. Enters no more states than allowed,
 /// and searches each once, so at most two stretches of steps start at a state. Returns `States` if
-/// the runs come to more states than allowed, no two of them alike. Errors: `Memory`, `States`.
+/// the runs come to more states than allowed, no two of them alike: at the same place, with the same at the keys
+/// that were found to be enough, and with room for the same runs. Errors: `Memory`, `States`.
 pub fn sum_endings<S: Store>(
     rehearsal: &Rehearsal<'_>,
     store: &mut S,
@@ -177,9 +183,11 @@ pub fn sum_endings<S: Store>(
         (endings (map (λ n. n.now) names.now) (task_in rehearsal.now))) }
     ensures flow { IfOk result (λ e. IsFlow (task_in rehearsal.now) (nodes_shown e.nodes)) }
     ensures states { IfOk result (λ e. e.states ≤ most_states) }
-    ensures met { IfOk result (λ e. HasStates (task_in rehearsal.now) e.states) }
-    ensures refused { IfErr result
-        (λ e. e ≡ States → HasStates (task_in rehearsal.now) (most_states + 1)) }
+    ensures met { IfOk result
+        (λ e. HasStates (map (λ n. n.now) names.now) (task_in rehearsal.now) e.states) }
+    ensures nodes { IfOk result (λ e. asks_in (nodes_shown e.nodes) ≡ e.states) }
+    ensures refused { IfErr result (λ e. e ≡ States
+        → ComesToStates (map (λ n. n.now) names.now) (task_in rehearsal.now) (most_states + 1)) }
     ensures once { IfOk result
         (λ e. (S.record_of store.new).begun ≤ (2 * e.states + 1) * most_steps) }
 {

@@ -1,19 +1,19 @@
 //! The table of the states in which device commands asked.
-ghost use Rattle.std.specs.Prelude.{◌≡◌, ◌≢◌, ◌≤◌, ◌<◌, ◌^◌, IfOk, IfErr, OnOk, MatchOption, IsTrue, length, map, reverse, [], ⊤};
-ghost use Rattle.rehearse_machine.specs.Machine.{IsAsking, asked_at};
+ghost use Rattle.std.specs.Prelude.{◌≡◌, ◌≢◌, ◌≤◌, ◌<◌, ◌+◌, ◌++◌, ◌∷◌, ◌^◌, IfOk, IfErr, OnOk, MatchOption, IsTrue, List, length, map, reverse, [], option_map, Some, ◌-◌};
+ghost use Rattle.std.specs.List.{slice_get};
+ghost use Rattle.rehearse_machine.specs.Machine.{IsAsking};
 ghost use Rattle.rehearse_machine.specs.MovesShown.{limits_of};
 ghost use Rattle.rehearse_reuse.specs.SummedRuns.{FitsIf, moved_by};
-ghost use Rattle.rehearse_machine.specs.declared.rehearsal.Stop.TheVariants.{Asks};
+ghost use Rattle.rehearse_states.specs.PlaceNumbers.{place_number};
 ghost use Rattle.rehearse_states.specs.RowsShown.{summary_shown};
-ghost use Rattle.rehearse_endings.specs.Searching.{SummedFrom, AreEntries, IsKept};
-ghost use Rattle.rehearse_frames.specs.KeysToCome.{AreEnoughAt};
-ghost use Rattle.rehearse_reports.specs.Known.{AllHold, keys_of};
+ghost use Rattle.rehearse_endings.specs.Searching.{AreEntries, IsFound, IsKept};
+ghost use Rattle.rehearse_endings.specs.Indexed.{AllOf, AreNoted, BeginWith, Fits, FitsNot, HasMoreWays, IsNumberBehind, KnowsNext, Leads, NoneBy, NoneFits, NoneFrom, NotesOne, TakesOne, WayIsNoted, known_in, noted, ways};
+ghost use Rattle.rehearse_reports.specs.Known.{AllHold, key_of, keys_of};
 ghost use Rattle.rehearse_reports.specs.ReportsShown.{keys_shown};
-ghost use Rattle.rehearse_reuse.specs.DrawnRuns.{Draws, seen_at};
 ghost use Rattle.rehearse_states.specs.Drawing.{nodes_shown};
 ghost use Rattle.rehearse_endings.specs.declared.sum_error.SumError.TheVariants.{Memory};
 
-use crate::numbers::mix_known;
+use crate::numbers::{have_one_key, mix_known};
 use crate::sum_error::SumError;
 use bootstore_state::{Frame, Store, StoreError};
 use device_list::Devices;
@@ -49,8 +49,10 @@ pub(crate) struct Table {
     /// The states whose runs are all counted.
     pub(crate) entries: Vec<Entry>,
     /// By the number of a place and of the first things that are known there, where an entry is that knows more. What
-    /// a state reads goes by what it has read before: of states that know the same so far, the next key is the same.
+    /// a state reads goes by what it has read before: of states that know the same so far, the next key is mostly the same.
     pub(crate) onward: HashMap<u64, usize>,
+    /// Where further entries of this number are, whose next keys are others.
+    pub(crate) forks: HashMap<u64, Vec<usize>>,
     /// By the number of a place and of all that is known there, where the entries are.
     pub(crate) alike: HashMap<u64, Vec<usize>>,
     /// How many keys an entry has at most.
@@ -73,10 +75,12 @@ impl Table {
         ensures flow { result.flow.nodes.items ≡ [] }
         ensures visited { result.visited ≡ 0 }
         ensures most { result.most ≡ most }
+        ensures noted { AreNoted result }
     {
         Table {
             entries: Vec::new(alloc),
             onward: HashMap::new(alloc),
+            forks: HashMap::new(alloc),
             alike: HashMap::new(alloc),
             longest: 0,
             flow: Flow::new(alloc),
@@ -88,6 +92,7 @@ impl Table {
     /// Enters one more state. Errors: `States`, exactly if as many states were entered as allowed.
     pub(crate) fn enter(&mut self) -> Result<(), SumError>
         ensures entries { self.new.entries.items ≡ self.old.entries.items }
+        ensures noted { AreNoted self.old → AreNoted self.new }
         ensures flow { self.new.flow ≡ self.old.flow }
         ensures most { self.new.most ≡ self.old.most }
         ensures visited { OnOk result (self.new.visited ≡ self.old.visited + 1) }
@@ -102,8 +107,8 @@ impl Table {
         Ok(())
     }
 
-    /// What is to come after the present state, with the values of variables, if an entry fits whose
-    /// place has this number. Errors: `Memory`.
+    /// What is to come after the present state, with the values of variables, if an entry fits. The place of the
+    /// state has this number, and its log so many device commands. Errors: `Memory`.
     pub(crate) fn find<S: Store>(
         &self,
         alloc: Global,
@@ -116,90 +121,189 @@ impl Table {
     ) -> Result<Option<Future>, StoreError>
         requires asks { IsAsking (limits_of devices.now bounds) (S.record_of store.now).present }
         requires depth { length (S.record_of store.now).present.log ≡ depth }
+        requires place { place ≡ place_number (S.record_of store.now).present.frames }
         requires table { AreEntries (map (λ n. n.now) names.now) (limits_of devices.now bounds) (nodes_shown self.now.flow.nodes)
             self.now.entries.items }
-        ensures sums { IfOk result
-            (λ found. MatchOption found ⊤
-            (λ f. SummedFrom (map (λ n. n.now) names.now) (limits_of devices.now bounds) Asks (S.record_of store.now).present
-            (summary_shown f.summary))) }
-        ensures draws { IfOk result
-            (λ found. MatchOption found ⊤
-            (λ f. Draws (nodes_shown self.now.flow.nodes) f.summary.place
-            (seen_at (limits_of devices.now bounds) (S.record_of store.now).present))) }
-        ensures keys { IfOk result
-            (λ found. MatchOption found ⊤
-            (λ f. AreEnoughAt (limits_of devices.now bounds) (map (λ n. n.now) names.now) (S.record_of store.now).present
-            (keys_shown f.keys.items))) }
-        ensures some { IfOk result
-            (λ found. MatchOption found ⊤ (λ f. self.now.entries.items ≢ [])) }
+        requires noted { AreNoted self.now }
+        ensures { IfOk result
+            (λ found. MatchOption found (NoneFits bounds.steps bounds.devices self.now.entries.items (S.record_of store.now).present)
+            (IsFound (map (λ n. n.now) names.now) (limits_of devices.now bounds) (nodes_shown self.now.flow.nodes)
+            self.now.entries.items (S.record_of store.now).present)) }
     {
-        let mut number = place;
-        for at in 0..self.longest {
-            let found = self.find_alike(alloc, store, devices, bounds, names, number, depth)?;
-            if found.is_some() {
-                return Ok(found);
-            }
-            let Some(next) = self.next_known(number, at) else {
-                return Ok(None);
-            };
-            let key = next.key(alloc)?;
-            let here = Known::at(alloc, store, key)?;
-            number = mix_known(number, &here);
-        }
-        self.find_alike(alloc, store, devices, bounds, names, number, depth)
+        let (_devices, _names) = (devices, names);
+        let found = self.look(alloc, store, bounds, place, 0, depth)?;
+        Ok(found)
     }
 
-    /// What an entry knows next that has so many keys in front, and this number with them.
-    fn next_known(&self, number: u64, at: usize) -> Option<&Known> {
-        let place = self.onward.get(&number)?;
-        let entry = self.entries.get(*place)?;
+    /// What is to come, if an entry fits to which what it knows leads from this number, of the place and of so many
+    /// things that are known there. Errors: `Memory`.
+    #[cycle(looking)]
+    fn look<S: Store>(
+        &self,
+        alloc: Global,
+        store: &S,
+        bounds: RunBounds,
+        number: u64,
+        from: usize,
+        depth: u32,
+    ) -> Result<Option<Future>, StoreError>
+        requires { length (S.record_of store.now).present.log ≡ depth }
+        ensures { IfOk result
+            (λ found. MatchOption found (NoneFrom bounds.steps bounds.devices self.now (S.record_of store.now).present number from)
+            (TakesOne bounds.steps bounds.devices self.now.entries.items (S.record_of store.now).present)) }
+    {
+        let mut number = number;
+        for at in from..self.longest {
+            if let Some(found) = self.find_alike(alloc, store, bounds, number, depth)? {
+                return Ok(Some(found));
+            }
+            if let Some(found) = self.look_aside(alloc, store, bounds, number, at, depth)? {
+                return Ok(Some(found));
+            }
+            let Some(place) = self.onward.get(&number) else {
+                return Ok(None);
+            };
+            let Some(next) = self.number_behind(alloc, store, number, *place, at)? else {
+                return Ok(None);
+            };
+            number = next;
+        }
+        let found = self.find_alike(alloc, store, bounds, number, depth)?;
+        Ok(found)
+    }
+
+    /// The same by the further keys that entries of this number know next. Errors: `Memory`.
+    #[cycle(looking)]
+    fn look_aside<S: Store>(
+        &self,
+        alloc: Global,
+        store: &S,
+        bounds: RunBounds,
+        number: u64,
+        at: usize,
+        depth: u32,
+    ) -> Result<Option<Future>, StoreError>
+        requires depth { length (S.record_of store.now).present.log ≡ depth }
+        requires within { at + 1 ≤ self.now.longest }
+        ensures { IfOk result
+            (λ found. MatchOption found (AllOf (noted self.now.forks number)
+            (NoneBy bounds.steps bounds.devices self.now (S.record_of store.now).present number at))
+            (TakesOne bounds.steps bounds.devices self.now.entries.items (S.record_of store.now).present)) }
+    {
+        let Some(places) = self.forks.get(&number) else {
+            return Ok(None);
+        };
+        for place in places {
+            if let Some(found) = self.look_behind(
+                alloc, store, bounds, number, *place, at, depth,
+            )? {
+                return Ok(Some(found));
+            }
+        }
+        Ok(None)
+    }
+
+    /// The same by what the entry at a place knows next. Errors: `Memory`.
+    #[cycle(looking)]
+    fn look_behind<S: Store>(
+        &self,
+        alloc: Global,
+        store: &S,
+        bounds: RunBounds,
+        number: u64,
+        place: usize,
+        at: usize,
+        depth: u32,
+    ) -> Result<Option<Future>, StoreError>
+        requires depth { length (S.record_of store.now).present.log ≡ depth }
+        requires within { at + 1 ≤ self.now.longest }
+        ensures { IfOk result
+            (λ found. MatchOption found (NoneBy bounds.steps bounds.devices self.now (S.record_of store.now).present number at place)
+            (TakesOne bounds.steps bounds.devices self.now.entries.items (S.record_of store.now).present)) }
+    {
+        let Some(next) = self.number_behind(alloc, store, number, place, at)? else {
+            return Ok(None);
+        };
+        let found = self.look(alloc, store, bounds, next, at + 1, depth)?;
+        Ok(found)
+    }
+
+    /// The number with what the present state has at the key that the entry at a place knows after so many
+    /// others, if it knows more. Errors: `Memory`.
+    fn number_behind<S: Store>(
+        &self,
+        alloc: Global,
+        store: &S,
+        number: u64,
+        place: usize,
+        at: usize,
+    ) -> Result<Option<u64>, StoreError>
+        ensures { IfOk result
+            (IsNumberBehind self.now.entries.items (S.record_of store.now).present number at place) }
+    {
+        let Some(known) = self.known_at(place, at) else {
+            return Ok(None);
+        };
+        let key = known.key(alloc)?;
+        let here = Known::at(alloc, store, key)?;
+        Ok(Some(mix_known(number, &here)))
+    }
+
+    /// What the entry at a place knows after so many other things.
+    fn known_at(&self, place: usize, at: usize) -> Option<&Known>
+        ensures { option_map (λ known. known.now) result ≡ known_in self.now.entries.items place at }
+    {
+        let Some(entry) = self.entries.get(place) else {
+            return None;
+        };
         entry.known.get(at)
     }
 
-    /// What is to come after the present state, if an entry under this number, of a place and of what is
-    /// known there, fits. Errors: `Memory`.
+    /// What is to come, if an entry of this number fits. Errors: `Memory`.
     fn find_alike<S: Store>(
         &self,
         alloc: Global,
         store: &S,
-        devices: &Devices,
         bounds: RunBounds,
-        names: &[&[u8]],
         number: u64,
         depth: u32,
     ) -> Result<Option<Future>, StoreError>
-        requires asks { IsAsking (limits_of devices.now bounds) (S.record_of store.now).present }
-        requires depth { length (S.record_of store.now).present.log ≡ depth }
-        requires table { AreEntries (map (λ n. n.now) names.now) (limits_of devices.now bounds) (nodes_shown self.now.flow.nodes)
-            self.now.entries.items }
-        ensures sums { IfOk result
-            (λ found. MatchOption found ⊤
-            (λ f. SummedFrom (map (λ n. n.now) names.now) (limits_of devices.now bounds) Asks (S.record_of store.now).present
-            (summary_shown f.summary))) }
-        ensures draws { IfOk result
-            (λ found. MatchOption found ⊤
-            (λ f. Draws (nodes_shown self.now.flow.nodes) f.summary.place
-            (seen_at (limits_of devices.now bounds) (S.record_of store.now).present))) }
-        ensures keys { IfOk result
-            (λ found. MatchOption found ⊤
-            (λ f. AreEnoughAt (limits_of devices.now bounds) (map (λ n. n.now) names.now) (S.record_of store.now).present
-            (keys_shown f.keys.items))) }
-        ensures some { IfOk result
-            (λ found. MatchOption found ⊤ (λ f. self.now.entries.items ≢ [])) }
+        requires { length (S.record_of store.now).present.log ≡ depth }
+        ensures { IfOk result
+            (λ found. MatchOption found (AllOf (noted self.now.alike number)
+            (FitsNot bounds.steps bounds.devices self.now.entries.items (S.record_of store.now).present))
+            (TakesOne bounds.steps bounds.devices self.now.entries.items (S.record_of store.now).present)) }
     {
-        let (_devices, _names) = (devices, names);
         let Some(places) = self.alike.get(&number) else {
             return Ok(None);
         };
         for place in places {
-            if let Some(entry) = self.entries.get(*place) {
-                if fits(store, bounds, entry, depth) {
-                    let found = moved(alloc, entry, store.steps(), depth)?;
-                    return Ok(found);
-                }
+            if let Some(entry) = self.fitting(store, bounds, *place, depth) {
+                let found = moved(alloc, bounds, entry, store.steps(), depth)?;
+                return Ok(Some(found));
             }
         }
         Ok(None)
+    }
+
+    /// The entry at a place, if it fits.
+    fn fitting<S: Store>(
+        &self,
+        store: &S,
+        bounds: RunBounds,
+        place: usize,
+        depth: u32,
+    ) -> Option<&Entry>
+        requires { length (S.record_of store.now).present.log ≡ depth }
+        ensures { MatchOption result
+            (FitsNot bounds.steps bounds.devices self.now.entries.items (S.record_of store.now).present place)
+            (λ e. (slice_get self.now.entries.items place ≡ Some e.now)
+            × Fits bounds.steps bounds.devices e.now (S.record_of store.now).present) }
+    {
+        match self.entries.get(place) {
+            Some(entry) if fits(store, bounds, entry, depth) => Some(entry),
+            _ => None,
+        }
     }
 
     /// Keeps the summary of a state in which a device command asked, whose place has this number. Errors:
@@ -214,16 +318,21 @@ impl Table {
         devices: u32,
         summary: &Summary,
     ) -> Result<(), SumError>
+        requires { place ≡ place_number (reverse frames.items) }
         ensures err { IfErr result (λ e. e ≡ Memory) }
         ensures kept { OnOk result
             (IsKept self.old.entries.items self.new.entries.items frames.items known.items steps devices
             summary.now.place (summary_shown summary.now)) }
+        ensures noted { OnOk result (AreNoted self.old → AreNoted self.new) }
         ensures flow { self.new.flow ≡ self.old.flow }
         ensures visited { self.new.visited ≡ self.old.visited }
         ensures most { self.new.most ≡ self.old.most }
     {
         let copy = copy_summary(alloc, summary)?;
-        self.note_next(alloc, place, &known)?;
+        let at = self.entries.len();
+        let number = self.note_ways(alloc, place, &known, at)?;
+        note(alloc, &mut self.alike, number, at)?;
+        self.longest = self.longest.max(known.len());
         self.entries.push(Entry {
             frames,
             known,
@@ -234,41 +343,89 @@ impl Table {
         Ok(())
     }
 
-    /// Notes where the next entry is, which is at a place of this number, with what is known there. Errors:
+    /// Notes the way from the number of a place by what the next entry knows. Returns the number of all that. Errors:
     /// `Memory`.
-    fn note_next(&mut self, alloc: Global, place: u64, known: &[Known]) -> Result<(), SumError>
+    fn note_ways(
+        &mut self,
+        alloc: Global,
+        place: u64,
+        known: &[Known],
+        entry: usize,
+    ) -> Result<u64, SumError>
         ensures err { IfErr result (λ e. e ≡ Memory) }
-        ensures entries { self.new.entries.items ≡ self.old.entries.items }
+        ensures ways { IfOk result (λ number. WayIsNoted self.old.entries.items self.new number place known.now entry) }
+        ensures grows { OnOk result (HasMoreWays (ways self.old) (ways self.new)) }
+        ensures entries { self.new.entries ≡ self.old.entries }
+        ensures alike { self.new.alike ≡ self.old.alike }
+        ensures longest { self.new.longest ≡ self.old.longest }
         ensures flow { self.new.flow ≡ self.old.flow }
         ensures visited { self.new.visited ≡ self.old.visited }
         ensures most { self.new.most ≡ self.old.most }
     {
-        let at = self.entries.len();
-        let number = note_keys(&mut self.onward, place, known, at)?;
-        note(alloc, &mut self.alike, number, at)?;
-        self.longest = self.longest.max(known.len());
+        let mut number = place;
+        for (at, one) in known.iter().enumerate() {
+            self.note_way(alloc, number, at, one, entry)?;
+            number = mix_known(number, one);
+        }
+        Ok(number)
+    }
+
+    /// Notes that the next entry knows this after so many other things, under their number, if no entry that is noted
+    /// there knows something of the same key. Errors: `Memory`.
+    fn note_way(
+        &mut self,
+        alloc: Global,
+        number: u64,
+        at: usize,
+        known: &Known,
+        entry: usize,
+    ) -> Result<(), SumError>
+        ensures err { IfErr result (λ e. e ≡ Memory) }
+        ensures leads { OnOk result ((es : List Entry) → BeginWith self.old.entries.items es
+            → KnowsNext es entry at (key_of known.now) → Leads (ways self.new number) es at (key_of known.now)) }
+        ensures grows { OnOk result (HasMoreWays (ways self.old) (ways self.new)) }
+        ensures entries { self.new.entries ≡ self.old.entries }
+        ensures alike { self.new.alike ≡ self.old.alike }
+        ensures longest { self.new.longest ≡ self.old.longest }
+        ensures flow { self.new.flow ≡ self.old.flow }
+        ensures visited { self.new.visited ≡ self.old.visited }
+        ensures most { self.new.most ≡ self.old.most }
+    {
+        let Some(first) = self.onward.get(&number) else {
+            self.onward.insert(number, entry)?;
+            return Ok(());
+        };
+        if self.knows_next(*first, at, known) || self.has_fork(number, at, known) {
+            return Ok(());
+        }
+        note(alloc, &mut self.forks, number, entry)?;
         Ok(())
     }
-}
 
-/// Notes of each key of an entry what is known in front of it. Returns the number of the place and of all that is known.
-/// Errors: `Memory`.
-fn note_keys(
-    onward: &mut HashMap<u64, usize>,
-    place: u64,
-    known: &[Known],
-    at: usize,
-) -> Result<u64, SumError>
-    ensures { IfErr result (λ e. e ≡ Memory) }
-{
-    let mut number = place;
-    for one in known {
-        if !onward.contains_key(&number) {
-            onward.insert(number, at)?;
+    /// Whether the entry at a place knows something of the same key after so many other things.
+    fn knows_next(&self, place: usize, at: usize, known: &Known) -> bool
+        ensures { IsTrue result → KnowsNext self.now.entries.items place at (key_of known.now) }
+    {
+        match self.known_at(place, at) {
+            Some(other) => have_one_key(other, known),
+            None => false,
         }
-        number = mix_known(number, one);
     }
-    Ok(number)
+
+    /// Whether one of the further entries of this number does.
+    fn has_fork(&self, number: u64, at: usize, known: &Known) -> bool
+        ensures { IsTrue result → Leads (noted self.now.forks number) self.now.entries.items at (key_of known.now) }
+    {
+        let Some(places) = self.forks.get(&number) else {
+            return false;
+        };
+        for place in places {
+            if self.knows_next(*place, at, known) {
+                return true;
+            }
+        }
+        false
+    }
 }
 
 /// Notes that an entry of a number is at this place of the entries. Errors: `Memory`.
@@ -278,7 +435,8 @@ fn note(
     number: u64,
     at: usize,
 ) -> Result<(), SumError>
-    ensures { IfErr result (λ e. e ≡ Memory) }
+    ensures err { IfErr result (λ e. e ≡ Memory) }
+    ensures noted { OnOk result (NotesOne places.old places.new number at) }
 {
     if let Some(noted) = places.get_mut(&number) {
         noted.push(at)?;
@@ -308,7 +466,8 @@ fn copy_summary(alloc: Global, summary: &Summary) -> Result<Summary, StoreError>
 
 /// Whether there is room: the same as there if a run was cut, else enough.
 fn has_room(cut: bool, here: u32, there: u32, reach: u64, bound: u32) -> bool
-    ensures { IsTrue result → FitsIf cut here there reach bound }
+    ensures same { IsTrue result → FitsIf cut here there reach bound }
+    ensures told { FitsIf cut here there reach bound → IsTrue result }
 {
     if cut {
         there == here
@@ -320,9 +479,20 @@ fn has_room(cut: bool, here: u32, there: u32, reach: u64, bound: u32) -> bool
     }
 }
 
+/// Whether the present state is at the place of an entry.
+fn is_at<S: Store>(store: &S, entry: &Entry) -> bool
+    ensures same { IsTrue result → reverse entry.now.frames.items
+        ≡ (S.record_of store.now).present.frames }
+    ensures told { reverse entry.now.frames.items ≡ (S.record_of store.now).present.frames
+        → IsTrue result }
+{
+    same_frames(&entry.frames, store.frames())
+}
+
 /// Whether the present state is at the place of an entry, what was known there holds here, and its runs
 /// have room here.
 fn fits<S: Store>(store: &S, bounds: RunBounds, entry: &Entry, depth: u32) -> bool
+    requires { length (S.record_of store.now).present.log ≡ depth }
     ensures frames { IsTrue result → reverse entry.now.frames.items
         ≡ (S.record_of store.now).present.frames }
     ensures known { IsTrue result → AllHold (S.record_of store.now).present entry.now.known.items }
@@ -330,6 +500,7 @@ fn fits<S: Store>(store: &S, bounds: RunBounds, entry: &Entry, depth: u32) -> bo
         (S.record_of store.now).present.steps entry.now.summary.steps bounds.steps }
     ensures devices { IsTrue result → FitsIf entry.now.summary.cut_devices entry.now.devices depth
         entry.now.summary.devices bounds.devices }
+    ensures told { Fits bounds.steps bounds.devices entry.now (S.record_of store.now).present → IsTrue result }
 {
     has_room(
         entry.summary.cut_steps,
@@ -343,46 +514,52 @@ fn fits<S: Store>(store: &S, bounds: RunBounds, entry: &Entry, depth: u32) -> bo
         depth,
         entry.summary.devices,
         bounds.devices(),
-    ) && same_frames(&entry.frames, store.frames())
+    ) && is_at(store, entry)
         && all_hold(store, &entry.known)
 }
 
-/// What is to come after an entry, as it is at these steps and device commands.
+/// How far the runs after an entry reach, moved to where this many came before.
+fn reach_from(cut: bool, here: u32, there: u32, reach: u64, bound: u32) -> u64
+    requires { FitsIf cut here there reach bound }
+    ensures { result ≡ there + (reach - here) }
+{
+    let _bound = bound;
+    let further = reach.saturating_sub(u64::from(here));
+    u64::from(there) + further
+}
+
+/// What is to come after an entry that fits, as it is at these steps and device commands.
 fn moved(
     alloc: Global,
+    bounds: RunBounds,
     entry: &Entry,
     steps: u32,
     devices: u32,
-) -> Result<Option<Future>, StoreError>
+) -> Result<Future, StoreError>
+    requires steps { FitsIf entry.now.summary.cut_steps entry.now.steps steps entry.now.summary.steps bounds.steps }
+    requires devices { FitsIf entry.now.summary.cut_devices entry.now.devices devices entry.now.summary.devices bounds.devices }
     ensures sums { IfOk result
-        (λ found. MatchOption found ⊤
         (λ f. summary_shown f.summary ≡ moved_by entry.now.steps steps entry.now.devices devices
-        (summary_shown entry.now.summary))) }
-    ensures place { IfOk result
-        (λ found. MatchOption found ⊤ (λ f. f.summary.place ≡ entry.now.summary.place)) }
-    ensures keys { IfOk result
-        (λ found. MatchOption found ⊤ (λ f. keys_shown f.keys.items ≡ keys_of entry.now.known.items)) }
+        (summary_shown entry.now.summary)) }
+    ensures place { IfOk result (λ f. f.summary.place ≡ entry.now.summary.place) }
+    ensures keys { IfOk result (λ f. keys_shown f.keys.items ≡ keys_of entry.now.known.items) }
 {
-    let further = entry.summary.steps.saturating_sub(u64::from(entry.steps));
-    let more = entry
-        .summary
-        .devices
-        .saturating_sub(u64::from(entry.devices));
-    let (Some(reach_steps), Some(reach_devices)) = (
-        u64::from(steps).checked_add(further),
-        u64::from(devices).checked_add(more),
-    ) else {
-        return Ok(None);
-    };
+    let old = &entry.summary;
     let keys = keys_of(alloc, &entry.known)?;
-    let rows = copy_rows(alloc, &entry.summary.rows)?;
+    let rows = copy_rows(alloc, &old.rows)?;
     let summary = Summary {
         rows,
-        steps: reach_steps,
-        devices: reach_devices,
-        cut_steps: entry.summary.cut_steps,
-        cut_devices: entry.summary.cut_devices,
-        place: entry.summary.place,
+        steps: reach_from(old.cut_steps, entry.steps, steps, old.steps, bounds.steps()),
+        devices: reach_from(
+            old.cut_devices,
+            entry.devices,
+            devices,
+            old.devices,
+            bounds.devices(),
+        ),
+        cut_steps: old.cut_steps,
+        cut_devices: old.cut_devices,
+        place: old.place,
     };
-    Ok(Some(Future { summary, keys }))
+    Ok(Future { summary, keys })
 }

@@ -2,7 +2,7 @@
 ghost use Rattle.std.specs.Prelude.{◌≡◌, ◌+◌, IfOk, IfErr, Some, map};
 ghost use Rattle.rehearse_machine.specs.Tasks.{task_found, task_in};
 ghost use Rattle.rehearse_endings.specs.declared.sum_error.SumError.TheVariants.{States};
-ghost use Rattle.rehearse_endings.specs.States.{HasStates};
+ghost use Rattle.rehearse_endings.specs.States.{ComesToStates};
 ghost use Rattle.rehearse_endings.specs.TellingEndings.{AreLines, IsUntold, names_of, source_of, TellsEndings, RefusesEndings};
 
 use crate::searching::sum_endings;
@@ -44,7 +44,7 @@ fn lines_of<S: Store>(
     ensures ok { IfOk result (λ text. AreLines (map (λ n. n.now) names.now) flow most_states
         (Some (task_in rehearsal.now)) text.items) }
     ensures err { IfErr result
-        (λ e. e ≡ States → HasStates (task_in rehearsal.now) (most_states + 1)) }
+        (λ e. e ≡ States → ComesToStates (map (λ n. n.now) names.now) (task_in rehearsal.now) (most_states + 1)) }
 {
     let _bound = rehearsal.bounds.devices();
     let mut store = S::new(rehearsal.alloc);
@@ -74,7 +74,7 @@ fn lines_in<S: Store>(
 ) -> Result<Vec<u8>, RehearseError>
     ensures ok { IfOk result (λ text. AreLines (names_of ask.now) ask.now.flow ask.now.states
         (task_found env.now devices.now (source_of ask.now) ask.now.bounds) text.items) }
-    ensures err { IfErr result (λ e. IsUntold ask.now.states
+    ensures err { IfErr result (λ e. IsUntold (names_of ask.now) ask.now.states
         (task_found env.now devices.now (source_of ask.now) ask.now.bounds) e) }
 {
     let source = Source {

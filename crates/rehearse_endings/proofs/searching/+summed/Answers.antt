@@ -5,6 +5,7 @@ use Rattle.rehearse_terms.specs.Outcomes.{Success, Failure}
 use Rattle.rehearse_machine.specs.Tasks.{task_in}
 use Rattle.rehearse_machine.specs.declared.rehearsal.Stop.{Stop}
 use Rattle.rehearse_machine.specs.declared.rehearsal.Stop.TheVariants.{Asks}
+use Rattle.rehearse_states.specs.PlaceNumbers.{place_number}
 use Rattle.rehearse_states.specs.RowsShown.{run_end_shown, summary_shown}
 use Rattle.text.specs.TextsShown.{bytes_of_words}
 use Rattle.std.proofs.lemmas.List.{length-map}
@@ -15,13 +16,15 @@ use Rattle.bootstore_state.specs.Moment.{Moment}
 use Rattle.rehearse_frames.specs.KeysToCome.{AreEnoughAt}
 use Rattle.rehearse_reports.specs.Following.{AreEnoughAtStop}
 use Rattle.rehearse_reports.specs.ReportsShown.{accesses_shown, keys_shown}
-use Rattle.rehearse_endings.specs.Searching.{future, seen_from, IsKeptAt, SummedFrom}
-use Rattle.rehearse_endings.specs.States.{HasStates}
+use Rattle.rehearse_endings.specs.Searching.{future, seen_from, IsFound, IsKeptAt, SummedFrom}
+use Rattle.rehearse_endings.specs.States.{ComesToStates}
+use Rattle.rehearse_endings.specs.Indexed.{NoneFits}
 use Rattle.rehearse_machine.specs.StoppedTexts.{StoppedAt}
 use Rattle.rehearse_machine.proofs.StoppedTextLemmas.{stopped_on}
 use Rattle.std.proofs.Common.{Err}
 use Rattle.std.proofs.lemmas.Result.{err_from_is_err_and}
-use Rattle.rehearse_endings.proofs.EnteredStateLemmas.{refused_as, met_as, enters, too_many, new_won, new_lost, gone_through, none_entered}
+use Rattle.rehearse_endings.proofs.IndexLemmas.{noted_same, nothing}
+use Rattle.rehearse_endings.proofs.EnteredStateLemmas.{refused_as, met_as, enters, too_many, comes_by, gone_through, none_entered, something}
 use Rattle.rehearse_endings.proofs.WrittenFlowLemmas.{state_drawn, kept_drawn, last_made, ended_drawn, more_on, more_nodes, no_more, entered_as}
 use Rattle.rehearse_endings.proofs.SearchLemmas.{marked_present, reached_marked, reached_asks, last_there, keys_of_sides, searched_behind, Room, begun_marked, begun_on, begun_lost, begun_sides, reached_within, reached_as, reached_below, reached_on, won_on, back_there, marks_back, room_kept, lost_on, sides_of, summed_end, summed_sides, all_wider, entries_more}
 use Rattle.rehearse_endings.proofs.searching.+summed.Goals as goal
@@ -61,7 +64,7 @@ summed-requires g t c κs within =
     let room = c.requires.begun in
     let visited = c.in_ok-enter-in-Asks.ensures.visited in
     let begun : Room r₁.begun c.enter.new.self.visited = omega (arith, first, marked, on, room, visited) in
-    (omega (arith, c.decreases), (within, (reached_on task c.args.depth r.present r₁.present Success c.in_ok-won_stop-in-Asks.won_stop reached stops, (entered, (c.in_ok-won_stop-in-Asks.ensures.within, (b, (begun, c.in_ok-enter-in-Asks.ensures.within)))))))
+    (omega (arith, c.decreases), (within, (reached_on task c.args.depth r.present r₁.present Success c.in_ok-won_stop-in-Asks.won_stop reached stops, (entered, (c.enter.ensures.noted c.requires.noted, (c.in_ok-won_stop-in-Asks.ensures.within, (b, (begun, c.in_ok-enter-in-Asks.ensures.within))))))))
 
 pub overflow_add-depth-in-Asks : goal.overflow_add-depth-in-Asks
 overflow_add-depth-in-Asks g t c =
@@ -88,7 +91,24 @@ summed-requires-in-Asks g t c κs within =
     let begun_before = c.requires.begun in
     let room : Room r.begun c.args.table.now.visited = omega (arith, first, begun_before) in
     let begun : Room r₁.begun c.summed.new.table.visited = begun_lost r (g.S.Store.record_of c.mark-in-Asks.new.self) (g.S.Store.record_of c.resume_reported.new.store) (g.S.Store.record_of c.summed.new.store) back r₁ c.args.table.now.visited c.enter.new.self.visited c.summed.new.table.visited c.in_ok-mark-in-Asks-2.ensures.ok c.in_ok-won_stop-in-Asks.ensures.begun c.in_ok-won_stop-in-Asks.ensures.within room c.in_ok-enter-in-Asks.ensures.visited c.in_ok-won-in-Asks.ensures.searched.begun c.back.ensures c.in_ok-lost_stop-in-Asks.ensures.begun c.in_ok-lost_stop-in-Asks.ensures.within in
-    (omega (arith, c.decreases), (within, (reached_on task c.args.depth r.present r₁.present Failure c.in_ok-lost_stop-in-Asks.lost_stop reached stops, (c.in_ok-won-in-Asks.ensures.searched.table, (c.in_ok-lost_stop-in-Asks.ensures.within, (b, (begun, c.in_ok-won-in-Asks.ensures.searched.room)))))))
+    (omega (arith, c.decreases), (within, (reached_on task c.args.depth r.present r₁.present Failure c.in_ok-lost_stop-in-Asks.lost_stop reached stops, (c.in_ok-won-in-Asks.ensures.searched.table, (c.in_ok-won-in-Asks.ensures.searched.noted, (c.in_ok-lost_stop-in-Asks.ensures.within, (b, (begun, c.in_ok-won-in-Asks.ensures.searched.room))))))))
+
+pub keep-requires : goal.keep-requires
+keep-requires g t c =
+    let r₀ = g.S.Store.record_of c.args.store.now in
+    let r = g.S.Store.record_of c.mark.new.self in
+    let marked = g.S.Store.record_of c.mark-in-Asks.new.self in
+    let tried = g.S.Store.record_of c.resume_reported.new.store in
+    let behind = g.S.Store.record_of c.summed.new.store in
+    let back = g.S.Store.record_of c.back.new.self in
+    let failed = g.S.Store.record_of c.resume_reported-in-Asks.new.store in
+    let done = g.S.Store.record_of c.summed-in-Asks.new.store in
+    let last = g.S.Store.record_of c.back-in-Asks.new.self in
+    let first = c.in_ok-mark-in-Asks.ensures.ok in
+    let second = c.in_ok-mark-in-Asks-2.ensures.ok in
+    let at_last = last_there r₀ r done last first c.back-in-Asks.ensures
+    (marks_back r marked tried behind back failed done second c.in_ok-won_stop-in-Asks.ensures.marks c.in_ok-won-in-Asks.ensures.searched.marks c.back.ensures c.in_ok-lost_stop-in-Asks.ensures.marks c.in_ok-lost-in-Asks.ensures.searched.marks) in
+    c.hash_of-hash.ensures ∙ ap (λ (m : Moment). place_number m.frames) (sym (at_last ∙ marked_present r₀ r first))
 
 -- ---- what was searched
 
@@ -110,29 +130,32 @@ returns-in_ok-keys-in-Ends-clause-searched g t c =
       begun = omega arith;
       room = c.requires.room;
       most = refl;
-      entered = λ p kept pending at new entered. none_entered task p kept pending c.args.table.now _ refl refl entered;
+      noted = noted_same c.args.table.now _ (λ n p h. h) (λ n p h. h) refl refl c.requires.noted;
+      entered = λ p begun at by entered. none_entered (map (λ n. n.now) c.args.names.now) task begun c.args.table.now _ refl c.in_ok-place-in-Ends.ensures.asks refl entered;
     }
 
 pub returns-in-Some-clause-searched : goal.returns-in-Some-clause-searched
-returns-in-Some-clause-searched g t c = record {
-  sums =
-      let names = map (λ n. n.now) c.args.names.now in
-      let limits = (task_in c.args.rehearsal.now).limits in
-      let m = (g.S.Store.record_of c.args.store.now).present in
-      let shown = summary_shown c.in-Some.found.summary in
-      let here : SummedFrom names limits Asks m shown = search rules in
-      subst (λ (x : Stop). SummedFrom names limits x m shown) (sym c.in-Asks.is) here;
-  draws = search rules;
-  keys = search rules;
-  grows = search rules;
-  last = search rules;
-  marks = refl;
-  table = c.requires.table;
-  begun = omega arith;
-  room = c.requires.room;
-  most = refl;
-  entered = λ p kept pending at new entered. none_entered (task_in c.args.rehearsal.now) p kept pending c.args.table.now _ refl refl entered;
-}
+returns-in-Some-clause-searched g t c =
+    let names = map (λ n. n.now) c.args.names.now in
+    let limits = (task_in c.args.rehearsal.now).limits in
+    let m = (g.S.Store.record_of c.args.store.now).present in
+    let nodes = nodes_shown c.args.table.now.flow.nodes in
+    let found : IsFound names limits nodes c.args.table.now.entries.items m c.in-Some.found = something _ _ c.in_ok-found-in-Asks.field-0 c.in-Some.found c.in-Some.is c.in_ok-found-in-Asks.ensures in
+    let shown = summary_shown c.in-Some.found.summary in
+    record {
+      sums = subst (λ (x : Stop). SummedFrom names limits x m shown) (sym c.in-Asks.is) found.sums;
+      draws = subst (λ (x : Stop). Draws nodes c.in-Some.found.summary.place (seen_from limits x m)) (sym c.in-Asks.is) found.draws;
+      keys = subst (λ (x : Stop). AreEnoughAtStop limits names x m (keys_shown c.in-Some.found.keys.items)) (sym c.in-Asks.is) found.keys;
+      grows = no_more nodes nodes refl;
+      last = λ none no_nodes. absurd (found.some none);
+      marks = refl;
+      table = c.requires.table;
+      begun = omega arith;
+      room = c.requires.room;
+      most = refl;
+      noted = c.requires.noted;
+      entered = λ p begun at by entered. entered;
+    }
 
 pub returns-in_ok-keys-in-Asks-clause-searched : goal.returns-in_ok-keys-in-Asks-clause-searched
 returns-in_ok-keys-in-Asks-clause-searched g t c =
@@ -158,6 +181,8 @@ returns-in_ok-keys-in-Asks-clause-searched g t c =
     let after = c.keep.new.table in
     let sides = sides_of task c.args.depth c.args.stop c.in_ok-won_stop-in-Asks.won_stop c.in_ok-lost_stop-in-Asks.lost_stop r marked tried behind back failed
     c.in-Asks.is (reached_marked task c.args.depth c.args.stop r₀ r first c.requires.reached) second c.in_ok-won_stop-in-Asks.ensures.stops c.in_ok-won_stop-in-Asks.ensures.marks c.in_ok-won-in-Asks.ensures.searched.marks c.back.ensures c.in_ok-lost_stop-in-Asks.ensures.stops in
+    let present = marked_present r₀ r first in
+    let none_here = subst (NoneFits task.limits.step_bound task.limits.device_bound c.args.table.now.entries.items) (sym present) (nothing _ _ c.in_ok-found-in-Asks.field-0 c.in_default.is c.in_ok-found-in-Asks.ensures) in
     let at_mark = marked_present r marked second in
     let at_back = back_there r marked tried behind back second c.in_ok-won_stop-in-Asks.ensures.marks c.in_ok-won-in-Asks.ensures.searched.marks c.back.ensures in
     let at_last = last_there r₀ r done last first c.back-in-Asks.ensures
@@ -209,58 +234,64 @@ returns-in_ok-keys-in-Asks-clause-searched g t c =
           c.in_ok-won-in-Asks.ensures.searched.begun c.back.ensures c.in_ok-lost_stop-in-Asks.ensures.begun c.in_ok-lost_stop-in-Asks.ensures.within c.in_ok-lost-in-Asks.ensures.searched.begun c.keep.ensures.visited;
       room = room_kept c.summed-in-Asks.new.table.visited c.summed-in-Asks.new.table.most after.visited after.most c.keep.ensures.visited c.keep.ensures.most c.in_ok-lost-in-Asks.ensures.searched.room;
       most = c.keep.ensures.most ∙ c.in_ok-lost-in-Asks.ensures.searched.most ∙ c.in_ok-won-in-Asks.ensures.searched.most ∙ c.enter.ensures.most;
-      entered = λ p old pending at new entered.
+      noted = c.in_ok-keys-in-Asks.ensures.noted (noted_same c.summed-in-Asks.new.table _ (λ n p h. h) (λ n p h. h) refl refl c.in_ok-lost-in-Asks.ensures.searched.noted);
+      entered = λ p begun at by entered.
           let met = met_as task p c.args.stop Asks r.present c.in-Asks.is at in
           let gone =
-          c.in_ok-won-in-Asks.ensures.searched.entered (p ++ Success ∷ []) old ((p, r.present) ∷ pending) (stopped_on task p r.present won_at Success c.in_ok-won_stop-in-Asks.won_stop met sides.won) (new_won p r.present old pending new)
-          (enters task p r.present old pending met new c.args.table.now entered c.enter.new.self c.enter.ensures.entries c.in_ok-enter-in-Asks.ensures.visited) in
+          c.in_ok-won-in-Asks.ensures.searched.entered (p ++ Success ∷ []) ((p, r.present) ∷ begun) (stopped_on task p r.present won_at Success c.in_ok-won_stop-in-Asks.won_stop met sides.won) (comes_by p Success r.present begun by)
+          (enters names task p r.present begun met by c.args.table.now entered none_here c.enter.new.self c.enter.ensures.entries c.enter.ensures.flow c.in_ok-enter-in-Asks.ensures.visited) in
           let left =
-          c.in_ok-lost-in-Asks.ensures.searched.entered (p ++ Failure ∷ []) (old ++ gone.further) ((p, r.present) ∷ pending) (stopped_on task p r.present lost_at Failure c.in_ok-lost_stop-in-Asks.lost_stop met sides.lost)
-          (new_lost p r.present old gone.further pending new gone.behind) gone.entered in
-          gone_through task p r.present old gone.further left.further pending c.summed-in-Asks.new.table after kept.left kept.known r.present.steps c.logged-devices.result summary.place (summary_shown summary) gone.behind left.behind left.entered kept.kept c.keep.ensures.visited;
+          c.in_ok-lost-in-Asks.ensures.searched.entered (p ++ Failure ∷ []) ((p, r.present) ∷ begun) (stopped_on task p r.present lost_at Failure c.in_ok-lost_stop-in-Asks.lost_stop met sides.lost) (comes_by p Failure r.present begun by) gone in
+          gone_through names task p r.present begun c.summed-in-Asks.new.table after c.ask.new.self words won.summary.place lost.summary.place (keys_shown c.in_ok-both-in-Asks.both.items) c.logged-devices.result summary.place (summary_shown summary)
+          left c.in_ok-place-in-Asks.ensures.nodes kept c.keep.ensures.flow c.keep.ensures.visited keys_at summed log;
     })
 
 -- ---- the states that are refused
 
 pub returns-in_err-enter-in-Asks-clause-refused : goal.returns-in_err-enter-in-Asks-clause-refused
-returns-in_err-enter-in-Asks-clause-refused g t c = λ p kept pending at new entered.
+returns-in_err-enter-in-Asks-clause-refused g t c = λ p begun at by entered.
+    let names = map (λ n. n.now) c.args.names.now in
     let task = task_in c.args.rehearsal.now in
     let m = (g.S.Store.record_of c.args.store.now).present in
     let error = err_from_is_err_and c.from_residual-in_err-enter-in-Asks.result c.from_residual-in_err-enter-in-Asks.ensures.1 in
-    refused_as task (c.args.table.now.most + 1) c.from_residual-in_err-enter-in-Asks.result c.in_err-enter-in-Asks.field-0.0 (error.1 ∙ ap Err error.2)
-    (λ is. too_many task p m kept pending (met_as task p c.args.stop Asks m c.in-Asks.is at) new c.args.table.now entered c.requires.room (c.in_err-enter-in-Asks.ensures.full is))
+    refused_as names task (c.args.table.now.most + 1) c.from_residual-in_err-enter-in-Asks.result c.in_err-enter-in-Asks.field-0.0 (error.1 ∙ ap Err error.2)
+    (λ is. too_many names task p m begun (met_as task p c.args.stop Asks m c.in-Asks.is at) by c.args.table.now entered (nothing _ _ c.in_ok-found-in-Asks.field-0 c.in_default.is c.in_ok-found-in-Asks.ensures) c.requires.room (c.in_err-enter-in-Asks.ensures.full is))
 
 pub returns-in_err-won-in-Asks-clause-refused : goal.returns-in_err-won-in-Asks-clause-refused
-returns-in_err-won-in-Asks-clause-refused g t c = λ p kept pending at new entered.
+returns-in_err-won-in-Asks-clause-refused g t c = λ p begun at by entered.
+    let names = map (λ n. n.now) c.args.names.now in
     let task = task_in c.args.rehearsal.now in
     let r₀ = g.S.Store.record_of c.args.store.now in
     let r = g.S.Store.record_of c.mark.new.self in
     let present = marked_present r₀ r c.in_ok-mark-in-Asks.ensures.ok in
+    let none_here = subst (NoneFits task.limits.step_bound task.limits.device_bound c.args.table.now.entries.items) (sym present) (nothing _ _ c.in_ok-found-in-Asks.field-0 c.in_default.is c.in_ok-found-in-Asks.ensures) in
     let met = met_as task p c.args.stop Asks r.present c.in-Asks.is (subst (λ (m : Moment). StoppedAt task p c.args.stop m) (sym present) at) in
     let won_at = (g.S.Store.record_of c.resume_reported.new.store).present in
     let won_stops = won_on task r (g.S.Store.record_of c.mark-in-Asks.new.self) (g.S.Store.record_of c.resume_reported.new.store) c.in_ok-won_stop-in-Asks.won_stop c.in_ok-mark-in-Asks-2.ensures.ok c.in_ok-won_stop-in-Asks.ensures.stops in
     let error = err_from_is_err_and c.from_residual-in_err-won-in-Asks.result c.from_residual-in_err-won-in-Asks.ensures.1 in
-    refused_as task (c.args.table.now.most + 1) c.from_residual-in_err-won-in-Asks.result c.in_err-won-in-Asks.field-0.0 (error.1 ∙ ap Err error.2)
-    (λ is. subst (λ (n : ℕ). HasStates task (n + 1)) c.enter.ensures.most
-    (c.in_err-won-in-Asks.ensures.refused (p ++ Success ∷ []) kept ((p, r.present) ∷ pending) (stopped_on task p r.present won_at Success c.in_ok-won_stop-in-Asks.won_stop met won_stops) (new_won p r.present kept pending new)
-    (enters task p r.present kept pending met new c.args.table.now entered c.enter.new.self c.enter.ensures.entries c.in_ok-enter-in-Asks.ensures.visited) is))
+    refused_as names task (c.args.table.now.most + 1) c.from_residual-in_err-won-in-Asks.result c.in_err-won-in-Asks.field-0.0 (error.1 ∙ ap Err error.2)
+    (λ is. subst (λ (n : ℕ). ComesToStates names task (n + 1)) c.enter.ensures.most
+    (c.in_err-won-in-Asks.ensures.refused (p ++ Success ∷ []) ((p, r.present) ∷ begun) (stopped_on task p r.present won_at Success c.in_ok-won_stop-in-Asks.won_stop met won_stops) (comes_by p Success r.present begun by)
+    (enters names task p r.present begun met by c.args.table.now entered none_here c.enter.new.self c.enter.ensures.entries c.enter.ensures.flow c.in_ok-enter-in-Asks.ensures.visited) is))
 
 pub returns-in_err-lost-in-Asks-clause-refused : goal.returns-in_err-lost-in-Asks-clause-refused
-returns-in_err-lost-in-Asks-clause-refused g t c = λ p kept pending at new entered.
+returns-in_err-lost-in-Asks-clause-refused g t c = λ p begun at by entered.
+    let names = map (λ n. n.now) c.args.names.now in
     let task = task_in c.args.rehearsal.now in
     let r₀ = g.S.Store.record_of c.args.store.now in
     let r = g.S.Store.record_of c.mark.new.self in
     let present = marked_present r₀ r c.in_ok-mark-in-Asks.ensures.ok in
+    let none_here = subst (NoneFits task.limits.step_bound task.limits.device_bound c.args.table.now.entries.items) (sym present) (nothing _ _ c.in_ok-found-in-Asks.field-0 c.in_default.is c.in_ok-found-in-Asks.ensures) in
     let met = met_as task p c.args.stop Asks r.present c.in-Asks.is (subst (λ (m : Moment). StoppedAt task p c.args.stop m) (sym present) at) in
     let won_at = (g.S.Store.record_of c.resume_reported.new.store).present in
     let lost_at = (g.S.Store.record_of c.resume_reported-in-Asks.new.store).present in
     let sides = sides_of task c.args.depth c.args.stop c.in_ok-won_stop-in-Asks.won_stop c.in_ok-lost_stop-in-Asks.lost_stop r (g.S.Store.record_of c.mark-in-Asks.new.self) (g.S.Store.record_of c.resume_reported.new.store) (g.S.Store.record_of c.summed.new.store) (g.S.Store.record_of c.back.new.self) (g.S.Store.record_of c.resume_reported-in-Asks.new.store)
     c.in-Asks.is (reached_marked task c.args.depth c.args.stop r₀ r c.in_ok-mark-in-Asks.ensures.ok c.requires.reached) c.in_ok-mark-in-Asks-2.ensures.ok c.in_ok-won_stop-in-Asks.ensures.stops c.in_ok-won_stop-in-Asks.ensures.marks c.in_ok-won-in-Asks.ensures.searched.marks c.back.ensures c.in_ok-lost_stop-in-Asks.ensures.stops in
     let won =
-    c.in_ok-won-in-Asks.ensures.searched.entered (p ++ Success ∷ []) kept ((p, r.present) ∷ pending) (stopped_on task p r.present won_at Success c.in_ok-won_stop-in-Asks.won_stop met sides.won) (new_won p r.present kept pending new)
-    (enters task p r.present kept pending met new c.args.table.now entered c.enter.new.self c.enter.ensures.entries c.in_ok-enter-in-Asks.ensures.visited) in
+    c.in_ok-won-in-Asks.ensures.searched.entered (p ++ Success ∷ []) ((p, r.present) ∷ begun) (stopped_on task p r.present won_at Success c.in_ok-won_stop-in-Asks.won_stop met sides.won) (comes_by p Success r.present begun by)
+    (enters names task p r.present begun met by c.args.table.now entered none_here c.enter.new.self c.enter.ensures.entries c.enter.ensures.flow c.in_ok-enter-in-Asks.ensures.visited) in
     let error = err_from_is_err_and c.from_residual-in_err-lost-in-Asks.result c.from_residual-in_err-lost-in-Asks.ensures.1 in
-    refused_as task (c.args.table.now.most + 1) c.from_residual-in_err-lost-in-Asks.result c.in_err-lost-in-Asks.field-0.0 (error.1 ∙ ap Err error.2)
-    (λ is. subst (λ (n : ℕ). HasStates task (n + 1)) (c.in_ok-won-in-Asks.ensures.searched.most ∙ c.enter.ensures.most)
-    (c.in_err-lost-in-Asks.ensures.refused (p ++ Failure ∷ []) (kept ++ won.further) ((p, r.present) ∷ pending) (stopped_on task p r.present lost_at Failure c.in_ok-lost_stop-in-Asks.lost_stop met sides.lost)
-    (new_lost p r.present kept won.further pending new won.behind) won.entered is))
+    refused_as names task (c.args.table.now.most + 1) c.from_residual-in_err-lost-in-Asks.result c.in_err-lost-in-Asks.field-0.0 (error.1 ∙ ap Err error.2)
+    (λ is. subst (λ (n : ℕ). ComesToStates names task (n + 1)) (c.in_ok-won-in-Asks.ensures.searched.most ∙ c.enter.ensures.most)
+    (c.in_err-lost-in-Asks.ensures.refused (p ++ Failure ∷ []) ((p, r.present) ∷ begun) (stopped_on task p r.present lost_at Failure c.in_ok-lost_stop-in-Asks.lost_stop met sides.lost)
+    (comes_by p Failure r.present begun by) won is))

@@ -1,7 +1,11 @@
-use Rattle.std.proofs.Common.{◌∙◌, ap, subst, reverse, ℕ}
+use Rattle.std.proofs.Common.{◌∙◌, ap, sym, subst, reverse, ℕ}
+use Rattle.rehearse_states.specs.PlaceNumbers.{place_number}
 use Rattle.rehearse_states.specs.RowsShown.{summary_shown}
 use Rattle.rehearse_endings.specs.Searching.{IsKept}
 use Rattle.rehearse_endings.proofs.searching.keep.Goals as goal
+
+pub keep-requires : goal.keep-requires
+keep-requires g c = c.requires ∙ ap place_number (sym (ap reverse c.in_ok-frames.ensures ∙ c.frames.ensures))
 
 pub returns-clause-kept : goal.returns-clause-kept
 returns-clause-kept g c =

@@ -12,7 +12,7 @@ returns-then-flow-clause-ok g c =
     let states = c.in_ok-found.found.states in
     let is : c.args.flow ≡ true = search rules in
     let names = map (λ n. n.now) c.args.names.now in
-    let told : Tells names true task states c.in_ok-text.text.items = (nodes_shown c.in_ok-found.found.nodes, c.in_ok-found.ensures.flow, c.in_ok-text.ensures) in
+    let told : Tells names true task states c.in_ok-text.text.items = (nodes_shown c.in_ok-found.found.nodes, (c.in_ok-found.ensures.flow, c.in_ok-found.ensures.nodes), c.in_ok-text.ensures) in
     (task, states, refl, c.in_ok-found.ensures.states, c.in_ok-found.ensures.met, subst (λ (flow : Bool). Tells names flow task states c.in_ok-text.text.items) (sym is) told)
 
 pub returns-clause-ok : goal.returns-clause-ok
@@ -22,5 +22,5 @@ returns-clause-ok g c =
     let is : c.args.flow ≡ false = search rules in
     let text = c.in_ok-text-2.text.items in
     let names = map (λ n. n.now) c.args.names.now in
-    let told : Tells names false task states text = text_told names task (nodes_shown c.in_ok-found.found.nodes) (rows_shown c.in_ok-found.found.rows) text states c.in_ok-found.ensures.flow c.in_ok-found.ensures.rows c.in_ok-text-2.ensures in
+    let told : Tells names false task states text = (nodes_shown c.in_ok-found.found.nodes, (c.in_ok-found.ensures.flow, c.in_ok-found.ensures.nodes), text_told names task (nodes_shown c.in_ok-found.found.nodes) (rows_shown c.in_ok-found.found.rows) text states c.in_ok-found.ensures.flow c.in_ok-found.ensures.rows c.in_ok-text-2.ensures) in
     (task, states, refl, c.in_ok-found.ensures.states, c.in_ok-found.ensures.met, subst (λ (flow : Bool). Tells names flow task states text) (sym is) told)

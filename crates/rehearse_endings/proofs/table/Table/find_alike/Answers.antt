@@ -1,30 +1,29 @@
-use Rattle.std.proofs.Common.{refl, get_or, map}
-use Rattle.rehearse_machine.specs.MovesShown.{limits_of}
-use Rattle.rehearse_states.specs.Drawing.{nodes_shown}
-use Rattle.rehearse_endings.specs.declared.table.Entry.{Entry}
-use Rattle.rehearse_endings.proofs.SearchLemmas.{entry_in, look_there, place_there, keys_there, some_there}
+use Rattle.std.proofs.Common.{ℕ, ap, sym, ◌∙◌, get_or}
+use Rattle.rehearse_reuse.specs.SummedRuns.{moved_by}
+use Rattle.rehearse_states.specs.RowsShown.{summary_shown}
+use Rattle.rehearse_endings.specs.Indexed.{FitsNot, IsTaken, noted, places_in}
+use Rattle.rehearse_endings.proofs.IndexLemmas.{all_in_all, all_more, none_in_none}
 use Rattle.rehearse_endings.proofs.table.Table.find_alike.Goals as goal
 
-pub returns-then-fits : goal.returns-then-fits
-returns-then-fits g c =
-    let names = map (λ n. n.now) c.args.names.now in
-    let limits = limits_of c.args.devices.now c.args.bounds in
-    let nodes = nodes_shown c.args.self.now.flow.nodes in
-    let entries = c.args.self.now.entries.items in
-    let t = (g.S.Store.record_of c.args.store.now).present in
-    let e : Entry = c.in-Some-get.entry.now in
-    let place = get_or c.deref-place-items.result.now c.loop-place.place-index 0 in
-    let at = c.in-Some-get.ensures.lookup in
-    let same = c.deref.ensures.value in
-    let entry = entry_in names limits nodes entries c.deref.result.now place e same at.0 at.1 c.requires.table in
-    let frames = c.if-fits.ensures.frames refl in
-    let known = c.if-fits.ensures.known refl in
-    let steps = c.if-fits.ensures.steps refl in
-    let devices = c.if-fits.ensures.devices refl in
-    let found = c.in_ok-found.found in
-    record {
-      sums = look_there names limits nodes e t c.args.depth entry c.requires.asks c.requires.depth frames known steps devices found c.steps.result c.steps.ensures c.in_ok-found.ensures.sums;
-      draws = place_there names limits nodes e t c.args.depth entry c.requires.asks c.requires.depth frames known steps devices found c.in_ok-found.ensures.place;
-      keys = keys_there names limits nodes e t c.args.depth entry c.requires.asks c.requires.depth frames known steps devices found c.in_ok-found.ensures.keys;
-      some = some_there entries c.deref.result.now place same at.0 found;
-    }
+pub returns-in_default : goal.returns-in_default
+returns-in_default g c = none_in_none (FitsNot c.args.bounds.steps c.args.bounds.devices c.args.self.now.entries.items (g.S.Store.record_of c.args.store.now).present) (noted c.args.self.now.alike c.args.number) (ap places_in (sym c.in_default.ensures.value))
+
+pub loop-place-preserved : goal.loop-place-preserved
+loop-place-preserved g c = all_more (FitsNot c.args.bounds.steps c.args.bounds.devices c.args.self.now.entries.items (g.S.Store.record_of c.args.store.now).present) c.deref-place-items.result.now c.loop-place.place-index 0 c.loop-place-test.true c.loop-place.invariant c.in_default-fitting.ensures
+
+pub returns : goal.returns
+returns g c = all_in_all (FitsNot c.args.bounds.steps c.args.bounds.devices c.args.self.now.entries.items (g.S.Store.record_of c.args.store.now).present) c.deref-place-items.result.now (noted c.args.self.now.alike c.args.number) c.loop-place.place-index c.loop-place-test.false (c.deref-place-items.ensures.value ∙ ap places_in c.in-Some.ensures.value) c.loop-place.invariant
+
+pub returns-in-Some-fitting : goal.returns-in-Some-fitting
+returns-in-Some-fitting g c =
+    let m = (g.S.Store.record_of c.args.store.now).present in
+    let e = c.in-Some-fitting.entry.now in
+    let taken : IsTaken e m c.in_ok-found.found = record {
+      sums =
+          c.in_ok-found.ensures.sums
+          ∙ ap (λ (n : ℕ). moved_by e.steps n e.devices c.args.depth (summary_shown e.summary)) c.steps.ensures
+          ∙ ap (λ (n : ℕ). moved_by e.steps m.steps e.devices n (summary_shown e.summary)) (sym c.requires);
+      place = c.in_ok-found.ensures.place;
+      keys = c.in_ok-found.ensures.keys;
+    } in
+    (get_or c.deref-place-items.result.now c.loop-place.place-index 0, e, c.in-Some-fitting.ensures.0, c.in-Some-fitting.ensures.1, taken)
