@@ -27,7 +27,7 @@ module _ (order : ByteOrder) (first : List ℕ) (second : Option (List ℕ)) (li
   pub refused-endings : (error : RehearseError) → below.RefusesEndings (task_asked beginning.environment beginning.devices text (runs_by ask)) ask old new error → RefusesOne (endings_given order first second list taking ask) ask.flow ask.states old new (rehearse_error error)
   refused-endings (rehearsal.DeviceList fault) h = absurd h
   refused-endings rehearsal.NoSuchVariable h = (on_image (λ task. task ≡ None) h.0, h.1)
-  refused-endings rehearsal.States h = (on_image (HasMoreStates ask.states) h.0, h.1)
+  refused-endings rehearsal.States h = (on_image (HasMoreStates (names_of ask) ask.states) h.0, h.1)
   refused-endings rehearsal.Write h = (h.0, on_image (λ task. AreLines (names_of ask) ask.flow ask.states task h.0) h.1, h.2)
   refused-endings rehearsal.NotARun h = absurd h
   refused-endings rehearsal.Failed h = absurd h

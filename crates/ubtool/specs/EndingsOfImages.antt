@@ -45,7 +45,7 @@ WhyNoLines states g (Image fault) = beginning_of g ≡ Err (OfImage fault)
 WhyNoLines states g (Rehearsal (DeviceList fault)) = beginning_of g ≡ Err (OfBoard (OfDevices fault))
 WhyNoLines states g (Start fault) = beginning_of g ≡ Err (OfBoard (OfStart fault))
 WhyNoLines states g (Rehearsal NoSuchVariable) = HasBoard g (λ found. found ≡ None)
-WhyNoLines states g (Rehearsal States) = HasBoard g (HasMoreStates states)
+WhyNoLines states g (Rehearsal States) = HasBoard g (HasMoreStates g.asking.names states)
 WhyNoLines states g _ = ⊥
 
 abbrev pub RefusesOne : Given → (flow : Bool) → (states : ℕ) → (old new : Sink) → RehearsalError → Type 0
