@@ -133,7 +133,7 @@ def setting(word, called):
 
 
 def is_plain(word):
-    """Whether a word may stand behind `needs`."""
+    """Whether a word may follow `needs`."""
     return word not in CLAUSES and not set("*='") & set(word)
 
 

@@ -166,7 +166,7 @@ impl Building {
         Ok(None)
     }
 
-    /// A word in front of which at most assignments are, which is not reserved.
+    /// A word before which at most assignments are, which is not reserved.
     fn begin_command(&mut self, word: FoundWord) -> Result<Option<Stop>, AllocError>
         ensures { IfOk result (λ stop. says.command_begun (tokens.word word)
             (shown.building self.old) ≡ shown.unless stop (shown.building self.new)) }
@@ -184,7 +184,7 @@ impl Building {
         self.begin_words(word)
     }
 
-    /// A word in front of which nothing is.
+    /// A word before which nothing is.
     fn read_first_word(&mut self, word: FoundWord) -> Result<Option<Stop>, AllocError>
         ensures { IfOk result (λ stop. says.first_word (tokens.word word)
             (shown.building self.old) ≡ shown.unless stop (shown.building self.new)) }

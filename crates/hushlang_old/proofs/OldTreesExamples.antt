@@ -1,6 +1,6 @@
 -- Worked examples of the texts that U-Boot's old shell reads, computed. A sandbox of U-Boot 2023.01 does with each what this
 -- says; the texts are among those that the comparison with it runs.
-use Rattle.std.proofs.Common.{◌≡◌, ℕ, true, false, List, [], ◌∷◌, ◌++◌, map, drop, refl, replicate, Some, None, Option}
+use Rattle.std.proofs.Common.{◌≡◌, ℕ, true, false, List, [], ◌∷◌, ◌++◌, map, drop, refl, replicate, Some, None, is_some, Option}
 use Rattle.std.specs.Prelude.{codes}
 use Rattle.std.specs.List.{flat_map}
 use Rattle.hushlang.specs.Tree.{Script, Empty, Runs, Starts, Alone, Joins, Simple, Assign, If, Arm, Else, NoElse, Loop, For, Bytes, Mark, Var, Status, Word}
@@ -161,11 +161,18 @@ ends_missing : map (lacks_end false) without_end ++ map (lacks_end false) with_e
 unfolding lacks_end
 ends_missing = refl
 
--- compound commands stand in one another 64 deep, and no deeper: a text that ends within them lacks its end, and one that is not
--- followed does not
+-- compound commands are nested 64 deep, and no deeper
 abbrev nested : ℕ → Text
-nested levels = flat_map {X = ℕ} (λ level. codes "if ") (replicate levels 0)
+nested levels = flat_map {X = ℕ} (λ level. codes "if a; then ") (replicate levels 0) ++ codes "a" ++ flat_map {X = ℕ} (λ level. codes "; fi") (replicate levels 0)
 
-nesting : map (λ text. lacks_end false text) (nested 64 ∷ nested 65 ∷ []) ≡ true ∷ false ∷ []
-unfolding lacks_end
+nesting : map is_some (old_tree_of false (nested 64) ∷ old_tree_of false (nested 65) ∷ []) ≡ true ∷ false ∷ []
+unfolding old_tree_of
 nesting = refl
+
+-- a text that ends within them lacks its end; one that is not followed does not
+abbrev not_ended : ℕ → Text
+not_ended levels = flat_map {X = ℕ} (λ level. codes "if ") (replicate levels 0)
+
+nesting_not_ended : map (λ text. lacks_end false text) (not_ended 64 ∷ not_ended 65 ∷ []) ≡ true ∷ false ∷ []
+unfolding lacks_end
+nesting_not_ended = refl

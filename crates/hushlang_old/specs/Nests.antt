@@ -93,14 +93,14 @@ pub data Compound : Type 0 where
   -- `while` or `until`, in the condition and in the body
   Test : (until : Bool) → Compound
   Body : (until : Bool) → (condition : Script) → Compound
-  -- `for`, in front of its name, of `in`, in the words, in front of `do`, and in the body
+  -- `for`, before its name, of `in`, in the words, before `do`, and in the body
   Name : Compound
   In : (name : List ℕ) → Compound
   Words : (name : List ℕ) → Compound
   Do : (name : List ℕ) → (words : List tree.Word) → Compound
   Each : (name : List ℕ) → (words : List tree.Word) → Compound
 
--- the part of it that a text is in; of an arm, whether others are in front of it
+-- the part of it that a text is in; of an arm, whether others are before it
 abbrev pub part_of : Compound → Part
 part_of (Condition arms) = p.Condition
 part_of (Arm arms condition) = p.Arm (not (length arms == 0))
@@ -113,7 +113,7 @@ part_of (Words name) = p.Words
 part_of (Do name words) = p.Do
 part_of (Each name words) = p.Each
 
--- a `for` in front of its body
+-- a `for` before its body
 abbrev pub is_header : Part → Bool
 is_header p.Name = true
 is_header p.In = true
@@ -138,7 +138,7 @@ pub data Next : Type 0 where
   Enters : (compound : Compound) → Next
   -- it ends
   Closes : (command : Command) → Next
-  -- the word is none that may stand here
+  -- the word is none that may be here
   Strays : Next
 
 -- by what may follow each word (`reserved_word`). A `for` without `in` has no words
@@ -167,7 +167,7 @@ words_read words compound = compound
 
 -- ---- the whole
 
--- the block on the way; and each open compound command with the block that it stands in, the innermost first
+-- the block on the way; and each open compound command with the block that it is in, the innermost first
 pub record Nest : Type 0 where
   pub block : Block
   pub opens : List (Compound × Block)
@@ -192,7 +192,7 @@ part_in n = part_among n.opens
 abbrev pub command_added : Command → Nest → Nest
 command_added c n = record n { block = with_command c n.block }
 
--- an operator stands behind the commands of the list on the way
+-- an operator is after the commands of the list on the way
 abbrev pub operator_read : Op → Nest → Nest
 operator_read op n = record n { block = record n.block { op = op } }
 
@@ -207,7 +207,7 @@ begun word n = elim (begun_by word) [
 ]
 
 -- where another reserved word leads to: the innermost compound command has gone on with its next part, or has ended, or the word
--- may not stand here
+-- may not be here
 pub data Gone : Type 0 where
   Entered : (nest : Nest) → Gone
   Closed : (nest : Nest) → Gone

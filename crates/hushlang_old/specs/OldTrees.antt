@@ -1,7 +1,7 @@
 -- The tree of a text as U-Boot's old shell reads it (common/cli_hush.c, `reserved_word`, `done_command`, `done_pipe`), token by
 -- token. A block without a command has one without words: it does nothing and keeps the status. A text that has a
--- construct that is not followed here has no tree: a fault; a condition without a command; an operator without a command in front of
--- it; a word straight behind a compound command; `then` straight in front of `elif`; an assignment in front of a command
+-- construct that is not followed here has no tree: a fault; a condition without a command; an operator without a command before
+-- it; a word straight behind a compound command; `then` straight before `elif`; an assignment before a command
 -- where either has a variable; and the names `HUSH_VERSION` and `HUSH_NO_EVAL`, by which the shell changes. 2023.01 and 2025.01
 -- read the same; but what `exit` does in 2025.01 depends on where it stands, and that is in its tree.
 use Rattle.std.specs.Prelude.{ℕ, ◌==◌, Bool, true, false, not, ◌&&◌, ◌||◌, List, [], ◌∷◌, ◌++◌, map, take, drop, if◌then◌else◌, Option, Some, None, is_some, unwrap_or, codes, bytes_eq}
@@ -87,7 +87,7 @@ changes_shell w = is_name_of_shell (value_of w).0
 -- ---- what is on the way
 
 -- whether the text is read for 2025.01; the block on the way and the compound commands that are open; whether that block has had a
--- separator; the words on the way, whether all of them are assignments, and whether assignments are in front of them; and
+-- separator; the words on the way, whether all of them are assignments, and whether assignments are before them; and
 -- whether a compound command has just ended
 pub record Building : Type 0 where
   pub newer : Bool
@@ -163,7 +163,7 @@ joined_by op b = record (command_ended b) { nest = nests.operator_read op (comma
 abbrev pub opened : Reserved → Building → Option Building
 opened word b = if nests.is_full b.nest then None else Some (record b { nest = nests.begun word b.nest; separated = false })
 
--- where a block without a command is refused: a condition; and behind `then`, if `elif` stands straight behind that, which would go
+-- where a block without a command is refused: a condition; and behind `then`, if `elif` is straight after that, which would go
 -- by an older condition
 abbrev pub needs_command : Part → Reserved → (separated : Bool) → Bool
 needs_command p.Condition r.Then separated = true

@@ -20,7 +20,7 @@ use std::mem;
 
 /// Whether the text is read for 2025.01; the block on the way and the compound commands that are open;
 /// whether that block has had a separator; the words on the way, whether all of them are assignments,
-/// and whether assignments are in front of them; and whether a compound command has just ended.
+/// and whether assignments are before them; and whether a compound command has just ended.
 #[derive(Drop)]
 pub(crate) struct Building {
     alloc: Global,

@@ -1,5 +1,5 @@
 //! The words of a command, and those of a `for`, as U-Boot's old shell finds them, and the trees of texts by the shell. What its
-//! modern shell does alike stands here too: how commands are nested, and what pieces of words say.
+//! modern shell does alike is here too: how commands are nested, and what pieces of words say.
 #![tactic(auto)]
 
 mod building;

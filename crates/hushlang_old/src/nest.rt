@@ -16,7 +16,7 @@ use std::rc::Rc;
 /// How deep compound commands may be nested.
 const MAX_NESTING: usize = 64;
 
-/// The block on the way; and the compound commands that are open, each with the block that it stands
+/// The block on the way; and the compound commands that are open, each with the block that it is
 /// in.
 #[derive(Drop)]
 pub struct Nest {
@@ -32,7 +32,7 @@ pub enum Gone {
     Entered,
     /// The innermost compound command has ended.
     Closed,
-    /// The word may not stand here.
+    /// The word may not be here.
     Astray,
 }
 
@@ -121,7 +121,7 @@ impl Nest {
         self.block.push(command)
     }
 
-    /// An operator stands behind the commands of the list on the way.
+    /// An operator is after the commands of the list on the way.
     #[tactic(auto, unfolding(crate::specs::NestsShown::nest))]
     pub fn set_operator(&mut self, op: Op)
         ensures { shown.nest self.new ≡ says.operator_read op (shown.nest self.old) }

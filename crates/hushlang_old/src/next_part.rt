@@ -17,7 +17,7 @@ pub(crate) enum Next {
     Enters(Compound),
     /// It ends.
     Closes(Command),
-    /// The word is none that may stand here.
+    /// The word is none that may be here.
     Strays,
 }
 

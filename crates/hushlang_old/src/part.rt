@@ -9,7 +9,7 @@ pub enum Part {
     Outside,
     /// `if`, in a condition.
     Condition,
-    /// `if`, in the block behind a condition, and whether it has other arms in front of that.
+    /// `if`, in the block behind a condition, and whether it has other arms before that.
     Arm(bool),
     /// `if`, in the `else` block.
     Else,
@@ -17,19 +17,19 @@ pub enum Part {
     Test,
     /// `while` or `until`, in its body.
     Body,
-    /// `for`, in front of its name.
+    /// `for`, before its name.
     Name,
-    /// `for`, in front of `in`.
+    /// `for`, before `in`.
     In,
     /// `for`, in its words.
     Words,
-    /// `for`, in front of `do`.
+    /// `for`, before `do`.
     Do,
     /// `for`, in its body.
     Each,
 }
 
-/// Whether a part is of a `for` in front of its body.
+/// Whether a part is of a `for` before its body.
 pub fn is_header(part: Part) -> bool
     ensures { result ≡ says.is_header part }
 {
