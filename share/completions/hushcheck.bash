@@ -42,7 +42,7 @@ _hushcheck_options() {
 _hushcheck_value() {
     case $1 in
         -c | --config | -i | --image | --second | --text | -d | --device-list | --script) value='file' ;;
-        --shell) value='listed profile old-2023.01 old-2025.01 old' ;;
+        --shell) value='listed profile old-2023.01 old-2025.01 old modern-2025.01 modern' ;;
         *) value='' ;;
     esac
 }

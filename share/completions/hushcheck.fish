@@ -34,7 +34,7 @@ complete -c hushcheck -l big-endian -d 'The CRC is stored big-endian'
 complete -c hushcheck -s d -l device-list -r -F -d 'Device list, at most 1048576 bytes, that the commands are looked up in'
 complete -c hushcheck -l script -r -F -d 'Script or script image, at most 1048576 bytes, in place of NAME'
 complete -c hushcheck -l all -d 'Check every variable of the image, after the NAMEs'
-complete -c hushcheck -l shell -x -a 'profile old-2023.01 old-2025.01 old' -d 'Name what a rehearsal by this shell does not follow: profile, old-2023.01, old-2025.01 or old'
+complete -c hushcheck -l shell -x -a 'profile old-2023.01 old-2025.01 old modern-2025.01 modern' -d 'Name what a rehearsal by this shell does not follow: profile, old-2023.01, old-2025.01, old, modern-2025.01 or modern'
 complete -c hushcheck -l strict -d 'Exit with status 1 if there is a warning'
 # end
 

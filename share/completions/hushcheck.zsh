@@ -27,7 +27,7 @@ _hushcheck_options() {
                 '(-d --device-list)'{-d,--device-list}'[Device list, at most 1048576 bytes, that the commands are looked up in]:file:_files'
                 '--script[Script or script image, at most 1048576 bytes, in place of NAME]:file:_files'
                 '--all[Check every variable of the image, after the NAMEs]'
-                '--shell[Name what a rehearsal by this shell does not follow\: profile, old-2023.01, old-2025.01 or old]:name:(profile old-2023.01 old-2025.01 old)'
+                '--shell[Name what a rehearsal by this shell does not follow\: profile, old-2023.01, old-2025.01, old, modern-2025.01 or modern]:name:(profile old-2023.01 old-2025.01 old modern-2025.01 modern)'
                 '--strict[Exit with status 1 if there is a warning]'
                 '(- *)'{-h,--help}'[Print help]'
                 '(- *)'{-V,--version}'[Print version]'

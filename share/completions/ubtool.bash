@@ -51,7 +51,7 @@ _ubtool_value() {
         -l | --lock) value='folder' ;;
         -b | --variable) value='name' ;;
         --given | --devices | --steps | --word | --failures | --after | --limit | --states | --size | --fill) value='other' ;;
-        --shell) value='listed profile old-2023.01 old-2025.01 old' ;;
+        --shell) value='listed profile old-2023.01 old-2025.01 old modern-2025.01 modern' ;;
         *) value='' ;;
     esac
 }

@@ -82,7 +82,7 @@ complete -c ubtool -n '__fish_seen_subcommand_from rehearse' -l devices -x -d 'A
 complete -c ubtool -n '__fish_seen_subcommand_from endings causes' -l devices -x -d 'At most N device commands a run, 0 to 1000'
 complete -c ubtool -n '__fish_seen_subcommand_from rehearse' -l steps -x -d 'At most N steps (commands begun) a run, 0 to 1000000'
 complete -c ubtool -n '__fish_seen_subcommand_from endings causes' -l steps -x -d 'At most N steps (commands begun) a run, 0 to 1000000'
-complete -c ubtool -n '__fish_seen_subcommand_from rehearse endings causes' -l shell -x -a 'profile old-2023.01 old-2025.01 old' -d 'The shell by whose rules the scripts run: profile, old-2023.01, old-2025.01 or old'
+complete -c ubtool -n '__fish_seen_subcommand_from rehearse endings causes' -l shell -x -a 'profile old-2023.01 old-2025.01 old modern-2025.01 modern' -d 'The shell by whose rules the scripts run: profile, old-2023.01, old-2025.01, old, modern-2025.01 or modern'
 complete -c ubtool -n '__fish_seen_subcommand_from rehearse' -l word -x -d 'The run of WORD alone, . for the empty one'
 complete -c ubtool -n '__fish_seen_subcommand_from rehearse' -l failures -x -d 'The runs in which at most N answers are failures, 0 to 32'
 complete -c ubtool -n '__fish_seen_subcommand_from causes' -l failures -x -d 'The runs in which at most N answers are failures, 0 to 3'

@@ -250,12 +250,12 @@ def compare_column(scripts, verdicts):
             same(f"--shell for the row {row}", text, says["same" in found, "stops" in found])
 
 
-def compare_random(shell, version):
+def compare_random(shell, version, kind):
     """Random scripts with --shell beside the sandbox of that shell; of one in five all runs are the same."""
     count, folder = os.environ.get("UBTOOL_RANDOM", "500"), f"random.{shell}"
     os.mkdir(folder)
     subprocess.run([f"{PARTS}/random_scripts", count, os.environ.get("UBTOOL_SEED", "1")], cwd=folder, check=True)
-    run_shell(folder, version, "old", count)
+    run_shell(folder, version, kind, count)
     verdicts = with_shell(shell, folder, int(count))
     alike = verdicts.count("same")
     holds(f"--shell {shell}: {alike} of {count} random scripts the same", 5 * alike >= int(count))
@@ -271,12 +271,14 @@ def main():
         compare(scripts, "2023.01", 4)
         compare_few(scripts, "2023.01")
         compare_column(scripts, compare_shell("old-2023.01", "2023.01", scripts))
-        compare_random("old-2023.01", "2023.01")
+        compare_random("old-2023.01", "2023.01", "old")
     if SANDBOXES["2025.01"]:
         run_scripts("modern", "2025.01", "modern", scripts)
         compare(scripts, "modern", 5)
         compare_few(scripts, "modern")
-        compare_random("old-2025.01", "2025.01")
+        compare_random("old-2025.01", "2025.01", "old")
+        compare_shell("modern-2025.01", "modern", scripts)
+        compare_random("modern-2025.01", "2025.01", "modern")
     if all(SANDBOXES.values()):
         run_scripts("old", "2025.01", "old", scripts)
         compare_old(scripts)

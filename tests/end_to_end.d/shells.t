@@ -267,50 +267,50 @@ a word of profile, in old
   ! ubtool: no run has the word 00
   [1]
 
-a shell 'modern'
-  $ ubtool rehearse -c shells.config -d devices --shell modern
-  ! error: invalid value 'modern' for '--shell <NAME>'
-  !   [possible values: profile, old-2023.01, old-2025.01, old]
+a shell 'modern-2023'
+  $ ubtool rehearse -c shells.config -d devices --shell modern-2023
+  ! error: invalid value 'modern-2023' for '--shell <NAME>'
+  !   [possible values: profile, old-2023.01, old-2025.01, old, modern-2025.01, modern]
   !
   ! For more information, try '--help'.
   [2]
 
-a shell 'modern' for endings
-  $ ubtool endings -c shells.config -d devices --shell=modern
-  ! error: invalid value 'modern' for '--shell <NAME>'
-  !   [possible values: profile, old-2023.01, old-2025.01, old]
+a shell 'modern-2023' for endings
+  $ ubtool endings -c shells.config -d devices --shell=modern-2023
+  ! error: invalid value 'modern-2023' for '--shell <NAME>'
+  !   [possible values: profile, old-2023.01, old-2025.01, old, modern-2025.01, modern]
   !
   ! For more information, try '--help'.
   [2]
 
-a shell 'modern' for causes
-  $ ubtool causes -c shells.config -d devices --shell=modern
-  ! error: invalid value 'modern' for '--shell <NAME>'
-  !   [possible values: profile, old-2023.01, old-2025.01, old]
+a shell 'modern-2023' for causes
+  $ ubtool causes -c shells.config -d devices --shell=modern-2023
+  ! error: invalid value 'modern-2023' for '--shell <NAME>'
+  !   [possible values: profile, old-2023.01, old-2025.01, old, modern-2025.01, modern]
   !
   ! For more information, try '--help'.
   [2]
 
-a shell 'modern-2025.01'
-  $ ubtool rehearse -c shells.config -d devices --shell modern-2025.01
-  ! error: invalid value 'modern-2025.01' for '--shell <NAME>'
-  !   [possible values: profile, old-2023.01, old-2025.01, old]
+a shell 'modern-2023.01'
+  $ ubtool rehearse -c shells.config -d devices --shell modern-2023.01
+  ! error: invalid value 'modern-2023.01' for '--shell <NAME>'
+  !   [possible values: profile, old-2023.01, old-2025.01, old, modern-2025.01, modern]
   !
   ! For more information, try '--help'.
   [2]
 
-a shell 'modern-2025.01' for endings
-  $ ubtool endings -c shells.config -d devices --shell=modern-2025.01
-  ! error: invalid value 'modern-2025.01' for '--shell <NAME>'
-  !   [possible values: profile, old-2023.01, old-2025.01, old]
+a shell 'modern-2023.01' for endings
+  $ ubtool endings -c shells.config -d devices --shell=modern-2023.01
+  ! error: invalid value 'modern-2023.01' for '--shell <NAME>'
+  !   [possible values: profile, old-2023.01, old-2025.01, old, modern-2025.01, modern]
   !
   ! For more information, try '--help'.
   [2]
 
-a shell 'modern-2025.01' for causes
-  $ ubtool causes -c shells.config -d devices --shell=modern-2025.01
-  ! error: invalid value 'modern-2025.01' for '--shell <NAME>'
-  !   [possible values: profile, old-2023.01, old-2025.01, old]
+a shell 'modern-2023.01' for causes
+  $ ubtool causes -c shells.config -d devices --shell=modern-2023.01
+  ! error: invalid value 'modern-2023.01' for '--shell <NAME>'
+  !   [possible values: profile, old-2023.01, old-2025.01, old, modern-2025.01, modern]
   !
   ! For more information, try '--help'.
   [2]
@@ -318,7 +318,7 @@ a shell 'modern-2025.01' for causes
 a shell 'Old'
   $ ubtool rehearse -c shells.config -d devices --shell Old
   ! error: invalid value 'Old' for '--shell <NAME>'
-  !   [possible values: profile, old-2023.01, old-2025.01, old]
+  !   [possible values: profile, old-2023.01, old-2025.01, old, modern-2025.01, modern]
   !
   ! For more information, try '--help'.
   [2]
@@ -326,7 +326,7 @@ a shell 'Old'
 a shell 'Old' for endings
   $ ubtool endings -c shells.config -d devices --shell=Old
   ! error: invalid value 'Old' for '--shell <NAME>'
-  !   [possible values: profile, old-2023.01, old-2025.01, old]
+  !   [possible values: profile, old-2023.01, old-2025.01, old, modern-2025.01, modern]
   !
   ! For more information, try '--help'.
   [2]
@@ -334,7 +334,7 @@ a shell 'Old' for endings
 a shell 'Old' for causes
   $ ubtool causes -c shells.config -d devices --shell=Old
   ! error: invalid value 'Old' for '--shell <NAME>'
-  !   [possible values: profile, old-2023.01, old-2025.01, old]
+  !   [possible values: profile, old-2023.01, old-2025.01, old, modern-2025.01, modern]
   !
   ! For more information, try '--help'.
   [2]
@@ -342,7 +342,7 @@ a shell 'Old' for causes
 a shell 'old-2024.01'
   $ ubtool rehearse -c shells.config -d devices --shell old-2024.01
   ! error: invalid value 'old-2024.01' for '--shell <NAME>'
-  !   [possible values: profile, old-2023.01, old-2025.01, old]
+  !   [possible values: profile, old-2023.01, old-2025.01, old, modern-2025.01, modern]
   !
   ! For more information, try '--help'.
   [2]
@@ -350,7 +350,7 @@ a shell 'old-2024.01'
 a shell 'old-2024.01' for endings
   $ ubtool endings -c shells.config -d devices --shell=old-2024.01
   ! error: invalid value 'old-2024.01' for '--shell <NAME>'
-  !   [possible values: profile, old-2023.01, old-2025.01, old]
+  !   [possible values: profile, old-2023.01, old-2025.01, old, modern-2025.01, modern]
   !
   ! For more information, try '--help'.
   [2]
@@ -358,7 +358,7 @@ a shell 'old-2024.01' for endings
 a shell 'old-2024.01' for causes
   $ ubtool causes -c shells.config -d devices --shell=old-2024.01
   ! error: invalid value 'old-2024.01' for '--shell <NAME>'
-  !   [possible values: profile, old-2023.01, old-2025.01, old]
+  !   [possible values: profile, old-2023.01, old-2025.01, old, modern-2025.01, modern]
   !
   ! For more information, try '--help'.
   [2]
@@ -366,7 +366,7 @@ a shell 'old-2024.01' for causes
 a shell ''
   $ ubtool rehearse -c shells.config -d devices --shell ''
   ! error: invalid value '' for '--shell <NAME>'
-  !   [possible values: profile, old-2023.01, old-2025.01, old]
+  !   [possible values: profile, old-2023.01, old-2025.01, old, modern-2025.01, modern]
   !
   ! For more information, try '--help'.
   [2]
@@ -374,7 +374,7 @@ a shell ''
 a shell '' for endings
   $ ubtool endings -c shells.config -d devices --shell=
   ! error: invalid value '' for '--shell <NAME>'
-  !   [possible values: profile, old-2023.01, old-2025.01, old]
+  !   [possible values: profile, old-2023.01, old-2025.01, old, modern-2025.01, modern]
   !
   ! For more information, try '--help'.
   [2]
@@ -382,7 +382,7 @@ a shell '' for endings
 a shell '' for causes
   $ ubtool causes -c shells.config -d devices --shell=
   ! error: invalid value '' for '--shell <NAME>'
-  !   [possible values: profile, old-2023.01, old-2025.01, old]
+  !   [possible values: profile, old-2023.01, old-2025.01, old, modern-2025.01, modern]
   !
   ! For more information, try '--help'.
   [2]

@@ -112,9 +112,9 @@ the script of an update service, by old
                         ^
 
 a shell of another name
-  $ hushcheck --shell modern
-  ! error: invalid value 'modern' for '--shell <NAME>'
-  !   [possible values: profile, old-2023.01, old-2025.01, old]
+  $ hushcheck --shell newest
+  ! error: invalid value 'newest' for '--shell <NAME>'
+  !   [possible values: profile, old-2023.01, old-2025.01, old, modern-2025.01, modern]
   !
   ! For more information, try '--help'.
   [2]

@@ -92,9 +92,9 @@ an image and a configuration, of missing files
   [2]
 
 a shell of another name, and words that name no images
-  $ hushcheck --shell modern -i run -c run.config
-  ! error: invalid value 'modern' for '--shell <NAME>'
-  !   [possible values: profile, old-2023.01, old-2025.01, old]
+  $ hushcheck --shell newest -i run -c run.config
+  ! error: invalid value 'newest' for '--shell <NAME>'
+  !   [possible values: profile, old-2023.01, old-2025.01, old, modern-2025.01, modern]
   !
   ! For more information, try '--help'.
   [2]

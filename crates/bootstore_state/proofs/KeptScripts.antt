@@ -10,7 +10,7 @@ use Rattle.std.specs.declared.alloc.Global.{Global}
 use Rattle.std.specs.declared.rc.Rc.{Rc}
 use Rattle.std.specs.declared.vec.Vec.{Vec}
 use Rattle.hushlang.specs.declared.tree.Script.{Script as Code}
-use Rattle.hushlang_old.specs.TreesByShell.{tree_in}
+use Rattle.hushlang_shells.specs.TreesByShell.{tree_in}
 use Rattle.rehearse_terms.specs.declared.shell.Shell.{Shell}
 use Rattle.bootstore_state.specs.Moment.{Bytes}
 use Rattle.bootstore_state.specs.Scripts.{AreOfTexts, script_shown}

@@ -8,7 +8,7 @@ use Rattle.std.specs.declared.vec.Vec.{Vec}
 use Rattle.hushlang.specs.Tree.{Script}
 use Rattle.hushlang.specs.TreesShown as view
 use Rattle.hushlang.specs.declared.tree.Script.{Script as Code}
-use Rattle.hushlang_old.specs.TreesByShell.{tree_in}
+use Rattle.hushlang_shells.specs.TreesByShell.{tree_in}
 use Rattle.rehearse_terms.specs.declared.shell.Shell.{Shell}
 use Rattle.bootstore_state.specs.ScriptCode.{coded_script}
 use Rattle.bootstore_state.specs.declared.scripts.TextFound.{TextFound}

@@ -2,14 +2,14 @@
 ghost use Rattle.std.specs.Prelude.{◌≡◌, ◌+◌, ◌≤◌, true, Some, None, IfOk, option_map};
 ghost use Rattle.std.specs.FinMap.{get};
 ghost use Rattle.hushlang.specs.TreesShown as view;
-ghost use Rattle.hushlang_old.specs.TreesByShell.{lacks_end_in, tree_in};
+ghost use Rattle.hushlang_shells.specs.TreesByShell.{lacks_end_in, tree_in};
 ghost use Rattle.bootstore_state.specs.Scripts.{AreOfTexts, end_missing, most_kept, one_proof, script_shown, text_found};
 ghost use Rattle.bootstore_state.specs.Table.{variables_of};
 
 use crate::store::StoreError;
 use crate::table::Table;
 use hushlang::Script;
-use hushlang_old::{read_text, text_lacks_end};
+use hushlang_shells::{read_text, text_lacks_end};
 use rehearse_terms::Shell;
 use std::alloc::Global;
 use std::collections::BTreeMap;
@@ -69,6 +69,7 @@ fn is_same(left: Shell, right: Shell) -> bool
         (Shell::Profile, Shell::Profile) => true,
         (Shell::Old2023, Shell::Old2023) => true,
         (Shell::Old2025, Shell::Old2025) => true,
+        (Shell::Modern2025, Shell::Modern2025) => true,
         _ => false,
     }
 }
@@ -137,7 +138,7 @@ impl Scripts {
     }
 
     /// What the text of a variable is in this shell. Errors: `Memory`.
-    #[tactic(auto, using(hushlang_old::proofs::TreeByShellLemmas::read_has_end))]
+    #[tactic(auto, using(hushlang_shells::proofs::TreeByShellLemmas::read_has_end))]
     pub fn text_of(
         &mut self,
         shell: Shell,

@@ -7,7 +7,7 @@ ghost use Rattle.bootstore_state.specs.Present.{moment_of};
 ghost use Rattle.bootstore_state.specs.Record.{Record, fresh, started, stepped, with_mark, gone_back, changed, with_environment, with_local, with_echo, with_device, with_status, with_frame, with_place, without_frame};
 ghost use Rattle.bootstore_state.specs.Scripts.{end_missing, text_found};
 ghost use Rattle.rehearse_terms.specs.Bounds.{most_steps};
-ghost use Rattle.hushlang_old.specs.TreesByShell.{lacks_end_in, tree_in};
+ghost use Rattle.hushlang_shells.specs.TreesByShell.{lacks_end_in, tree_in};
 
 use crate::frame::{At, Frame};
 use crate::log::LogEntry;

@@ -12,9 +12,9 @@ use Rattle.hushlang.specs.Tree.{Script, Empty, Runs, AndOr, Starts, Joined, Alon
 use Rattle.hushlang.specs.TreesShown as view
 use Rattle.hushlang.specs.declared.tree.Script as code_script
 use Rattle.hushlang.specs.declared.token.SyntaxError.{SyntaxError}
-use Rattle.hushlang_old.specs.TreesByShell.{tree_in}
+use Rattle.hushlang_shells.specs.TreesByShell.{tree_in}
 use Rattle.rehearse_terms.specs.declared.shell.Shell.{Shell}
-use Rattle.rehearse_terms.specs.declared.shell.Shell.TheVariants.{Profile, Old2023, Old2025}
+use Rattle.rehearse_terms.specs.declared.shell.Shell.TheVariants.{Profile, Old2023, Old2025, Modern2025}
 
 -- bytes before what follows, if that is known
 abbrev pub in_front : Text → Option Text → Option Text
@@ -77,21 +77,22 @@ abbrev pub run_by_read : Result Script SyntaxError → List Text
 run_by_read (Ok script) = run_by_script script
 run_by_read (Err error) = []
 
--- what U-Boot's old shell reads in a text, if the call names it
-abbrev pub old_script : Option Shell → Text → Option Script
-old_script None text = None
-old_script (Some Profile) text = None
-old_script (Some Old2023) text = tree_in Old2023 text
-old_script (Some Old2025) text = tree_in Old2025 text
+-- what a shell of U-Boot reads in a text, if the call names one
+abbrev pub uboot_script : Option Shell → Text → Option Script
+uboot_script None text = None
+uboot_script (Some Profile) text = None
+uboot_script (Some Old2023) text = tree_in Old2023 text
+uboot_script (Some Old2025) text = tree_in Old2025 text
+uboot_script (Some Modern2025) text = tree_in Modern2025 text
 
-abbrev pub or_old : Option Script → Result Script SyntaxError → Result Script SyntaxError
-or_old old (Ok script) = Ok script
-or_old (Some script) (Err error) = Ok script
-or_old None (Err error) = Err error
+abbrev pub or_uboot : Option Script → Result Script SyntaxError → Result Script SyntaxError
+or_uboot old (Ok script) = Ok script
+or_uboot (Some script) (Err error) = Ok script
+or_uboot None (Err error) = Err error
 
--- What is read in a text: by the language; and if that refuses it, by the old shell that the call names.
+-- What is read in a text: by the language; and if that refuses it, by the shell of U-Boot that the call names.
 abbrev pub read_by : Option Shell → Text → Result Script SyntaxError
-read_by shell text = or_old (old_script shell text) (read_in text)
+read_by shell text = or_uboot (uboot_script shell text) (read_in text)
 
 abbrev pub run_by_text : Option Shell → Text → List Text
 run_by_text shell text = run_by_read (read_by shell text)

@@ -1,12 +1,12 @@
 -- Which warnings a text has, by the shell that the call names. Ours.
 use Rattle.std.specs.Prelude.{ℕ, ◌++◌, ◌&&◌, not, Bool, true, false, List, [], ◌∷◌, filter, Option, Some, None, is_some}
 use Rattle.hushcheck.specs.Calls.{Remark, NotFollowed, Lacks, SetsMore, Unset, Warns}
-use Rattle.hushcheck.specs.Names.{Text, old_script}
+use Rattle.hushcheck.specs.Names.{Text, uboot_script}
 use Rattle.hushcheck.specs.Warnings.{warnings_of}
 use Rattle.hushcheck.specs.declared.warning.Warning.{Warning}
-use Rattle.hushcheck.specs.declared.warning.Warning.TheVariants.{ManyWords, NotFollowedText, OptionOfSetenv, ReservedName, StraightBehind}
+use Rattle.hushcheck.specs.declared.warning.Warning.TheVariants.{Exit, ManyWords, NotFollowedText, OptionOfSetenv, Parenthesis, ReservedName, SpecialParameter, StraightBehind}
 use Rattle.rehearse_terms.specs.declared.shell.Shell.{Shell}
-use Rattle.rehearse_terms.specs.declared.shell.Shell.TheVariants.{Profile, Old2023, Old2025}
+use Rattle.rehearse_terms.specs.declared.shell.Shell.TheVariants.{Profile, Old2023, Old2025, Modern2025}
 
 -- what a rehearsal by an old shell of U-Boot does not follow
 abbrev pub stops_old : Warning → Bool
@@ -16,6 +16,15 @@ stops_old OptionOfSetenv = true
 stops_old ManyWords = true
 stops_old warning = false
 
+-- what a rehearsal by U-Boot's modern shell does not follow
+abbrev pub stops_modern : Warning → Bool
+stops_modern StraightBehind = true
+stops_modern Exit = true
+stops_modern OptionOfSetenv = true
+stops_modern SpecialParameter = true
+stops_modern Parenthesis = true
+stops_modern warning = false
+
 -- All warnings are told if no shell is named. Of a shell those are told of which a rehearsal stops there, and ubtool's own
 -- reading has none.
 abbrev pub tells : Option Shell → Warning → Bool
@@ -23,6 +32,7 @@ tells None warning = true
 tells (Some Profile) warning = false
 tells (Some Old2023) warning = stops_old warning
 tells (Some Old2025) warning = stops_old warning
+tells (Some Modern2025) warning = stops_modern warning
 
 abbrev pub tells_remark : Option Shell → Remark → Bool
 tells_remark shell (Warns warning) = tells shell warning
@@ -31,15 +41,16 @@ tells_remark shell (Lacks name) = true
 tells_remark shell SetsMore = true
 tells_remark shell (Unset name) = true
 
-abbrev pub is_old : Option Shell → Bool
-is_old None = false
-is_old (Some Profile) = false
-is_old (Some Old2023) = true
-is_old (Some Old2025) = true
+abbrev pub is_uboot : Option Shell → Bool
+is_uboot None = false
+is_uboot (Some Profile) = false
+is_uboot (Some Old2023) = true
+is_uboot (Some Old2025) = true
+is_uboot (Some Modern2025) = true
 
--- the old shell that the call names reads the text in a way that is not followed
+-- the shell of U-Boot that the call names reads the text in a way that is not followed
 abbrev pub is_unread : Option Shell → (text : Text) → Bool
-is_unread shell text = is_old shell && not (is_some (old_script shell text))
+is_unread shell text = is_uboot shell && not (is_some (uboot_script shell text))
 
 -- it is told at the first byte
 abbrev pub unread : Bool → List (ℕ × Remark)

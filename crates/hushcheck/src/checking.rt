@@ -82,8 +82,8 @@ fn check_text<'a, O: Out>(
     ensures used { OnOk result (all_used used.new.items ≡ all_used used.old.items ++ used_by_text
         (held_to (option_map (λ d. d.now) devices.entry) shell strict) name.now text.now) }
 {
-    let TextRead { script, by_old } = read_by(alloc, shell, text)?;
-    let warnings = warnings_by(alloc, shell, by_old, text)?;
+    let TextRead { script, by_uboot } = read_by(alloc, shell, text)?;
+    let warnings = warnings_by(alloc, shell, by_uboot, text)?;
     match script {
         Ok(script) => {
             let calls = calls_of(alloc, devices, text, &script)?;

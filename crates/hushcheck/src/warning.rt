@@ -49,7 +49,7 @@ pub(crate) enum Warning {
     Parenthesis,
     /// A backslash before the end of a line, within a word.
     BackslashAtLineEnd,
-    /// A text that is not followed as the old shell reads it.
+    /// A text that is not followed as the shell of U-Boot reads it that is named.
     NotFollowedText,
 }
 

@@ -90,7 +90,7 @@ const ARGUMENTS: [Argument<'static>; 11] = [
         required: false,
         value: "NAME",
         help: "Name what a rehearsal by this shell does not follow: profile, old-2023.01, \
-            old-2025.01 or old [default: what any shell reads otherwise]",
+            old-2025.01, old, modern-2025.01 or modern [default: what any shell reads otherwise]",
     },
     Argument {
         id: "strict",

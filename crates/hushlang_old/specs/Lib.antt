@@ -8,4 +8,3 @@ pub mod OldTokens
 pub mod OldTokensShown
 pub mod OldTrees
 pub mod OldTreesShown
-pub mod TreesByShell

@@ -1,5 +1,5 @@
-//! The words of a command, and those of a `for`, as U-Boot's old shell finds them, and the trees of texts by the shell. What its
-//! modern shell does alike is here too: how commands are nested, and what pieces of words say.
+//! The words of a command, and those of a `for`, as U-Boot's old shell finds them, and the trees of texts. What its modern shell
+//! does alike is here too: how commands are nested, and what pieces of words say.
 #![tactic(auto)]
 
 mod building;
@@ -17,7 +17,6 @@ mod part;
 mod plain_exit;
 mod rereading;
 mod reserved;
-mod trees_by_shell;
 mod word_bytes;
 
 pub use calls::call_of;
@@ -31,5 +30,4 @@ pub use old_words::{old_fields, old_turns};
 pub use part::{Part, is_header};
 pub use rereading::unescaped;
 pub use reserved::{Reserved, begins, is_do, is_in, reserved_bytes};
-pub use trees_by_shell::{read_text, text_lacks_end};
 pub use word_bytes::{have_quotes, inserted};

@@ -14,4 +14,5 @@ mod RunningExamples
 mod EdgeExamples
 mod BoundExamples
 mod FailuresExamples
+mod ModernShellExamples
 mod ShellExamples

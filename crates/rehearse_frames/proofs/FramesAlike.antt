@@ -3,14 +3,14 @@ use Rattle.std.proofs.Common.{◌≡◌, ◌∙◌, refl, sym, ap, subst, ℕ, s
 use Rattle.hushlang.specs.Tree.{Script, Joined, Arms}
 use Rattle.rehearse_terms.specs.Outcomes.{OutcomeWord, WordKind, Run, Long}
 use Rattle.rehearse_terms.specs.State.{Text, State, LoggedCommand, get}
-use Rattle.rehearse_rules.specs.Execution.{Limits, Answer, Normal, Exit, Ended, Dry, Ending, End, take_outcome, run_all, turns, for_each}
+use Rattle.rehearse_rules.specs.Execution.{Limits, Answer, Normal, Exit, Ended, Dry, Ending, End, take_outcome, run_all, turns, for_each, block_skipped}
 use Rattle.rehearse_rules.specs.Runs.{taken_kind}
-use Rattle.rehearse_rules.proofs.TakenOutcomes.{KeepsAll, Keeps-script, Keeps-joined, Keeps-arms, Keeps-exec, Keeps-run, Keeps-turns, Keeps-for, Keeps-if, Keeps-stays, after_condition, Keeps-after_condition}
+use Rattle.rehearse_rules.proofs.TakenOutcomes.{KeepsAll, Keeps-script, Keeps-joined, Keeps-arms, Keeps-exec, Keeps-run, Keeps-turns, Keeps-for, Keeps-if, Keeps-stays, after_condition, Keeps-after_condition, Keeps-skip}
 use Rattle.rehearse_machine.specs.Came.{Over, settled}
 use Rattle.rehearse_machine.specs.Frames.{Frame, Lists, Linked, IfCondition, LoopCondition, LoopBody, ForBody, RunNames, RunText}
 use Rattle.rehearse_machine.specs.Meaning.{with, first_or_next, full, script, joined_of, arms_of, again, resume, continue}
 use Rattle.rehearse_reads.specs.Keys.{Key, Environment, Status, Access, AgreeOn, ReadsWithin, known_after}
-use Rattle.rehearse_reads.specs.Accesses.{turns_accesses, each_accesses, taken_accesses}
+use Rattle.rehearse_reads.specs.Accesses.{turns_accesses, each_accesses, taken_accesses, modern_accesses}
 use Rattle.rehearse_reads.specs.Alike as alike
 use Rattle.rehearse_reads.specs.Alike.{AreAbreast, IsAlike}
 use Rattle.rehearse_reads.proofs.AccessLemmas.{within_first, within_then}
@@ -18,7 +18,7 @@ use Rattle.rehearse_reads.proofs.KeysRead.{reads_within}
 use Rattle.rehearse_reads.proofs.AbreastLemmas.{moved_at, near_moved}
 use Rattle.rehearse_reads.proofs.AlikeParts.{further_apart, normal_later, if_later, normal_alike, ended_alike, dry_alike, if_alike, go_on_alike, text_end_alike, Alike-read}
 use Rattle.rehearse_reads.proofs.AlikeDevices.{take_alike}
-use Rattle.rehearse_reads.proofs.AlikeLoops.{Alike-turns, Alike-each, after_alike}
+use Rattle.rehearse_reads.proofs.AlikeLoops.{Alike-turns, Alike-each, Alike-skip, after_alike}
 use Rattle.rehearse_reads.proofs.AlikeScripts.{Alike-run, Alike-script, Alike-joined, Alike-arms, Alike-exec}
 use Rattle.rehearse_reads.proofs.AlikeRuns.{from_the_start}
 use Rattle.rehearse_frames.specs.ToCome.{names_read, first_behind, of_full, of_script, of_joined, of_arms, of_again, of_condition, of_choice, of_names, of_frame, of_end, of_frames}
@@ -83,17 +83,20 @@ module _ (limits : Limits) (i j : ℕ) (k l : List LoggedCommand) where
   kept_again : (until : Bool) (c b : Script) → KeepsAll limits (again limits until c b)
   kept_again until c b u = Keeps-turns limits limits.step_bound until (script limits c) (script limits b) (kept_script c) (kept_script b) u.memory.status u
 
-  choice_does : (b : Script) (arms : Arms) → AlwaysDoes (λ t. elim (nat_eq t.memory.status 0) [ true ↦ script limits b t | false ↦ arms_of limits arms t ]) (of_choice limits b arms)
+  choice_does : (b : Script) (arms : Arms) → AlwaysDoes (λ t. elim (nat_eq t.memory.status 0) [ true ↦ script limits b t | false ↦ arms_of limits arms (block_skipped limits.shell b t) ]) (of_choice limits b arms)
   choice_does b arms known s t near w =
+      let s' : State = block_skipped limits.shell b s in
+      let t' : State = block_skipped limits.shell b t in
       if_alike limits i j k l known (nat_eq s.memory.status 0) (nat_eq t.memory.status 0) (ap (λ (n : ℕ). nat_eq n 0) (near.keys Status w.0))
-      (script limits b s) (arms_of limits arms s) (script limits b t) (arms_of limits arms t) (of_script limits b s) (of_arms limits arms s) (script_does b known s t near) (arms_does arms known s t near) w.1
+      (script limits b s) (arms_of limits arms s') (script limits b t) (arms_of limits arms t') (of_script limits b s) (modern_accesses limits.shell ++ of_arms limits arms s') (script_does b known s t near)
+      (Alike-skip limits i j k l b (arms_of limits arms) (of_arms limits arms) (arms_does arms) known s t (near.keys Status w.0) near) w.1
 
   resume_alike : (f : Frame) (known : List Key) (a b : Answer) → ReadsWithin known (of_frame limits f a) → Is known a b → Is (known_after known (of_frame limits f a)) (resume limits f a) (resume limits f b)
   resume_alike (Lists lists) known a b w h = go_on_alike limits i j k l known a b (script limits lists) (of_script limits lists) (script_does lists) (kept_script lists) w h
   resume_alike (Linked links) known a b w h = go_on_alike limits i j k l known a b (joined_of limits links) (of_joined limits links) (joined_does links) (Keeps-joined limits limits.step_bound (full limits) kept_full links) w h
   resume_alike (IfCondition c arms) known a b w h =
-      go_on_alike limits i j k l known a b (λ t. elim (nat_eq t.memory.status 0) [ true ↦ script limits c t | false ↦ arms_of limits arms t ]) (of_choice limits c arms) (choice_does c arms)
-      (λ t. Keeps-if limits.device_bound t (nat_eq t.memory.status 0) (script limits c) (arms_of limits arms) (kept_script c t) (Keeps-arms limits limits.step_bound (full limits) kept_full arms t)) w h
+      go_on_alike limits i j k l known a b (λ t. elim (nat_eq t.memory.status 0) [ true ↦ script limits c t | false ↦ arms_of limits arms (block_skipped limits.shell c t) ]) (of_choice limits c arms) (choice_does c arms)
+      (λ t. Keeps-if limits.device_bound t (nat_eq t.memory.status 0) (script limits c) (λ u. arms_of limits arms (block_skipped limits.shell c u)) (kept_script c t) (Keeps-skip limits c (arms_of limits arms) (Keeps-arms limits limits.step_bound (full limits) kept_full arms) t)) w h
   resume_alike (LoopCondition until c d last) known a b w h =
       go_on_alike limits i j k l known a b (after_condition limits until (script limits d) (again limits until c d) last) (of_condition limits until c d)
       (after_alike limits i j k l until (script limits d) (again limits until c d) (of_script limits d) (of_again limits until c d) (script_does d) (again_does until c d) (kept_again until c d) last)

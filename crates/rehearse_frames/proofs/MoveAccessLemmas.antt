@@ -4,8 +4,8 @@ use Rattle.device_list.specs.declared.finish.BoardEnd.{BoardEnd}
 use Rattle.hushlang.specs.Tree as tree
 use Rattle.hushlang.specs.Tree.{Script, AndOr, Joined, Command, Arms, IsProper, IsProperCommand, HoldsCommand}
 use Rattle.hushlang.specs.Expansion.{size, most_bytes}
-use Rattle.hushlang_old.specs.TreesByShell.{tree_in, lacks_end_in}
-use Rattle.hushlang_old.proofs.TreeByShellLemmas.{trees_in_are_proper}
+use Rattle.hushlang_shells.specs.TreesByShell.{tree_in, lacks_end_in}
+use Rattle.hushlang_shells.proofs.TreeByShellLemmas.{trees_in_are_proper}
 use Rattle.builtins.specs.Builtins.{Builtin, SetEnv, Run, Test, Echo, True, False, Leave, builtin_of}
 use Rattle.commands.specs.Computed.{Computed}
 use Rattle.commands.specs.BuiltInCommands.{ChangesVariables, carried, deed_of}
@@ -14,20 +14,20 @@ use Rattle.device_list.specs.DeviceList.{Effect, effect_of, computed_by}
 use Rattle.rehearse_terms.specs.Outcomes.{OutcomeWord, Outcome, Success, Failure}
 use Rattle.rehearse_terms.specs.State.{Text, get, State}
 use Rattle.rehearse_rules.specs.Parameters.{parameters_in}
-use Rattle.rehearse_rules.specs.ByShell.{unread, leaves_in, status_of_exit, asks_in, truth_in, fields_in, turns_in, skips_rest, status_of_loop, follows, assigned_in, reads_again}
+use Rattle.rehearse_rules.specs.ByShell.{unread, leaves_in, status_of_exit, asks_in, truth_in, fields_in, turns_in, skips_rest, status_of_loop, follows, assigned_in, reads_again, follows_turns}
 use Rattle.rehearse_rules.specs.Needs.{effect_now}
-use Rattle.rehearse_rules.specs.Execution.{Limits, Answer, Normal, Exit, Ended, Ending, CutDevices, CutSteps, Unknown, Size, Finished, Unsupported, Request, go_on, set_status, status_when, goes, holds, begin, finish, tell_or_take, told, told_again, logged, set_environment, device, text_end, run_all, command, simple, sized, assign, assign_local, turns, for_each, begin_turn, run_text, started_text, request_of, test_request, text_failed}
+use Rattle.rehearse_rules.specs.Execution.{Limits, Answer, Normal, Exit, Ended, Ending, CutDevices, CutSteps, Unknown, Size, Finished, Unsupported, Request, go_on, set_status, status_when, goes, holds, begin, finish, tell_or_take, told, told_again, logged, set_environment, device, text_end, run_all, command, simple, sized, assign, assign_local, turns, for_each, begin_turn, run_text, started_text, request_of, test_request, text_failed, turns_of, for_words, for_begun, block_skipped}
 use Rattle.rehearse_rules.proofs.GrowingSteps.{Grew, AtLeast-track, Grew-block}
 use Rattle.rehearse_rules.proofs.TakenOutcomes.{KeepsAll, Keeps-script, Keeps-exec}
-use Rattle.rehearse_machine.specs.Frames.{Frame, Lists, Linked, IfCondition, LoopCondition, LoopBody, ForBody, RunNames, RunText, Next, Go, Ask, Stop, tell_or_ask, finish_next, leave, begin_assign, begin_for, begin_arms, begin_tree, begin_text, begin_names, begin_exit, fitting, ask, begin_called, begin_fields, counted, begin_command, answered, move}
+use Rattle.rehearse_machine.specs.Frames.{Frame, Lists, Linked, IfCondition, LoopCondition, LoopBody, ForBody, RunNames, RunText, Next, Go, Ask, Stop, tell_or_ask, finish_next, leave, begin_assign, begin_for, begin_arms, begin_tree, begin_text, begin_names, begin_exit, fitting, ask, begin_called, begin_fields, counted, begin_command, answered, move, begin_turns, begin_words}
 use Rattle.rehearse_machine.specs.Meaning.{with, full, script, one, joined_of, arms_of, again, resume, AreProperFrames}
 use Rattle.rehearse_machine.proofs.MoveMeaning.{failed_with_1, turn_more}
 use Rattle.rehearse_machine.proofs.StepBoundLemmas.{closed_exec}
 use Rattle.rehearse_machine.proofs.BoundLemmas.{Cut-block}
 use Rattle.rehearse_reads.specs.Keys.{Access, Reads, Writes, Environment, Status, all_read}
-use Rattle.rehearse_reads.specs.Accesses.{needs_reads, listed_accesses, behind, behind_text, status_written, word_reads, words_reads, sized_accesses, local_accesses, assign_accesses, turns_accesses, turn_accesses, each_accesses, for_accesses, begun_accesses, told_reads, answer_accesses, outcome_accesses, device_accesses, computed_accesses, tree_accesses, text_accesses, started_accesses, builtin_accesses, call_accesses, simple_accesses}
+use Rattle.rehearse_reads.specs.Accesses.{needs_reads, listed_accesses, behind, behind_text, status_written, word_reads, words_reads, sized_accesses, local_accesses, assign_accesses, turns_accesses, turn_accesses, each_accesses, for_accesses, begun_accesses, told_reads, answer_accesses, outcome_accesses, device_accesses, computed_accesses, tree_accesses, text_accesses, started_accesses, builtin_accesses, call_accesses, simple_accesses, modern_accesses, turns_of_accesses, for_words_accesses}
 use Rattle.rehearse_frames.specs.ToCome.{names_read, of_full, of_script, of_one, of_joined, of_arms, of_again, of_condition, of_choice, of_names, of_frames, of_next}
-use Rattle.rehearse_frames.specs.MoveAccesses.{of_listed, of_leaving, of_exit, of_telling, of_beginning_for, of_beginning_arms, of_beginning_tree, of_beginning_text, of_beginning_names, of_asking, of_builtin, of_call, of_fields, of_command, of_move}
+use Rattle.rehearse_frames.specs.MoveAccesses.{of_listed, of_leaving, of_exit, of_telling, of_beginning_for, of_beginning_arms, of_beginning_tree, of_beginning_text, of_beginning_names, of_asking, of_builtin, of_call, of_fields, of_command, of_move, of_beginning_turns, of_beginning_words}
 use Rattle.rehearse_frames.specs.Laws.{MovesComeFirst, OutcomesComeFirst}
 use Rattle.rehearse_frames.proofs.NoneBegun.{nothing_behind, None-block}
 use Rattle.rehearse_frames.proofs.SameAccesses.{either, same_behind, turns_same, closed_accesses}
@@ -214,6 +214,19 @@ module _ (limits : Limits) (wanted : List Text) (w : OutcomeWord) where
   for_so name [] body fs s = refl
   for_so name (f ∷ values) body fs s = refl
 
+  turns_so : (name : Text) (values : List Text) (body : Script) (fs : List Frame) (s : State) → of_beginning_turns limits.shell name values ++ After (begin_turns limits.shell name values body fs s)
+      ≡ turns_of_accesses limits.shell name (script limits body) (of_script limits body) values (with w s) ++ Rest fs (turns_of limits.shell name (script limits body) values (with w s))
+  turns_so name values body fs s =
+      if_so (follows_turns limits.shell name values) (of_beginning_for values) [] (begin_for name values body fs s) (Stop (Unsupported name) s) fs (for_accesses limits.shell name (script limits body) (of_script limits body) values (with w s)) [] (for_each limits.shell name (script limits body) 0 values (with w s)) (Ended (Unsupported name) (with w s))
+      (for_so name values body fs s) (stops_so fs (Unsupported name) s)
+
+  words_so : (name : Text) (words : List tree.Word) (body : Script) (fs : List Frame) (s : State) → of_beginning_words limits.shell name words s ++ After (begin_words limits.shell name words body fs s)
+      ≡ for_words_accesses limits.shell name words (script limits body) (of_script limits body) (with w s) ++ Rest fs (for_words limits.shell name words (script limits body) (with w s))
+  words_so name words body fs s =
+      let found : List Text = turns_in limits.shell (parameters_in s.memory) words in
+      fitting_so (all_read (words_reads s.memory words)) found (λ values u. of_beginning_turns limits.shell name values) (λ values. begin_turns limits.shell name values body fs) (turns_of_accesses limits.shell name (script limits body) (of_script limits body)) (turns_of limits.shell name (script limits body)) fs s
+      (turns_so name found body fs s)
+
   arms_so : (arms : Arms) (fs : List Frame) (s : State) → of_beginning_arms limits.shell arms ++ After (begin_arms limits.shell arms fs s) ≡ of_arms limits arms (with w s) ++ Rest fs (arms_of limits arms (with w s))
   arms_so (tree.Arm c b arms) fs s =
       let t : State = with w s in
@@ -282,12 +295,13 @@ module _ (limits : Limits) (wanted : List Text) (w : OutcomeWord) where
   command_so (tree.If arms) p fs s = arms_so arms fs s
   command_so (tree.Loop until c b) p fs s = loop_so until c b p.0 p.1 0 fs (with w s)
   command_so (tree.For name words body) p fs s =
-      counted_so (λ t. all_read (words_reads t.memory words) ++ sized_accesses (turns_in limits.shell (parameters_in t.memory) words) (λ values u. of_beginning_for values) t)
-      (λ t. fitting (turns_in limits.shell (parameters_in t.memory) words) (λ f. begin_for name f body fs) t)
-      (λ t. all_read (words_reads t.memory words) ++ sized_accesses (turns_in limits.shell (parameters_in t.memory) words) (for_accesses limits.shell name (script limits body) (of_script limits body)) t)
-      (λ t. sized (turns_in limits.shell (parameters_in t.memory) words) (for_each limits.shell name (script limits body) 0) t) fs s
-      (λ t. fitting_so (all_read (words_reads t.memory words)) (turns_in limits.shell (parameters_in t.memory) words) (λ values u. of_beginning_for values) (λ f. begin_for name f body fs) (for_accesses limits.shell name (script limits body) (of_script limits body)) (for_each limits.shell name (script limits body) 0) fs t
-      (for_so name (turns_in limits.shell (parameters_in t.memory) words) body fs t))
+      counted_so (λ t. modern_accesses limits.shell ++ of_beginning_words limits.shell name words (for_begun limits.shell t))
+      (λ t. begin_words limits.shell name words body fs (for_begun limits.shell t))
+      (λ t. modern_accesses limits.shell ++ for_words_accesses limits.shell name words (script limits body) (of_script limits body) (for_begun limits.shell t))
+      (λ t. for_words limits.shell name words (script limits body) (for_begun limits.shell t)) fs s
+      (λ t. let u : State = for_begun limits.shell t in
+      in_front (modern_accesses limits.shell) (of_beginning_words limits.shell name words u) (After (begin_words limits.shell name words body fs u)) (for_words_accesses limits.shell name words (script limits body) (of_script limits body) (with w u)) (Rest fs (for_words limits.shell name words (script limits body) (with w u)))
+      (words_so name words body fs u))
 
   skipped_so : (b : Bool) (links : Joined) (fs : List Frame) (s : State) → After (elim b [ true ↦ Go fs s | false ↦ Go (Linked links ∷ fs) s ])
       ≡ (elim b [ true ↦ [] | false ↦ of_joined limits links (with w s) ]) ++ Rest fs (elim b [ true ↦ Normal (with w s) | false ↦ joined_of limits links (with w s) ])
@@ -317,7 +331,9 @@ module _ (limits : Limits) (wanted : List Text) (w : OutcomeWord) where
   move_so (IfCondition b arms ∷ fs) p s =
       let t : State = with w s in
       ap (λ (xs : List Access). Reads Status ∷ xs)
-      (if_so (nat_eq s.memory.status 0) [] (of_beginning_arms limits.shell arms) (Go (Lists b ∷ fs) s) (begin_arms limits.shell arms fs s) fs (of_script limits b t) (of_arms limits arms t) (script limits b t) (arms_of limits arms t) refl (arms_so arms fs s))
+      (let u : State = block_skipped limits.shell b s in
+      if_so (nat_eq s.memory.status 0) [] (modern_accesses limits.shell ++ of_beginning_arms limits.shell arms) (Go (Lists b ∷ fs) s) (begin_arms limits.shell arms fs u) fs (of_script limits b t) (modern_accesses limits.shell ++ of_arms limits arms (with w u)) (script limits b t) (arms_of limits arms (with w u)) refl
+      (in_front (modern_accesses limits.shell) (of_beginning_arms limits.shell arms) (After (begin_arms limits.shell arms fs u)) (of_arms limits arms (with w u)) (Rest fs (arms_of limits arms (with w u))) (arms_so arms fs u)))
   move_so (LoopCondition until c b last ∷ fs) p s =
       let t : State = with w s in
       let a : Answer = script limits b t in

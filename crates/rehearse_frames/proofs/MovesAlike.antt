@@ -4,7 +4,7 @@ use Rattle.device_list.specs.declared.finish.BoardEnd.{BoardEnd}
 use Rattle.hushlang.specs.Tree as tree
 use Rattle.hushlang.specs.Tree.{Script, Command, Arms}
 use Rattle.hushlang.specs.Expansion.{size, most_bytes}
-use Rattle.hushlang_old.specs.TreesByShell.{tree_in, lacks_end_in}
+use Rattle.hushlang_shells.specs.TreesByShell.{tree_in, lacks_end_in}
 use Rattle.builtins.specs.Builtins.{Builtin, SetEnv, Run, Test, Echo, True, False, Leave, builtin_of}
 use Rattle.commands.specs.Computed.{Computed}
 use Rattle.commands.specs.BuiltInCommands.{ChangesVariables, carried, deed_of, variables_changed, text_written, echo, setenv}
@@ -13,24 +13,24 @@ use Rattle.device_list.specs.DeviceList.{Effect, effect_of, computed_by}
 use Rattle.rehearse_terms.specs.Outcomes.{Outcome, Success, Failure}
 use Rattle.rehearse_terms.specs.State.{Text, get, State, LoggedCommand, answer_in}
 use Rattle.rehearse_terms.specs.declared.shell.Shell.{Shell}
-use Rattle.rehearse_terms.specs.declared.shell.Shell.TheVariants.{Profile, Old2023, Old2025}
+use Rattle.rehearse_terms.specs.declared.shell.Shell.TheVariants.{Profile, Old2023, Old2025, Modern2025}
 use Rattle.rehearse_rules.specs.Needs.{effect_now}
 use Rattle.rehearse_rules.proofs.NeedsLemmas.{now_same}
 use Rattle.rehearse_rules.specs.Parameters.{parameters_in}
-use Rattle.rehearse_rules.specs.ByShell.{unread, reads_again, leaves_in, status_of_exit, asks_in, truth_in, fields_in, turns_in, skips_rest, status_of_nothing, status_of_no_block, status_of_loop, status_in_turn, follows, assigned_in}
-use Rattle.rehearse_rules.specs.Execution.{Limits, Ending, End, CutDevices, CutSteps, Unknown, Size, Finished, Unsupported, Request, remember, set_status, set_local, begin_turn, status_when, goes, holds, outcome_when, told, told_again, logged, set_environment, assign_local, text_failed, request_of, test_request}
-use Rattle.rehearse_machine.specs.Frames.{Frame, Lists, Linked, IfCondition, LoopCondition, LoopBody, ForBody, RunNames, RunText, Next, Go, Ask, Stop, tell_or_ask, finish_next, leave, leave_run, begin_assign, begin_for, begin_arms, begin_tree, begin_text, begin_names, begin_exit, begun_text, fitting, ask, begin_called, begin_fields, counted, begin_command, answered, move}
+use Rattle.rehearse_rules.specs.ByShell.{unread, reads_again, leaves_in, status_of_exit, asks_in, truth_in, fields_in, turns_in, skips_rest, status_of_nothing, status_of_no_block, status_of_loop, status_in_turn, follows, assigned_in, follows_turns}
+use Rattle.rehearse_rules.specs.Execution.{Limits, Ending, End, CutDevices, CutSteps, Unknown, Size, Finished, Unsupported, Request, remember, set_status, set_local, begin_turn, status_when, goes, holds, outcome_when, told, told_again, logged, set_environment, assign_local, text_failed, request_of, test_request, for_begun, block_skipped}
+use Rattle.rehearse_machine.specs.Frames.{Frame, Lists, Linked, IfCondition, LoopCondition, LoopBody, ForBody, RunNames, RunText, Next, Go, Ask, Stop, tell_or_ask, finish_next, leave, leave_run, begin_assign, begin_for, begin_arms, begin_tree, begin_text, begin_names, begin_exit, begun_text, fitting, ask, begin_called, begin_fields, counted, begin_command, answered, move, begin_turns, begin_words}
 use Rattle.rehearse_reads.specs.Keys.{Key, Environment, Local, Status, Access, Reads, Writes, AgreeOn, AreAmong, all_read, ReadsWithin, known_after}
-use Rattle.rehearse_reads.specs.Accesses.{status_written, word_reads, words_reads, setenv_accesses, computed_accesses, needs_reads, told_reads, outcome_accesses, names_written, sized_accesses, local_accesses, assign_accesses, turn_accesses, nothing_accesses, begun_accesses}
+use Rattle.rehearse_reads.specs.Accesses.{status_written, word_reads, words_reads, setenv_accesses, computed_accesses, needs_reads, told_reads, outcome_accesses, names_written, sized_accesses, local_accesses, assign_accesses, turn_accesses, nothing_accesses, begun_accesses, modern_accesses}
 use Rattle.rehearse_reads.specs.Alike.{AreAbreast, IsCutBy}
 use Rattle.rehearse_reads.proofs.AccessLemmas.{within_first, within_then, after_both, read_first, read_then, after_read}
 use Rattle.rehearse_reads.proofs.AbreastLemmas.{near_begun, near_status, near_statuses, near_local, near_assigned, near_logged, near_set, near_computed, near_sets, near_echoed, near_failed}
 use Rattle.rehearse_reads.proofs.SameWords.{fields_agree, turns_agree, assigned_agree}
 use Rattle.rehearse_reads.proofs.AlikeParts.{further_apart}
 use Rattle.rehearse_reads.proofs.AlikeDevices.{told_alike, met_alike}
-use Rattle.rehearse_reads.proofs.AlikeLoops.{near_turn}
-use Rattle.rehearse_machine.proofs.ProgressLemmas.{IsQuiet, either-quiet, assign-quiet, fields-quiet, for-quiet}
-use Rattle.rehearse_frames.specs.MoveAccesses.{of_leaving, of_exit, of_telling, of_beginning_for, of_beginning_arms, of_beginning_tree, of_beginning_text, of_beginning_names, of_asking, of_listed, of_builtin, of_call, of_fields, of_command, of_move}
+use Rattle.rehearse_reads.proofs.AlikeLoops.{near_turn, near_for, near_skipped}
+use Rattle.rehearse_machine.proofs.ProgressLemmas.{IsQuiet, either-quiet, assign-quiet, fields-quiet, for-quiet, words-quiet}
+use Rattle.rehearse_frames.specs.MoveAccesses.{of_leaving, of_exit, of_telling, of_beginning_for, of_beginning_arms, of_beginning_tree, of_beginning_text, of_beginning_names, of_asking, of_listed, of_builtin, of_call, of_fields, of_command, of_move, of_beginning_turns, of_beginning_words}
 
 -- the steps that were begun before what is next, and the room that it needs for device commands
 abbrev pub next_steps : Next → ℕ
@@ -213,11 +213,16 @@ module _ (limits : Limits) (i j : ℕ) (k l : List LoggedCommand) where
   begins_for name [] body fs known s t near w = sets_status 0 fs known s t near w
   begins_for name (f ∷ values) body fs known s t near w = goes_alike near
 
+  begins_turns : (name : Text) (values : List Text) (body : Script) (fs : List Frame) → Moves (begin_turns limits.shell name values body fs) (λ s. of_beginning_turns limits.shell name values)
+  begins_turns name values body fs =
+      moves_if (follows_turns limits.shell name values) (begin_for name values body fs) (Stop (Unsupported name)) (λ x. of_beginning_for values) (λ x. []) (begins_for name values body fs) (stops (Unsupported name))
+
   -- the status of no command
   keeps_status : (shell : Shell) (fs : List Frame) → Moves (λ s. Go fs (set_status (status_of_nothing shell s.memory.status) s)) (λ s. nothing_accesses shell)
   keeps_status Profile fs known s t near w = sets_status 0 fs known s t near w
   keeps_status Old2023 fs known s t near w = goes_alike near
   keeps_status Old2025 fs known s t near w = goes_alike near
+  keeps_status Modern2025 fs known s t near w = goes_alike near
 
   begins_arms : (shell : Shell) (arms : Arms) (fs : List Frame) → Moves (begin_arms shell arms fs) (λ s. of_beginning_arms shell arms)
   begins_arms shell (tree.Arm c b arms) fs known s t near w = goes_alike near
@@ -228,6 +233,7 @@ module _ (limits : Limits) (i j : ℕ) (k l : List LoggedCommand) where
       by Profile = goes_alike (near_status limits i j k l known s t 0 near)
       by Old2023 = goes_alike near
       by Old2025 = goes_alike near
+      by Modern2025 = goes_alike near
 
   begins_tree : (shell : Shell) (found : Option Script) (name : Text) (names : List Text) (fs : List Frame) → Moves (begin_tree shell found name names fs) (λ s. of_beginning_tree found)
   begins_tree shell None name names fs known s t near w = stops_alike near
@@ -338,6 +344,17 @@ module _ (limits : Limits) (i j : ℕ) (k l : List LoggedCommand) where
   fitting_quiet : (s : State) (found : List Text) (f : List Text → State → Next) → IsQuiet limits s (f found s) → IsQuiet limits s (fitting found f s)
   fitting_quiet s found f e = either-quiet limits s (nat_le (size found) most_bytes) (f found s) (Stop Size s) e refl
 
+  begins_words : (name : Text) (words : List tree.Word) (body : Script) (fs : List Frame)
+      → Moves (λ t. begin_words limits.shell name words body fs (for_begun limits.shell t)) (λ t. modern_accesses limits.shell ++ of_beginning_words limits.shell name words (for_begun limits.shell t))
+  begins_words name words body fs known s t near w =
+      let first : List Access = modern_accesses limits.shell in
+      let s' : State = for_begun limits.shell s in
+      let t' : State = for_begun limits.shell t in
+      let rest : List Access = of_beginning_words limits.shell name words s' in
+      after_then known first rest (begin_words limits.shell name words body fs s') (begin_words limits.shell name words body fs t')
+      (expands (λ u. turns_in limits.shell (parameters_in u.memory) words) words (λ ks x y agree v. turns_agree ks x y agree limits.shell words v) (λ values. begin_turns limits.shell name values body fs) (λ values u. of_beginning_turns limits.shell name values) (λ found. begins_turns name found body fs)
+      (known_after known first) s' t' (near_for limits i j k l limits.shell known s t near) (within_then known first rest w))
+
   -- ---- a move
 
   begins_command : (c : Command) (fs : List Frame) → Moves (begin_command limits c fs) (of_command limits c fs)
@@ -353,11 +370,10 @@ module _ (limits : Limits) (i j : ℕ) (k l : List LoggedCommand) where
   begins_command (tree.If arms) fs = begins_arms limits.shell arms fs
   begins_command (tree.Loop until c b) fs = λ known s t near w. goes_alike near
   begins_command (tree.For name words body) fs =
-      counts (λ t. fitting (turns_in limits.shell (parameters_in t.memory) words) (λ f. begin_for name f body fs) t)
-      (λ t. all_read (words_reads t.memory words) ++ sized_accesses (turns_in limits.shell (parameters_in t.memory) words) (λ values u. of_beginning_for values) t)
-      (expands (λ t. turns_in limits.shell (parameters_in t.memory) words) words (λ known s t agree w. turns_agree known s t agree limits.shell words w) (λ f. begin_for name f body fs) (λ values u. of_beginning_for values) (λ found. begins_for name found body fs))
-      (λ s. let found : List Text = turns_in limits.shell (parameters_in s.memory) words in
-      quiet_keeps s (fitting found (λ f. begin_for name f body fs) s) (fitting_quiet s found (λ f. begin_for name f body fs) (for-quiet limits name found body fs s)))
+      counts (λ t. begin_words limits.shell name words body fs (for_begun limits.shell t))
+      (λ t. modern_accesses limits.shell ++ of_beginning_words limits.shell name words (for_begun limits.shell t))
+      (begins_words name words body fs)
+      (λ s. quiet_keeps s (begin_words limits.shell name words body fs (for_begun limits.shell s)) (words-quiet limits name words body fs s (for_begun limits.shell s) refl))
 
   pub moves_alike : (fs : List Frame) → Moves (move limits fs) (of_move limits fs)
   moves_alike [] known s t near w =
@@ -376,8 +392,15 @@ module _ (limits : Limits) (i j : ℕ) (k l : List LoggedCommand) where
       skips false = goes_alike near
   moves_alike (IfCondition b arms ∷ fs) known s t near w =
       if_moves known (nat_eq s.memory.status 0) (nat_eq t.memory.status 0) (ap (λ (n : ℕ). nat_eq n 0) (near.keys Status w.0))
-      (Go (Lists b ∷ fs) s) (begin_arms limits.shell arms fs s) (Go (Lists b ∷ fs) t) (begin_arms limits.shell arms fs t)
-      [] (of_beginning_arms limits.shell arms) (λ v. goes_alike near) (begins_arms limits.shell arms fs known s t near) w.1
+      (Go (Lists b ∷ fs) s) (begin_arms limits.shell arms fs (block_skipped limits.shell b s)) (Go (Lists b ∷ fs) t) (begin_arms limits.shell arms fs (block_skipped limits.shell b t))
+      [] (modern_accesses limits.shell ++ of_beginning_arms limits.shell arms) (λ v. goes_alike near) (skips_block (near.keys Status w.0)) w.1
+    where
+      skips_block : t.memory.status ≡ s.memory.status → ReadsWithin known (modern_accesses limits.shell ++ of_beginning_arms limits.shell arms)
+          → NextAlike (known_after known (modern_accesses limits.shell ++ of_beginning_arms limits.shell arms)) (begin_arms limits.shell arms fs (block_skipped limits.shell b s)) (begin_arms limits.shell arms fs (block_skipped limits.shell b t))
+      skips_block e v =
+          let first : List Access = modern_accesses limits.shell in
+          after_then known first (of_beginning_arms limits.shell arms) (begin_arms limits.shell arms fs (block_skipped limits.shell b s)) (begin_arms limits.shell arms fs (block_skipped limits.shell b t))
+          (begins_arms limits.shell arms fs (known_after known first) (block_skipped limits.shell b s) (block_skipped limits.shell b t) (near_skipped limits i j k l limits.shell b known s t e near) (within_then known first (of_beginning_arms limits.shell arms) v))
   moves_alike (LoopCondition until c b last ∷ fs) known s t near w =
       if_moves known (holds until s.memory.status) (holds until t.memory.status) (ap (λ (n : ℕ). holds until n) (near.keys Status w.0))
       (Go (Lists b ∷ LoopBody until c b ∷ fs) s) (Go fs (set_status (status_of_loop limits.shell last s.memory.status) s))

@@ -5,10 +5,10 @@ use Rattle.hushlang.specs.Tree.{Script, AndOr, Command, Arms, IsProperList, IsPr
 use Rattle.rehearse_terms.specs.State.{State}
 use Rattle.rehearse_rules.specs.Parameters.{parameters_in}
 use Rattle.rehearse_rules.specs.ByShell.{fields_in, turns_in}
-use Rattle.rehearse_rules.specs.Execution.{Limits, Answer, Ended, CutSteps, go_on, holds, exec_script, exec_list, exec_joined, exec_command}
+use Rattle.rehearse_rules.specs.Execution.{Limits, Answer, Ended, CutSteps, go_on, holds, exec_script, exec_list, exec_joined, exec_command, for_begun, block_skipped}
 use Rattle.rehearse_machine.proofs.BoundLemmas.{Cut-block, Cut-command}
 use Rattle.rehearse_reads.specs.Keys.{Access, Reads, Status, all_read}
-use Rattle.rehearse_reads.specs.Accesses.{behind, status_written, words_reads, sized_accesses, simple_accesses, assign_accesses, for_accesses, begun_accesses, turns_accesses, script_accesses, list_accesses, joined_accesses, command_accesses, arms_accesses}
+use Rattle.rehearse_reads.specs.Accesses.{behind, status_written, words_reads, sized_accesses, simple_accesses, assign_accesses, for_accesses, begun_accesses, turns_accesses, script_accesses, list_accesses, joined_accesses, command_accesses, arms_accesses, modern_accesses, for_words_accesses}
 
 -- nothing before a cut, and nothing behind it
 pub nothing_behind : (xs : List Access) (a : Answer) (s : State) (f : State → List Access) → xs ≡ [] → a ≡ Ended CutSteps s → xs ++ behind a f ≡ []
@@ -38,7 +38,7 @@ module _ (limits : Limits) (left : ℕ) (text : Script → State → Answer) (of
     None-command (tree.Assign pairs) p s h = None-begun s (assign_accesses limits.shell pairs) h
     None-command (tree.If arms) p s h = None-if arms p s h
     None-command (tree.Loop until c b) p s h = None-turns left until (exec_script limits left text c) (exec_script limits left text b) (script_accesses limits left text of_text c) (script_accesses limits left text of_text b) s (None-block c p.0 s h) (cut_script c p.0 s h)
-    None-command (tree.For name words b) p s h = None-begun s (λ t. all_read (words_reads t.memory words) ++ sized_accesses (turns_in limits.shell (parameters_in t.memory) words) (for_accesses limits.shell name (exec_script limits left text b) (script_accesses limits left text of_text b)) t) h
+    None-command (tree.For name words b) p s h = None-begun s (λ t. modern_accesses limits.shell ++ for_words_accesses limits.shell name words (exec_script limits left text b) (script_accesses limits left text of_text b) (for_begun limits.shell t)) h
 
     pub None-block : (a : Script) → HoldsCommand a → (s : State) → limits.step_bound ≤ s.steps → script_accesses limits left text of_text a s ≡ []
     None-block tree.Empty p s h = absurd p
@@ -50,7 +50,7 @@ module _ (limits : Limits) (left : ℕ) (text : Script → State → Answer) (of
     None-if : (a : Arms) → IsProperCommand (tree.If a) → (s : State) → limits.step_bound ≤ s.steps → arms_accesses limits left text of_text a s ≡ []
     None-if (tree.Arm c b arms) p s h =
         nothing_behind (script_accesses limits left text of_text c s) (exec_script limits left text c s) s
-        (λ t. Reads Status ∷ elim (nat_eq t.memory.status 0) [ true ↦ script_accesses limits left text of_text b t | false ↦ arms_accesses limits left text of_text arms t ])
+        (λ t. Reads Status ∷ elim (nat_eq t.memory.status 0) [ true ↦ script_accesses limits left text of_text b t | false ↦ modern_accesses limits.shell ++ arms_accesses limits left text of_text arms (block_skipped limits.shell b t) ])
         (None-block c p.0 s h) (cut_script c p.0 s h)
     None-if (tree.Else b) p s h = absurd p
     None-if tree.NoElse p s h = absurd p

@@ -3,21 +3,21 @@ use Rattle.std.proofs.Common.{◌≡◌, ◌∙◌, refl, sym, ap, ℕ, zero, su
 use Rattle.hushlang.specs.Tree as tree
 use Rattle.hushlang.specs.Tree.{Script, AndOr, Joined, Command, Arms, IsProper, IsProperList, IsProperJoined, IsProperCommand, AreProperArms, HoldsCommand}
 use Rattle.hushlang.specs.Expansion.{size, most_bytes}
-use Rattle.hushlang_old.specs.TreesByShell.{tree_in, lacks_end_in}
-use Rattle.hushlang_old.proofs.TreeByShellLemmas.{trees_in_are_proper}
+use Rattle.hushlang_shells.specs.TreesByShell.{tree_in, lacks_end_in}
+use Rattle.hushlang_shells.proofs.TreeByShellLemmas.{trees_in_are_proper}
 use Rattle.builtins.specs.Builtins.{Builtin, SetEnv, Run, Test, Echo, True, False, Leave, builtin_of}
 use Rattle.commands.specs.Computed.{Computed}
 use Rattle.device_list.specs.DeviceList.{Effect, effect_of, computed_by}
 use Rattle.rehearse_terms.specs.State.{Text, get, State}
 use Rattle.rehearse_rules.specs.Parameters.{parameters_in}
-use Rattle.rehearse_rules.specs.ByShell.{fields_in, turns_in, skips_rest, follows}
-use Rattle.rehearse_rules.specs.Execution.{Limits, Answer, Normal, Exit, Ended, Dry, CutSteps, go_on, set_status, goes, holds, begin_turn, started_text, run_text, exec_script, exec_list, exec_command, exec, request_of}
+use Rattle.rehearse_rules.specs.ByShell.{fields_in, turns_in, skips_rest, follows, follows_turns}
+use Rattle.rehearse_rules.specs.Execution.{Limits, Answer, Normal, Exit, Ended, Dry, CutSteps, go_on, set_status, goes, holds, begin_turn, started_text, run_text, exec_script, exec_list, exec_command, exec, request_of, for_begun, block_skipped}
 use Rattle.rehearse_rules.proofs.GrowingSteps.{AtLeast, Grew, AtLeast-track, Grew-block}
 use Rattle.rehearse_rules.proofs.TakenOutcomes.{KeepsAll, Keeps-script, Keeps-list, Keeps-one, Keeps-exec, Keeps-started}
 use Rattle.rehearse_machine.proofs.StepBoundLemmas.{same_if, tree_answer, block_proper, same_script, same_exec}
 use Rattle.rehearse_machine.proofs.BoundLemmas.{Cut-block}
 use Rattle.rehearse_reads.specs.Keys.{Access, Reads, Writes, Environment, Status, all_read}
-use Rattle.rehearse_reads.specs.Accesses.{listed_accesses, behind, behind_text, status_written, words_reads, sized_accesses, turns_accesses, turn_accesses, each_accesses, for_accesses, begun_accesses, device_accesses, computed_accesses, tree_accesses, text_accesses, started_accesses, run_accesses, builtin_accesses, call_accesses, simple_accesses, script_accesses, list_accesses, joined_accesses, command_accesses, arms_accesses, accesses}
+use Rattle.rehearse_reads.specs.Accesses.{listed_accesses, behind, behind_text, status_written, words_reads, sized_accesses, turns_accesses, turn_accesses, each_accesses, for_accesses, begun_accesses, device_accesses, computed_accesses, tree_accesses, text_accesses, started_accesses, run_accesses, builtin_accesses, call_accesses, simple_accesses, script_accesses, list_accesses, joined_accesses, command_accesses, arms_accesses, accesses, modern_accesses, turns_of_accesses, for_words_accesses}
 use Rattle.rehearse_frames.proofs.NoneBegun.{None-block, None-turns}
 
 pub same_both : (xs ys zs ws : List Access) → xs ≡ ys → zs ≡ ws → xs ++ zs ≡ ys ++ ws
@@ -162,6 +162,14 @@ module _ (limits : Limits) where
     for_same name b b' x x' eb ex kb [] s l = refl
     for_same name b b' x x' eb ex kb (f ∷ fs) s l = each_same name b b' x x' eb ex kb (f ∷ fs) s l
 
+    words_same : (name : Text) (words : List tree.Word) (b b' : State → Answer) (x x' : State → List Access) → ((t : State) → limits.step_bound ≤ n + t.steps → b t ≡ b' t) → ((t : State) → limits.step_bound ≤ n + t.steps → x t ≡ x' t) → KeepsAll limits b
+        → (s : State) → limits.step_bound ≤ n + s.steps → for_words_accesses limits.shell name words b x s ≡ for_words_accesses limits.shell name words b' x' s
+    words_same name words b b' x x' eb ex kb s l =
+        let fs : List Text = turns_in limits.shell (parameters_in s.memory) words in
+        ap (λ (xs : List Access). all_read (words_reads s.memory words) ++ xs)
+        (sized_same fs (turns_of_accesses limits.shell name b x) (turns_of_accesses limits.shell name b' x') s
+        (either (follows_turns limits.shell name fs) (for_accesses limits.shell name b x fs s) [] (for_accesses limits.shell name b' x' fs s) [] (for_same name b b' x x' eb ex kb fs s l) refl))
+
     -- ---- the tree
 
     -- a command, and what is joined to it
@@ -178,11 +186,11 @@ module _ (limits : Limits) where
         → ((t : State) → limits.step_bound ≤ n + t.steps → arms_accesses limits n text u arms t ≡ arms_accesses limits m text' u' arms t)
         → arms_accesses limits n text u (tree.Arm c b arms) s ≡ arms_accesses limits m text' u' (tree.Arm c b arms) s
     arm_same c b arms p s h e f g =
-        let next : State → List Access = λ t. Reads Status ∷ elim (nat_eq t.memory.status 0) [ true ↦ script_accesses limits n text u b t | false ↦ arms_accesses limits n text u arms t ] in
-        let next' : State → List Access = λ t. Reads Status ∷ elim (nat_eq t.memory.status 0) [ true ↦ script_accesses limits m text' u' b t | false ↦ arms_accesses limits m text' u' arms t ] in
+        let next : State → List Access = λ t. Reads Status ∷ elim (nat_eq t.memory.status 0) [ true ↦ script_accesses limits n text u b t | false ↦ modern_accesses limits.shell ++ arms_accesses limits n text u arms (block_skipped limits.shell b t) ] in
+        let next' : State → List Access = λ t. Reads Status ∷ elim (nat_eq t.memory.status 0) [ true ↦ script_accesses limits m text' u' b t | false ↦ modern_accesses limits.shell ++ arms_accesses limits m text' u' arms (block_skipped limits.shell b t) ] in
         same_both (script_accesses limits n text u c s) (script_accesses limits m text' u' c s) (behind (exec_script limits n text c s) next) (behind (exec_script limits m text' c s) next') e
         (same_behind s.steps (exec_script limits n text c s) (exec_script limits m text' c s) next next' (AtLeast-track limits.device_bound s (exec_script limits n text c s) (Keeps-script limits n text kept c s).0) (script_answers c (block_proper c p) s h)
-        (λ t r. ap (λ (xs : List Access). Reads Status ∷ xs) (either (nat_eq t.memory.status 0) (script_accesses limits n text u b t) (arms_accesses limits n text u arms t) (script_accesses limits m text' u' b t) (arms_accesses limits m text' u' arms t) (f t (omega arith)) (g t (omega arith)))))
+        (λ t r. ap (λ (xs : List Access). Reads Status ∷ xs) (either (nat_eq t.memory.status 0) (script_accesses limits n text u b t) (modern_accesses limits.shell ++ arms_accesses limits n text u arms (block_skipped limits.shell b t)) (script_accesses limits m text' u' b t) (modern_accesses limits.shell ++ arms_accesses limits m text' u' arms (block_skipped limits.shell b t)) (f t (omega arith)) (ap (λ (xs : List Access). modern_accesses limits.shell ++ xs) (g (block_skipped limits.shell b t) (omega arith))))))
 
     mutual
       pub script_same : (a : Script) → IsProper a → (s : State) → limits.step_bound ≤ n + s.steps → script_accesses limits n text u a s ≡ script_accesses limits m text' u' a s
@@ -216,12 +224,10 @@ module _ (limits : Limits) where
           (script_answers c (block_proper c p.0)) (script_answers b (block_proper b p.1)) (script_same c (block_proper c p.0)) (script_same b (block_proper b p.1))
           (Grew-block limits n text kept c p.0) (Keeps-script limits n text kept b) (λ t r. (Cut-block limits m text' c p.0 t r, None-block limits m text' u' c p.0 t r)) s h h
       command_same (tree.For name words b) p s h =
-          let body : List Text → State → List Access = for_accesses limits.shell name (exec_script limits n text b) (script_accesses limits n text u b) in
-          let body' : List Text → State → List Access = for_accesses limits.shell name (exec_script limits m text' b) (script_accesses limits m text' u' b) in
-          begun_same (λ t. all_read (words_reads t.memory words) ++ sized_accesses (turns_in limits.shell (parameters_in t.memory) words) body t)
-          (λ t. all_read (words_reads t.memory words) ++ sized_accesses (turns_in limits.shell (parameters_in t.memory) words) body' t) s h
-          (λ t r. ap (λ (xs : List Access). all_read (words_reads t.memory words) ++ xs) (sized_same (turns_in limits.shell (parameters_in t.memory) words) body body' t
-          (for_same name (exec_script limits n text b) (exec_script limits m text' b) (script_accesses limits n text u b) (script_accesses limits m text' u' b) (script_answers b (block_proper b p)) (script_same b (block_proper b p)) (Keeps-script limits n text kept b) (turns_in limits.shell (parameters_in t.memory) words) t (omega arith))))
+          begun_same (λ t. modern_accesses limits.shell ++ for_words_accesses limits.shell name words (exec_script limits n text b) (script_accesses limits n text u b) (for_begun limits.shell t))
+          (λ t. modern_accesses limits.shell ++ for_words_accesses limits.shell name words (exec_script limits m text' b) (script_accesses limits m text' u' b) (for_begun limits.shell t)) s h
+          (λ t r. ap (λ (xs : List Access). modern_accesses limits.shell ++ xs)
+          (words_same name words (exec_script limits n text b) (exec_script limits m text' b) (script_accesses limits n text u b) (script_accesses limits m text' u' b) (script_answers b (block_proper b p)) (script_same b (block_proper b p)) (Keeps-script limits n text kept b) (for_begun limits.shell t) (omega arith)))
 
       if_same : (a : Arms) → IsProperCommand (tree.If a) → (s : State) → limits.step_bound ≤ n + s.steps → arms_accesses limits n text u a s ≡ arms_accesses limits m text' u' a s
       if_same (tree.Arm c b arms) p s h = arm_same c b arms p.0 s h (script_same c (block_proper c p.0) s h) (script_same b (block_proper b p.1)) (arms_same arms p.2)

@@ -3,18 +3,18 @@
 use Rattle.std.specs.Prelude.{ℕ, nat_lt, nat_eq, Bool, true, false, List, [], ◌∷◌, ◌++◌, length, Option, Some, None}
 use Rattle.hushlang.specs.Tree as tree
 use Rattle.hushlang.specs.Tree.{Script, Command, Arms}
-use Rattle.hushlang_old.specs.TreesByShell.{tree_in, lacks_end_in}
+use Rattle.hushlang_shells.specs.TreesByShell.{tree_in, lacks_end_in}
 use Rattle.builtins.specs.Builtins.{Builtin, SetEnv, Run, Test, Echo, True, False, Leave, builtin_of}
 use Rattle.device_list.specs.DeviceList.{Effect, effect_of, computed_by}
 use Rattle.rehearse_terms.specs.State.{Text, get, State}
 use Rattle.rehearse_terms.specs.declared.shell.Shell.{Shell}
 use Rattle.rehearse_rules.specs.Parameters.{parameters_in}
-use Rattle.rehearse_rules.specs.ByShell.{reads_again, leaves_in, asks_in, fields_in, turns_in, follows}
+use Rattle.rehearse_rules.specs.ByShell.{reads_again, leaves_in, asks_in, fields_in, turns_in, follows, follows_turns}
 use Rattle.rehearse_rules.specs.Needs.{effect_now}
-use Rattle.rehearse_rules.specs.Execution.{Limits, goes, holds, outcome_when, Request, told, request_of, test_request}
+use Rattle.rehearse_rules.specs.Execution.{Limits, goes, holds, outcome_when, Request, told, request_of, test_request, for_begun}
 use Rattle.rehearse_machine.specs.Frames.{Frame, Lists, Linked, IfCondition, LoopCondition, LoopBody, ForBody, RunNames, RunText}
 use Rattle.rehearse_reads.specs.Keys.{Access, Reads, Writes, Environment, Status, all_read}
-use Rattle.rehearse_reads.specs.Accesses.{status_written, words_reads, setenv_accesses, computed_accesses, needs_reads, told_reads, outcome_accesses, sized_accesses, assign_accesses, turn_accesses, nothing_accesses, begun_accesses}
+use Rattle.rehearse_reads.specs.Accesses.{status_written, words_reads, setenv_accesses, computed_accesses, needs_reads, told_reads, outcome_accesses, sized_accesses, assign_accesses, turn_accesses, nothing_accesses, begun_accesses, modern_accesses}
 
 -- `exit` passes the frames up to the `run` of its text, which ends with this status if it is not 0. With none it ends the run,
 -- whose status is read
@@ -41,6 +41,17 @@ of_telling None request = []
 abbrev pub of_beginning_for : List Text → List Access
 of_beginning_for [] = status_written
 of_beginning_for (f ∷ values) = []
+
+-- the turns of a `for`, if they are followed
+abbrev pub of_beginning_turns : Shell → (name : Text) → List Text → List Access
+of_beginning_turns shell name values =
+    elim (follows_turns shell name values) [ true ↦ of_beginning_for values | false ↦ [] ]
+
+-- a `for` that has begun finds its words
+abbrev pub of_beginning_words : Shell → (name : Text) → List tree.Word → State → List Access
+of_beginning_words shell name words s =
+    all_read (words_reads s.memory words)
+    ++ sized_accesses (turns_in shell (parameters_in s.memory) words) (λ values u. of_beginning_turns shell name values) s
 
 abbrev pub of_beginning_arms : Shell → Arms → List Access
 of_beginning_arms shell (tree.Arm c b arms) = []
@@ -121,8 +132,8 @@ module _ (limits : Limits) where
   of_command (tree.If arms) fs s = of_beginning_arms limits.shell arms
   of_command (tree.Loop until c b) fs s = []
   of_command (tree.For name words body) fs s =
-      begun_accesses limits (λ t. all_read (words_reads t.memory words)
-      ++ sized_accesses (turns_in limits.shell (parameters_in t.memory) words) (λ values u. of_beginning_for values) t) s
+      begun_accesses limits (λ t. modern_accesses limits.shell
+      ++ of_beginning_words limits.shell name words (for_begun limits.shell t)) s
 
   abbrev pub of_move : List Frame → State → List Access
   of_move [] s = Reads Status ∷ []
@@ -132,7 +143,10 @@ module _ (limits : Limits) where
   of_move (Linked (tree.Joins op c links) ∷ fs) s =
       Reads Status ∷ elim (goes op s.memory.status) [ true ↦ of_command c (Linked links ∷ fs) s | false ↦ [] ]
   of_move (IfCondition b arms ∷ fs) s =
-      Reads Status ∷ elim (nat_eq s.memory.status 0) [ true ↦ [] | false ↦ of_beginning_arms limits.shell arms ]
+      Reads Status ∷ elim (nat_eq s.memory.status 0) [
+        | true ↦ []
+        | false ↦ modern_accesses limits.shell ++ of_beginning_arms limits.shell arms
+      ]
   of_move (LoopCondition until c b last ∷ fs) s =
       Reads Status ∷ elim (holds until s.memory.status) [ true ↦ [] | false ↦ status_written ]
   of_move (LoopBody until c b ∷ fs) s = Reads Status ∷ []

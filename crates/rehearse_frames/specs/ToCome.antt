@@ -3,11 +3,11 @@ use Rattle.std.specs.Prelude.{nat_eq, Bool, true, false, List, [], ◌∷◌, �
 use Rattle.hushlang.specs.Tree.{Script, Joined, Command, Arms}
 use Rattle.rehearse_terms.specs.Outcomes.{OutcomeWord}
 use Rattle.rehearse_terms.specs.State.{Text, State}
-use Rattle.rehearse_rules.specs.Execution.{Limits, Answer, Normal, Exit, Ended, Dry, holds, take_outcome}
+use Rattle.rehearse_rules.specs.Execution.{Limits, Answer, Normal, Exit, Ended, Dry, holds, take_outcome, block_skipped}
 use Rattle.rehearse_machine.specs.Frames.{Frame, Lists, Linked, IfCondition, LoopCondition, LoopBody, ForBody, RunNames, RunText, Next, Go, Ask, Stop}
 use Rattle.rehearse_machine.specs.Meaning.{with, full, script, resume}
 use Rattle.rehearse_reads.specs.Keys.{Access, Reads, Environment, Status}
-use Rattle.rehearse_reads.specs.Accesses.{accesses, behind, behind_text, status_written, turns_accesses, each_accesses, run_accesses, taken_accesses, script_accesses, joined_accesses, command_accesses, arms_accesses}
+use Rattle.rehearse_reads.specs.Accesses.{accesses, behind, behind_text, status_written, turns_accesses, each_accesses, run_accesses, taken_accesses, script_accesses, joined_accesses, command_accesses, arms_accesses, modern_accesses}
 
 -- the values of these variables are read
 abbrev pub names_read : List Text → List Access
@@ -52,7 +52,10 @@ module _ (limits : Limits) where
   -- of an `if`, behind a condition
   abbrev pub of_choice : Script → Arms → State → List Access
   of_choice b arms t =
-      Reads Status ∷ elim (nat_eq t.memory.status 0) [ true ↦ of_script b t | false ↦ of_arms arms t ]
+      Reads Status ∷ elim (nat_eq t.memory.status 0) [
+        | true ↦ of_script b t
+        | false ↦ modern_accesses limits.shell ++ of_arms arms (block_skipped limits.shell b t)
+      ]
 
   abbrev pub of_names : List Text → State → List Access
   of_names names = run_accesses limits (full limits) of_full names

@@ -12,7 +12,7 @@ use Rattle.hushlang.specs.TreesShown as view
 use Rattle.bootstore_state.specs.declared.frame.At.{At}
 use Rattle.bootstore_state.specs.Moment.{RunningFrame}
 use Rattle.rehearse_terms.specs.State.{State}
-use Rattle.rehearse_rules.specs.Execution.{set_status}
+use Rattle.rehearse_rules.specs.Execution.{set_status, block_skipped}
 use Rattle.rehearse_machine.specs.Places.{GoOn, drop_arms, place, moved_to, behind, block_frame, place_arms, condition_ends}
 use Rattle.rehearse_terms.specs.declared.shell.Shell.{Shell}
 use Rattle.rehearse_rules.specs.ByShell.{status_of_no_block}
@@ -53,11 +53,11 @@ module _ (shell : Shell) (list : List Arm) (o : Option Script) (a : ℕ) (f : Ru
       ∙ sym (ap (λ (x : Arms). place_arms shell x a f fs s) (no_arm list o a (slice_get_past list a l) ∙ ap (view.arms []) p))
 
   -- after the condition of an arm has ended
-  condition_true : (b : Bool) (c d : Script) (more : Arms) → b ≡ true → GoOn (block_frame d ∷ behind f ∷ fs) s ≡ elim b [ true ↦ GoOn (block_frame d ∷ behind f ∷ fs) s | false ↦ place_arms shell more (suc a) f fs s ]
+  condition_true : (b : Bool) (c d : Script) (more : Arms) → b ≡ true → GoOn (block_frame d ∷ behind f ∷ fs) s ≡ elim b [ true ↦ GoOn (block_frame d ∷ behind f ∷ fs) s | false ↦ place_arms shell more (suc a) f fs (block_skipped shell d s) ]
   condition_true true c d more e = refl
   condition_true false c d more e = absurd (let g = e in cc)
 
-  condition_false : (b : Bool) (d : Script) (more : Arms) → b ≡ false → place_arms shell more (suc a) f fs s ≡ elim b [ true ↦ GoOn (block_frame d ∷ behind f ∷ fs) s | false ↦ place_arms shell more (suc a) f fs s ]
+  condition_false : (b : Bool) (d : Script) (more : Arms) → b ≡ false → place_arms shell more (suc a) f fs (block_skipped shell d s) ≡ elim b [ true ↦ GoOn (block_frame d ∷ behind f ∷ fs) s | false ↦ place_arms shell more (suc a) f fs (block_skipped shell d s) ]
   condition_false true d more e = absurd (let g = e in cc)
   condition_false false d more e = refl
 
@@ -67,7 +67,7 @@ module _ (shell : Shell) (list : List Arm) (o : Option Script) (a : ℕ) (f : Ru
       ∙ condition_true (nat_eq s.memory.status 0) (view.script p.0.value) (view.script p.1.value) (drop_arms (suc a) (view.arms (map view.arm list) o)) t
       ∙ sym (ap (λ (x : Arms). condition_ends shell x a f fs s) (some_arm list o a p (slice_get_read list (length list) a p refl l r)))
 
-  pub next_arm : (p : Arm) → a < length list → p ≡ get_or list a p → nat_eq s.memory.status 0 ≡ false → place_arms shell (drop_arms (suc a) (view.arms (map view.arm list) o)) (suc a) f fs s ≡ condition_ends shell arms a f fs s
+  pub next_arm : (p : Arm) → a < length list → p ≡ get_or list a p → nat_eq s.memory.status 0 ≡ false → place_arms shell (drop_arms (suc a) (view.arms (map view.arm list) o)) (suc a) f fs (block_skipped shell (view.script p.1.value) s) ≡ condition_ends shell arms a f fs s
   next_arm p l r t =
       condition_false (nat_eq s.memory.status 0) (view.script p.1.value) (drop_arms (suc a) (view.arms (map view.arm list) o)) t
       ∙ sym (ap (λ (x : Arms). condition_ends shell x a f fs s) (some_arm list o a p (slice_get_read list (length list) a p refl l r)))

@@ -9,17 +9,17 @@ use Rattle.bootstore_state.specs.Moment.{RunningFrame}
 use Rattle.bootstore_state.specs.declared.frame.FrameKind.{FrameKind}
 use Rattle.bootstore_state.specs.declared.frame.FrameKind.TheVariants as kinds
 use Rattle.std.specs.Prelude.{slice_get}
-use Rattle.hushlang_old.specs.TreesByShell.{tree_in, lacks_end_in}
+use Rattle.hushlang_shells.specs.TreesByShell.{tree_in, lacks_end_in}
 use Rattle.rehearse_terms.specs.State.{Text, get, State}
 use Rattle.rehearse_rules.specs.Parameters.{parameters_in}
 use Rattle.device_list.specs.Called.{Called, BuiltIn, NoCommand, Device, called_by, sets_in}
 use Rattle.commands.specs.BuiltInCommands.{ChangesVariables, WritesText, RunsTexts, Tests, Exits}
 use Rattle.rehearse_rules.specs.Needs.{effect_now}
-use Rattle.rehearse_rules.specs.Execution.{Limits, CutDevices, CutSteps, Size, set_status, set_local, status_when, goes, holds, Request, test_effect, told, told_again, logged, set_environment, Unsupported, assign_local, request_of, test_request, text_failed}
+use Rattle.rehearse_rules.specs.Execution.{Limits, CutDevices, CutSteps, Size, set_status, set_local, status_when, goes, holds, Request, test_effect, told, told_again, logged, set_environment, Unsupported, assign_local, request_of, test_request, text_failed, for_begun, block_skipped}
 use Rattle.rehearse_terms.specs.Outcomes.{Success}
-use Rattle.rehearse_machine.specs.Places.{PlaceNext, GoOn, AskOn, StopOn, list_at, joined_at, second, command_in, command_at, drop_arms, block_frame, behind, in_turn, left, to_run, place_exit, place_finish, place_tell_or_ask, place_assign, place_tree, place_text, place_name, run_move, for_turn, for_move, for_begins, place_arms, condition_ends, phase_move, place_fitting, place_ask, place_called, place_fields, place_counted, place_command, place_joined, place_begins, place_turn, place_list, place_by, place_move, place_skipped, moved_to, place}
+use Rattle.rehearse_machine.specs.Places.{PlaceNext, GoOn, AskOn, StopOn, list_at, joined_at, second, command_in, command_at, drop_arms, block_frame, behind, in_turn, left, to_run, place_exit, place_finish, place_tell_or_ask, place_assign, place_tree, place_text, place_name, run_move, for_turn, for_move, for_begins, place_arms, condition_ends, phase_move, place_fitting, place_ask, place_called, place_fields, place_counted, place_command, place_joined, place_begins, place_turn, place_list, place_by, place_move, place_skipped, moved_to, place, place_turns, place_for}
 use Rattle.rehearse_machine.specs.AskingCommand.{words_of, fields_again, found_again, AsksAgain}
-use Rattle.rehearse_rules.specs.ByShell.{reads_again, leaves_in, status_of_exit, asks_in, truth_in, fields_in, turns_in, status_of_loop, skips_rest, follows, assigned_in}
+use Rattle.rehearse_rules.specs.ByShell.{reads_again, leaves_in, status_of_exit, asks_in, truth_in, fields_in, turns_in, status_of_loop, skips_rest, follows, assigned_in, follows_turns}
 
 -- a command that asks does so with these frames, in this state
 abbrev AsksHere : List RunningFrame → State → PlaceNext → Type 0
@@ -106,6 +106,9 @@ module _ (limits : Limits) where
   for_never [] f ps s = tt
   for_never (v ∷ vs) f ps s = tt
 
+  turns_never : (name : Text) (fs : List Text) (f : RunningFrame) (ps : List RunningFrame) (s : State) → NeverAsks (place_turns limits.shell name fs f ps s)
+  turns_never name fs f ps s = either_never (follows_turns limits.shell name fs) (for_begins fs f ps s) (StopOn (Unsupported name) s) (for_never fs f ps s) tt
+
   fitting_never : (fs : List Text) (next : List Text → State → PlaceNext) (s : State) → NeverAsks (next fs s) → NeverAsks (place_fitting fs next s)
   fitting_never fs next s h = either_never (nat_le (size fs) most_bytes) (next fs s) (StopOn Size s) h tt
 
@@ -118,7 +121,7 @@ module _ (limits : Limits) where
   arms_never tree.NoElse a f ps s = tt
 
   condition_never : (arms : Arms) (a : ℕ) (f : RunningFrame) (ps : List RunningFrame) (s : State) → NeverAsks (condition_ends limits.shell arms a f ps s)
-  condition_never (tree.Arm c b more) a f ps s = either_never (nat_eq s.memory.status 0) (GoOn (block_frame b ∷ behind f ∷ ps) s) (place_arms limits.shell more (suc a) f ps s) tt (arms_never more (suc a) f ps s)
+  condition_never (tree.Arm c b more) a f ps s = either_never (nat_eq s.memory.status 0) (GoOn (block_frame b ∷ behind f ∷ ps) s) (place_arms limits.shell more (suc a) f ps (block_skipped limits.shell b s)) tt (arms_never more (suc a) f ps (block_skipped limits.shell b s))
   condition_never (tree.Else b) a f ps s = tt
   condition_never tree.NoElse a f ps s = tt
 
@@ -183,10 +186,10 @@ module _ (limits : Limits) where
     command_again (tree.If arms) s e = never_again (place_arms limits.shell arms 0 f fs s) (arms_never arms 0 f fs s)
     command_again (tree.Loop until c b) s e = tt
     command_again (tree.For name words body) s e =
-        let t : State = record s { steps = suc s.steps } in
+        let t : State = for_begun limits.shell (record s { steps = suc s.steps }) in
         let found_fields : List Text = turns_in limits.shell (parameters_in t.memory) words in
         never_again (place_command limits (tree.For name words body) f fs s)
-        (counted_never (λ u. place_fitting (turns_in limits.shell (parameters_in u.memory) words) (λ fs'. for_begins fs' f fs) u) s (fitting_never found_fields (λ fs'. for_begins fs' f fs) t (for_never found_fields f fs t)))
+        (counted_never (place_for limits.shell name words f fs) s (fitting_never found_fields (λ fs'. place_turns limits.shell name fs' f fs) t (turns_never name found_fields f fs t)))
 
     joined_again : (o : Option (Op × Command)) (s : State) → ((pair : Op × Command) → o ≡ Some pair → command_at (list_at f.script f.place.list) f.place.command ≡ Some pair.1) → AsksAgain limits (place_joined limits o f fs s)
     joined_again None s e = tt

@@ -6,12 +6,14 @@ use Rattle.hushlang.specs.Expansion.{size, most_bytes}
 use Rattle.bootstore_state.specs.declared.store.StoreError.{StoreError}
 use Rattle.bootstore_state.specs.declared.frame.At.{At}
 use Rattle.bootstore_state.specs.Moment.{RunningFrame}
-use Rattle.bootstore_state.specs.Record.{Record, stepped, moved}
+use Rattle.bootstore_state.specs.Record.{Record, stepped, moved, changed, with_status}
+use Rattle.rehearse_terms.specs.declared.shell.Shell.{Shell}
+use Rattle.rehearse_rules.specs.ByShell.{status_of_for}
 use Rattle.rehearse_terms.specs.Outcomes.{OutcomeWord}
 use Rattle.rehearse_terms.specs.State.{Text, State}
 use Rattle.rehearse_rules.specs.Parameters.{parameters_in}
 use Rattle.bootstore_state.specs.StoredState.{state_at}
-use Rattle.rehearse_rules.specs.Execution.{Limits, Size, CutSteps}
+use Rattle.rehearse_rules.specs.Execution.{Limits, Size, CutSteps, for_begun}
 use Rattle.rehearse_rules.specs.declared.halt.Halt.TheVariants as halts
 use Rattle.rehearse_machine.specs.declared.ask.Step.{Step}
 use Rattle.rehearse_machine.specs.declared.ask.Step.TheVariants as steps
@@ -19,7 +21,7 @@ use Rattle.rehearse_machine.specs.Places.{PlaceNext, StopOn, place, moved_to, be
 use Rattle.rehearse_machine.specs.Variables.{parameters_at}
 use Rattle.rehearse_machine.specs.MovesShown.{under, IsTop, Keeps, Does, Comes}
 use Rattle.rehearse_machine.proofs.ParameterLemmas.{same_parameters}
-use Rattle.rehearse_machine.proofs.StoreMoves.{comes_at, comes_after, keeps_both, top_moved}
+use Rattle.rehearse_machine.proofs.StoreMoves.{comes_at, comes_after, keeps_both, keeps_change, top_moved}
 
 pub chosen : (b : Bool) (x y : PlaceNext) → b ≡ true → x ≡ elim b [ true ↦ x | false ↦ y ]
 chosen true x y e = refl
@@ -73,3 +75,36 @@ module _ (limits : Limits) (old mid : Record) (expand : expansion.Parameters →
   comes_with r late new found m e h same keeps says comes =
       comes_at r old new (λ s. m (counted_state s)) whole (λ w. says (counted_state (state_at old.present w)) ∙ goes_with found e h w)
       (comes_after r old late new counted_state m (λ w. same w ∙ stepped_state old mid w begun) (keeps_both old mid late (stepped_keeps old mid begun) keeps) comes)
+
+-- ---- a step that begins, and what follows it
+
+pub counted_begins : (limits : Limits) (r : Result Step StoreError) (n : List RunningFrame → State → PlaceNext) (old mid new : Record) → nat_lt old.present.steps limits.step_bound ≡ true → mid ≡ stepped old → Comes r mid new (n (under mid.present)) → Comes r old new (place_counted limits (n (under old.present)))
+counted_begins limits r n old mid new below e comes =
+    comes_at r old new (λ s. n (under mid.present) (counted_state s)) (place_counted limits (n (under old.present)))
+    (λ w. ap (λ (x : Record). n (under x.present) (counted_state (state_at old.present w))) e
+    ∙ chosen (nat_lt old.present.steps limits.step_bound) (n (under old.present) (counted_state (state_at old.present w))) (StopOn CutSteps (state_at old.present w)) below)
+    (comes_after r old mid new counted_state (n (under mid.present)) (λ w. stepped_state old mid w e) (stepped_keeps old mid e) comes)
+
+-- a `for` sets its status, and then finds its words
+pub for_status_begins : (shell : Shell) (r : Result Step StoreError) (n : List RunningFrame → State → PlaceNext) (old mid new : Record) → mid ≡ changed (with_status (status_of_for shell old.present.status)) old → Comes r mid new (n (under mid.present)) → Comes r old new (λ s. n (under old.present) (for_begun shell s))
+for_status_begins shell r n old mid new e comes =
+    comes_at r old new (λ s. n (under mid.present) (for_begun shell s)) (λ s. n (under old.present) (for_begun shell s))
+    (λ w. ap (λ (x : Record). n (under x.present) (for_begun shell (state_at old.present w))) e)
+    (comes_after r old mid new (for_begun shell) (n (under mid.present)) (λ w. ap (λ (x : Record). state_at x.present w) e) (subst (Keeps old) (sym e) (keeps_change (with_status (status_of_for shell old.present.status)) old refl)) comes)
+
+module _ (old : Record) (expand : expansion.Parameters → List Text) (n : List Text → State → PlaceNext) where
+  abbrev now : OutcomeWord → List Text
+  now w = expand (parameters_in (state_at old.present w).memory)
+
+  size_now : (b : Bool) → nat_le (size (expand (parameters_at old.present))) most_bytes ≡ b → (w : OutcomeWord) → nat_le (size (now w)) most_bytes ≡ b
+  size_now b h w = ap (λ (p : expansion.Parameters). nat_le (size (expand p)) most_bytes) (sym (same_parameters old.present w)) ∙ h
+
+  pub words_too_long : nat_le (size (expand (parameters_at old.present))) most_bytes ≡ false → Does (steps.Ends halts.Size) old old (λ s. place_fitting (expand (parameters_in s.memory)) n s)
+  words_too_long h = (λ w. passed (nat_le (size (now w)) most_bytes) (n (now w) (state_at old.present w)) (StopOn Size (state_at old.present w)) (size_now false h w), record { marked = refl; begun = refl })
+
+  pub words_found : (r : Result Step StoreError) (new : Record) (found : List Text) → found ≡ expand (parameters_at old.present) → nat_le (size (expand (parameters_at old.present))) most_bytes ≡ true → Comes r old new (n found) → Comes r old new (λ s. place_fitting (expand (parameters_in s.memory)) n s)
+  words_found r new found e h comes =
+      comes_at r old new (n found) (λ s. place_fitting (expand (parameters_in s.memory)) n s)
+      (λ w. ap (λ (fs : List Text). n fs (state_at old.present w)) (e ∙ ap expand (same_parameters old.present w))
+      ∙ chosen (nat_le (size (now w)) most_bytes) (n (now w) (state_at old.present w)) (StopOn Size (state_at old.present w)) (size_now true h w))
+      comes

@@ -5,7 +5,7 @@ use Rattle.hushlang.specs.Tree as tree
 use Rattle.hushlang.specs.Tree.{Script, AndOr, Command, Arms, IsProperList, IsProperCommand, HoldsCommand}
 use Rattle.rehearse_terms.specs.State.{State}
 use Rattle.rehearse_rules.specs.Parameters.{parameters_in}
-use Rattle.rehearse_rules.specs.Execution.{Limits, Answer, Ended, CutSteps, begin, simple, sized, assign, turns, for_each, exec_script, exec_list, exec_command, exec_arms}
+use Rattle.rehearse_rules.specs.Execution.{Limits, Answer, Ended, CutSteps, begin, simple, sized, assign, turns, for_each, exec_script, exec_list, exec_command, exec_arms, for_words, for_begun}
 
 module _ (limits : Limits) (left : ℕ) (text : Script → State → Answer) where
   pub Cut-begin : (s : State) (f : State → Answer) → limits.step_bound ≤ s.steps → begin limits f s ≡ Ended CutSteps s
@@ -21,7 +21,7 @@ module _ (limits : Limits) (left : ℕ) (text : Script → State → Answer) whe
     Cut-command (tree.Assign pairs) p s h = Cut-begin s (assign limits.shell pairs) h
     Cut-command (tree.If arms) p s h = Cut-if arms p s h
     Cut-command (tree.Loop until c b) p s h = Cut-turns left until (exec_script limits left text c) (exec_script limits left text b) 0 s (Cut-block c p.0 s h)
-    Cut-command (tree.For name words b) p s h = Cut-begin s (λ t. sized (turns_in limits.shell (parameters_in t.memory) words) (for_each limits.shell name (exec_script limits left text b) 0) t) h
+    Cut-command (tree.For name words b) p s h = Cut-begin s (λ t. for_words limits.shell name words (exec_script limits left text b) (for_begun limits.shell t)) h
 
     pub Cut-block : (a : Script) → HoldsCommand a → (s : State) → limits.step_bound ≤ s.steps → exec_script limits left text a s ≡ Ended CutSteps s
     Cut-block tree.Empty p s h = absurd p

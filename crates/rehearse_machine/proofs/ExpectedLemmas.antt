@@ -8,11 +8,11 @@ use Rattle.device_list.specs.DeviceList.{fails_normally}
 use Rattle.device_list.specs.declared.finish.BoardEnd.{BoardEnd}
 use Rattle.rehearse_terms.specs.Outcomes.{OutcomeWord, Outcome, Success, Failure}
 use Rattle.rehearse_terms.specs.State.{Text, State, LoggedCommand}
-use Rattle.rehearse_rules.specs.Execution.{Limits, Answer, Normal, Exit, Ended, Dry, take_outcome, run_all, for_each, outcome_when, succeeds}
+use Rattle.rehearse_rules.specs.Execution.{Limits, Answer, Normal, Exit, Ended, Dry, take_outcome, run_all, for_each, outcome_when, succeeds, block_skipped}
 use Rattle.rehearse_rules.specs.Expected.{Answered, asked_in}
 use Rattle.rehearse_rules.specs.Laws.{IsExpected}
 use Rattle.rehearse_rules.specs.Runs.{Task, run_on, state_of}
-use Rattle.rehearse_rules.proofs.TakenOutcomes.{KeepsAll, HasAnswered, Track-of, answered_on, go_on-answered, text_end-answered, outcome_answers, Keeps-script, Keeps-joined, Keeps-arms, Keeps-exec, Keeps-run, Keeps-turns, Keeps-for, Keeps-if, Keeps-stays, after_condition, Keeps-after_condition}
+use Rattle.rehearse_rules.proofs.TakenOutcomes.{KeepsAll, HasAnswered, Track-of, answered_on, go_on-answered, text_end-answered, outcome_answers, Keeps-script, Keeps-joined, Keeps-arms, Keeps-exec, Keeps-run, Keeps-turns, Keeps-for, Keeps-if, Keeps-stays, after_condition, Keeps-after_condition, Keeps-skip}
 use Rattle.rehearse_rules.proofs.UnexpectedAnswers.{AsksAt, asks_at, expected_at}
 use Rattle.rehearse_machine.specs.Came.{Came, Over, Wants, settled}
 use Rattle.rehearse_machine.specs.Frames.{Frame, Lists, Linked, IfCondition, LoopCondition, LoopBody, ForBody, RunNames, RunText}
@@ -55,8 +55,8 @@ module _ (limits : Limits) (call : List Text) (d : Outcome) (log : List LoggedCo
   resume_answered (Lists lists) a h = go_on-answered limits.device_bound call d log a (script limits lists) (kept_script lists) h
   resume_answered (Linked links) a h = go_on-answered limits.device_bound call d log a (joined_of limits links) (Keeps-joined limits limits.step_bound (full limits) kept_full links) h
   resume_answered (IfCondition c arms) a h =
-      go_on-answered limits.device_bound call d log a (λ t. elim (nat_eq t.memory.status 0) [ true ↦ script limits c t | false ↦ arms_of limits arms t ])
-      (λ t. Keeps-if limits.device_bound t (nat_eq t.memory.status 0) (script limits c) (arms_of limits arms) (kept_script c t) (Keeps-arms limits limits.step_bound (full limits) kept_full arms t)) h
+      go_on-answered limits.device_bound call d log a (λ t. elim (nat_eq t.memory.status 0) [ true ↦ script limits c t | false ↦ arms_of limits arms (block_skipped limits.shell c t) ])
+      (λ t. Keeps-if limits.device_bound t (nat_eq t.memory.status 0) (script limits c) (λ u. arms_of limits arms (block_skipped limits.shell c u)) (kept_script c t) (Keeps-skip limits c (arms_of limits arms) (Keeps-arms limits limits.step_bound (full limits) kept_full arms) t)) h
   resume_answered (LoopCondition until c b last) a h =
       go_on-answered limits.device_bound call d log a (after_condition limits until (script limits b) (again limits until c b) last) (Keeps-after_condition limits until (script limits b) (again limits until c b) (kept_script b) (kept_again until c b) last) h
   resume_answered (LoopBody until c b) a h = go_on-answered limits.device_bound call d log a (again limits until c b) (kept_again until c b) h

@@ -34,3 +34,4 @@ mod SourceExamples
 pub mod AskingCommandLemmas
 pub mod StoppedTextLemmas
 pub mod ExpectedLemmas
+pub mod ShellLemmas

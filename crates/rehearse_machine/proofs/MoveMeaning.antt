@@ -4,25 +4,25 @@ use Rattle.device_list.specs.declared.finish.BoardEnd.{BoardEnd}
 use Rattle.hushlang.specs.Tree as tree
 use Rattle.hushlang.specs.Tree.{Script, Command, Arms, IsProper, IsProperCommand, HoldsCommand}
 use Rattle.hushlang.specs.Expansion.{fields, joined, size, most_bytes}
-use Rattle.hushlang_old.specs.TreesByShell.{tree_in, lacks_end_in}
+use Rattle.hushlang_shells.specs.TreesByShell.{tree_in, lacks_end_in}
 use Rattle.rehearse_terms.specs.Outcomes.{OutcomeWord, Success}
 use Rattle.rehearse_terms.specs.State.{Text, get, State}
 use Rattle.rehearse_rules.specs.Parameters.{parameters_in}
 use Rattle.device_list.specs.Called.{Called, BuiltIn, NoCommand, Device, called_by, sets_in}
 use Rattle.commands.specs.BuiltInCommands.{ChangesVariables, WritesText, RunsTexts, Tests, Exits}
 use Rattle.rehearse_rules.specs.Needs.{effect_now}
-use Rattle.rehearse_rules.specs.Execution.{Limits, Answer, Normal, Exit, Ended, Dry, Ending, CutDevices, CutSteps, Unknown, Size, go_on, set_status, set_local, status_when, goes, holds, begin, tell_or_take, told, told_again, logged, finish, set_environment, Finished, device, Request, test_effect, text_end, run_text, run_all, command, simple, sized, assign, turns, for_each, Unsupported, assign_local, request_of, test_request, started_text, text_failed}
-use Rattle.rehearse_machine.specs.Frames.{Frame, Lists, Linked, IfCondition, LoopCondition, LoopBody, ForBody, RunNames, RunText, Next, Go, Stop, tell_or_ask, finish_next, leave, begin_assign, begin_for, begin_arms, begin_tree, begin_text, begin_names, begin_exit, fitting, ask, begin_called, begin_fields, counted, begin_command, move}
+use Rattle.rehearse_rules.specs.Execution.{Limits, Answer, Normal, Exit, Ended, Dry, Ending, CutDevices, CutSteps, Unknown, Size, go_on, set_status, set_local, status_when, goes, holds, begin, tell_or_take, told, told_again, logged, finish, set_environment, Finished, device, Request, test_effect, text_end, run_text, run_all, command, simple, sized, assign, turns, for_each, Unsupported, assign_local, request_of, test_request, started_text, text_failed, turns_of, for_words, for_begun, block_skipped}
+use Rattle.rehearse_machine.specs.Frames.{Frame, Lists, Linked, IfCondition, LoopCondition, LoopBody, ForBody, RunNames, RunText, Next, Go, Stop, tell_or_ask, finish_next, leave, begin_assign, begin_for, begin_arms, begin_tree, begin_text, begin_names, begin_exit, fitting, ask, begin_called, begin_fields, counted, begin_command, move, begin_turns, begin_words}
 use Rattle.rehearse_machine.specs.Came.{Over, Wants}
 use Rattle.rehearse_machine.specs.Meaning.{with, full, script, one, joined_of, arms_of, again, resume, continue, comes_to, AreProperFrames}
 use Rattle.rehearse_rules.proofs.GrowingSteps.{Grew, AtLeast-track, Grew-block}
 use Rattle.rehearse_rules.proofs.TakenOutcomes.{KeepsAll, after_condition, Keeps-script, Keeps-exec}
-use Rattle.hushlang_old.proofs.TreeByShellLemmas.{trees_in_are_proper}
+use Rattle.hushlang_shells.proofs.TreeByShellLemmas.{trees_in_are_proper}
 use Rattle.rehearse_machine.proofs.BoundLemmas.{Cut-block}
 use Rattle.rehearse_machine.proofs.StepBoundLemmas.{same_go_on, same_if, closed_exec, same_turns}
 use Rattle.rehearse_terms.specs.declared.shell.Shell.{Shell}
-use Rattle.rehearse_terms.specs.declared.shell.Shell.TheVariants.{Profile, Old2023, Old2025}
-use Rattle.rehearse_rules.specs.ByShell.{unread, reads_again, leaves_in, status_of_exit, status_of_text, asks_in, truth_in, fields_in, turns_in, skips_rest, status_of_loop, follows, assigned_in}
+use Rattle.rehearse_terms.specs.declared.shell.Shell.TheVariants.{Profile, Old2023, Old2025, Modern2025}
+use Rattle.rehearse_rules.specs.ByShell.{unread, reads_again, leaves_in, status_of_exit, status_of_text, asks_in, truth_in, fields_in, turns_in, skips_rest, status_of_loop, follows, assigned_in, follows_turns}
 use Rattle.rehearse_rules.proofs.TakenOutcomes.{skipped}
 
 -- the status 1 of a text that is not run is that of its `run`
@@ -30,6 +30,7 @@ pub failed_with_1 : (shell : Shell) → status_of_text shell 1 ≡ 1
 failed_with_1 Profile = refl
 failed_with_1 Old2023 = refl
 failed_with_1 Old2025 = refl
+failed_with_1 Modern2025 = refl
 
 module _ (limits : Limits) where
   -- an ending, and a command that found no outcome, pass every frame
@@ -146,6 +147,12 @@ module _ (limits : Limits) where
     for-is name [] body fs s = refl
     for-is name (f ∷ values) body fs s = refl
 
+    turns-is : (name : Text) (values : List Text) (body : Script) (fs : List Frame) (s : State) → comes_to limits w (begin_turns limits.shell name values body fs s) ≡ continue limits fs (turns_of limits.shell name (script limits body) values (with w s))
+    turns-is name values body fs s = if-is (follows_turns limits.shell name values) (begin_for name values body fs s) (Stop (Unsupported name) s) fs (for_each limits.shell name (script limits body) 0 values (with w s)) (Ended (Unsupported name) (with w s)) (for-is name values body fs s) (sym (continue-ended fs (Unsupported name) (with w s)))
+
+    words-is : (name : Text) (words : List tree.Word) (body : Script) (fs : List Frame) (s : State) → comes_to limits w (begin_words limits.shell name words body fs s) ≡ continue limits fs (for_words limits.shell name words (script limits body) (with w s))
+    words-is name words body fs s = fitting-is (turns_in limits.shell (parameters_in s.memory) words) (λ found. begin_turns limits.shell name found body fs) (turns_of limits.shell name (script limits body)) fs s (turns-is name (turns_in limits.shell (parameters_in s.memory) words) body fs s)
+
     arms-is : (arms : Arms) (fs : List Frame) (s : State) → comes_to limits w (begin_arms limits.shell arms fs s) ≡ continue limits fs (arms_of limits arms (with w s))
     arms-is (tree.Arm c b arms) fs s = refl
     arms-is (tree.Else b) fs s = refl
@@ -176,7 +183,7 @@ module _ (limits : Limits) where
     command-is (tree.Assign pairs) p fs s = counted-is (begin_assign limits.shell pairs fs) (assign limits.shell pairs) fs s (λ t. assign-is pairs fs t)
     command-is (tree.If arms) p fs s = arms-is arms fs s
     command-is (tree.Loop until c b) p fs s = ap (continue limits fs) (sym (turn_more until c b p.0 p.1 0 (with w s)))
-    command-is (tree.For name words body) p fs s = counted-is (λ t. fitting (turns_in limits.shell (parameters_in t.memory) words) (λ f. begin_for name f body fs) t) (λ t. sized (turns_in limits.shell (parameters_in t.memory) words) (for_each limits.shell name (script limits body) 0) t) fs s (λ t. fitting-is (turns_in limits.shell (parameters_in t.memory) words) (λ f. begin_for name f body fs) (for_each limits.shell name (script limits body) 0) fs t (for-is name (turns_in limits.shell (parameters_in t.memory) words) body fs t))
+    command-is (tree.For name words body) p fs s = counted-is (λ t. begin_words limits.shell name words body fs (for_begun limits.shell t)) (λ t. for_words limits.shell name words (script limits body) (for_begun limits.shell t)) fs s (λ t. words-is name words body fs (for_begun limits.shell t))
 
     -- a move keeps what is to come
     pub move-is : (fs : List Frame) → AreProperFrames fs → (s : State) → comes_to limits w (move limits fs s) ≡ continue limits fs (Normal (with w s))
@@ -186,7 +193,7 @@ module _ (limits : Limits) where
     move-is (Linked tree.Alone ∷ fs) p s = refl
     move-is (Linked (tree.Joins op c links) ∷ fs) p s = if-is (goes op s.memory.status) (begin_command limits c (Linked links ∷ fs) s) (elim (skips_rest limits.shell) [ true ↦ Go fs s | false ↦ Go (Linked links ∷ fs) s ]) fs (go_on (one limits c (with w s)) (joined_of limits links)) (skipped limits (joined_of limits links) (with w s)) (command-is c p.0.0 (Linked links ∷ fs) s)
         (if-is (skips_rest limits.shell) (Go fs s) (Go (Linked links ∷ fs) s) fs (Normal (with w s)) (joined_of limits links (with w s)) refl refl)
-    move-is (IfCondition b arms ∷ fs) p s = if-is (nat_eq s.memory.status 0) (Go (Lists b ∷ fs) s) (begin_arms limits.shell arms fs s) fs (script limits b (with w s)) (arms_of limits arms (with w s)) refl (arms-is arms fs s)
+    move-is (IfCondition b arms ∷ fs) p s = if-is (nat_eq s.memory.status 0) (Go (Lists b ∷ fs) s) (begin_arms limits.shell arms fs (block_skipped limits.shell b s)) fs (script limits b (with w s)) (arms_of limits arms (block_skipped limits.shell b (with w s))) refl (arms-is arms fs (block_skipped limits.shell b s))
     move-is (LoopCondition until c b last ∷ fs) p s = if-is (holds until s.memory.status) (Go (Lists b ∷ LoopBody until c b ∷ fs) s) (Go fs (set_status (status_of_loop limits.shell last s.memory.status) s)) fs (go_on (script limits b (with w s)) (again limits until c b)) (Normal (set_status (status_of_loop limits.shell last s.memory.status) (with w s))) refl refl
     move-is (LoopBody until c b ∷ fs) p s = ap (continue limits fs) (sym (turn_more until c b p.0.0 p.0.1 s.memory.status (with w s)))
     move-is (ForBody name [] body ∷ fs) p s = refl

@@ -44,9 +44,10 @@ has_room nexts.Leaves f h = tt
 has_room (nexts.Goes at) f h = tt
 has_room (nexts.Finishes at status) f h = tt
 has_room (nexts.Enters at script) f h = tt
+has_room (nexts.Skips at status script) f h = tt
 has_room (nexts.Calls call) f h = h
 has_room (nexts.Assigns values) f h = h
-has_room (nexts.Loops words) f h = h
+has_room (nexts.Loops name words) f h = h
 has_room nexts.Turns f h = tt
 has_room nexts.Names f h = tt
 

@@ -13,18 +13,18 @@ use Rattle.bootstore_state.specs.declared.frame.FrameKind.TheVariants as kinds
 use Rattle.bootstore_state.specs.Moment.{RunningFrame}
 use Rattle.bootstore_state.specs.Record.{without_first}
 use Rattle.rehearse_terms.specs.Outcomes.{Outcome, Success, Failure}
-use Rattle.hushlang_old.specs.TreesByShell.{tree_in, lacks_end_in}
+use Rattle.hushlang_shells.specs.TreesByShell.{tree_in, lacks_end_in}
 use Rattle.rehearse_terms.specs.State.{Text, get, State}
 use Rattle.rehearse_rules.specs.Parameters.{parameters_in}
 use Rattle.device_list.specs.Called.{Called, BuiltIn, NoCommand, Device, called_by, sets_in}
 use Rattle.commands.specs.BuiltInCommands.{ChangesVariables, WritesText, RunsTexts, Tests, Exits}
 use Rattle.rehearse_rules.specs.Needs.{effect_now}
-use Rattle.rehearse_rules.specs.Execution.{begin_turn, Limits, End, CutDevices, CutSteps, Size, set_status, set_local, status_when, goes, holds, Request, test_effect, outcome_when, told, told_again, logged, set_environment, Unsupported, assign_local, request_of, test_request, text_failed}
-use Rattle.rehearse_machine.specs.Frames.{Frame, Lists, Linked, IfCondition, LoopCondition, LoopBody, ForBody, Next, Go, Stop, leave, finish_next, answered, tell_or_ask, begin_assign, begin_for, begin_arms, begun_text, begin_tree, begin_text, begin_names, begin_exit, fitting, ask, begin_called, begin_fields, counted, begin_command, move, leave_run}
-use Rattle.rehearse_machine.specs.Places.{list_at, drop_lists, joined_at, drop_joined, second, command_in, command_at, drop_arms, place, from_command, condition_frame, phase, from_turn, script_frames, for_frame, run_frame, frames_by, frames_of, PlaceNext, GoOn, StopOn, next_of, moved_to, behind, in_turn, text_frame, block_frame, is_run, to_run, left, place_exit, place_finish, place_answered, place_tell_or_ask, place_assign, place_tree, place_text, place_name, run_move, for_turn, for_move, for_begins, place_arms, condition_ends, phase_move, place_fitting, place_ask, place_called, place_fields, place_counted, place_command, place_joined, place_skipped, place_begins, place_turn, place_list, place_by, place_move, place_skipped, run_left}
+use Rattle.rehearse_rules.specs.Execution.{begin_turn, Limits, End, CutDevices, CutSteps, Size, set_status, set_local, status_when, goes, holds, Request, test_effect, outcome_when, told, told_again, logged, set_environment, Unsupported, assign_local, request_of, test_request, text_failed, for_begun, block_skipped}
+use Rattle.rehearse_machine.specs.Frames.{Frame, Lists, Linked, IfCondition, LoopCondition, LoopBody, ForBody, Next, Go, Stop, leave, finish_next, answered, tell_or_ask, begin_assign, begin_for, begin_arms, begun_text, begin_tree, begin_text, begin_names, begin_exit, fitting, ask, begin_called, begin_fields, counted, begin_command, move, leave_run, begin_turns, begin_words}
+use Rattle.rehearse_machine.specs.Places.{list_at, drop_lists, joined_at, drop_joined, second, command_in, command_at, drop_arms, place, from_command, condition_frame, phase, from_turn, script_frames, for_frame, run_frame, frames_by, frames_of, PlaceNext, GoOn, StopOn, next_of, moved_to, behind, in_turn, text_frame, block_frame, is_run, to_run, left, place_exit, place_finish, place_answered, place_tell_or_ask, place_assign, place_tree, place_text, place_name, run_move, for_turn, for_move, for_begins, place_arms, condition_ends, phase_move, place_fitting, place_ask, place_called, place_fields, place_counted, place_command, place_joined, place_skipped, place_begins, place_turn, place_list, place_by, place_move, place_skipped, run_left, place_turns, place_words, place_for}
 use Rattle.rehearse_machine.proofs.Beginnings.{chosen, passed}
 use Rattle.rehearse_terms.specs.declared.shell.Shell.{Shell}
-use Rattle.rehearse_rules.specs.ByShell.{reads_again, leaves_in, status_of_exit, asks_in, truth_in, fields_in, turns_in, skips_rest, status_of_no_block, status_of_loop, follows, assigned_in}
+use Rattle.rehearse_rules.specs.ByShell.{reads_again, leaves_in, status_of_exit, asks_in, truth_in, fields_in, turns_in, skips_rest, status_of_no_block, status_of_loop, follows, assigned_in, follows_turns}
 
 -- ---- parts by their numbers
 
@@ -298,6 +298,12 @@ module _ (limits : Limits) where
         let found : command_at (list_at f.script f.place.list) f.place.command ≡ Some (tree.For name words body) = ap (λ (x : Option AndOr). command_at x f.place.command) at_list ∙ e in
         ap (λ (x : Option Command). Go (for_frame x 0 (v ∷ vs) ∷ frames_of (behind f ∷ fs)) s) found ∙ ap (λ (x : List Frame). Go (ForBody name (v ∷ vs) body ∷ x) s) behind-is
 
+    turns-is : (name : Text) (words : List tree.Word) (body : Script) → command_in list f.place.command ≡ Some (tree.For name words body) → (values : List Text) (s : State) → next_of (place_turns limits.shell name values f fs s) ≡ begin_turns limits.shell name values body below s
+    turns-is name words body e values s = if_next (follows_turns limits.shell name values) (for_begins values f fs s) (StopOn (Unsupported name) s) (begin_for name values body below s) (Stop (Unsupported name) s) (begins-for-is name words body e values s) refl
+
+    words-is : (name : Text) (words : List tree.Word) (body : Script) → command_in list f.place.command ≡ Some (tree.For name words body) → (s : State) → next_of (place_words limits.shell name words f fs s) ≡ begin_words limits.shell name words body below s
+    words-is name words body e s = fitting-is (turns_in limits.shell (parameters_in s.memory) words) (λ found. place_turns limits.shell name found f fs) (λ found. begin_turns limits.shell name found body below) s (turns-is name words body e (turns_in limits.shell (parameters_in s.memory) words) s)
+
     looped-is : (until : Bool) (c b : Script) → command_in list f.place.command ≡ Some (tree.Loop until c b) → (last : ℕ) (s : State) → next_of (GoOn (block_frame c ∷ in_turn 1 last f ∷ fs) s) ≡ Go (Lists c ∷ LoopCondition until c b last ∷ below) s
     looped-is until c b e last s = ap (λ (x : List Frame). Go x s) (blocked c (in_turn 1 last f ∷ fs) ∙ ap (λ (x : List Frame). Lists c ∷ x) (turned f.place.command 1 last ∙ ap (λ (x : Option Command). phase x 0 last ∷ below) e))
 
@@ -307,14 +313,13 @@ module _ (limits : Limits) where
     command-is (tree.Assign pairs) e s = counted-is (place_assign limits.shell pairs (behind f ∷ fs)) (begin_assign limits.shell pairs below) s (λ t. assign-is limits.shell pairs (behind f ∷ fs) t ∙ ap (λ (x : List Frame). begin_assign limits.shell pairs x t) behind-is)
     command-is (tree.If arms) e s = arms-is arms arms 0 e refl s
     command-is (tree.Loop until c b) e s = looped-is until c b e 0 s
-    command-is (tree.For name words body) e s = counted-is (λ t. place_fitting (turns_in limits.shell (parameters_in t.memory) words) (λ found. for_begins found f fs) t) (λ t. fitting (turns_in limits.shell (parameters_in t.memory) words) (λ found. begin_for name found body below) t) s
-        (λ t. fitting-is (turns_in limits.shell (parameters_in t.memory) words) (λ found. for_begins found f fs) (λ found. begin_for name found body below) t (begins-for-is name words body e (turns_in limits.shell (parameters_in t.memory) words) t))
+    command-is (tree.For name words body) e s = counted-is (place_for limits.shell name words f fs) (λ t. begin_words limits.shell name words body below (for_begun limits.shell t)) s (λ t. words-is name words body e (for_begun limits.shell t))
 
     condition-is : (all arms : Arms) (a : ℕ) → command_in list f.place.command ≡ Some (tree.If all) → drop_arms a all ≡ arms → (s : State) → next_of (condition_ends limits.shell arms a f fs s) ≡ move limits (condition_frame arms ∷ below) s
     condition-is all (tree.Arm c b more) a e d s =
-        if_next (nat_eq s.memory.status 0) (GoOn (block_frame b ∷ behind f ∷ fs) s) (place_arms limits.shell more (suc a) f fs s) (Go (Lists b ∷ below) s) (begin_arms limits.shell more below s)
+        if_next (nat_eq s.memory.status 0) (GoOn (block_frame b ∷ behind f ∷ fs) s) (place_arms limits.shell more (suc a) f fs (block_skipped limits.shell b s)) (Go (Lists b ∷ below) s) (begin_arms limits.shell more below (block_skipped limits.shell b s))
         (ap (λ (x : List Frame). Go x s) (blocked b (behind f ∷ fs) ∙ ap (λ (x : List Frame). Lists b ∷ x) behind-is))
-        (arms-is all more (suc a) e (drop_more all a c b more d) s)
+        (arms-is all more (suc a) e (drop_more all a c b more d) (block_skipped limits.shell b s))
     condition-is all (tree.Else b) a e d s = went_on s
     condition-is all tree.NoElse a e d s = went_on s
 

@@ -4,18 +4,18 @@ use Rattle.device_list.specs.declared.finish.BoardEnd.{BoardEnd}
 use Rattle.hushlang.specs.Tree as tree
 use Rattle.hushlang.specs.Tree.{Script, Joined, Command, Arms, IsProperCommand, AreProperArms, HoldsCommand}
 use Rattle.hushlang.specs.Expansion.{joined, size, most_bytes}
-use Rattle.hushlang_old.specs.TreesByShell.{tree_in, lacks_end_in}
+use Rattle.hushlang_shells.specs.TreesByShell.{tree_in, lacks_end_in}
 use Rattle.rehearse_terms.specs.State.{Text, get, State}
 use Rattle.rehearse_rules.specs.Parameters.{parameters_in}
 use Rattle.device_list.specs.Called.{Called, BuiltIn, NoCommand, Device, called_by, sets_in}
 use Rattle.commands.specs.BuiltInCommands.{ChangesVariables, WritesText, RunsTexts, Tests, Exits}
 use Rattle.rehearse_rules.specs.Needs.{effect_now}
-use Rattle.rehearse_rules.specs.Execution.{Limits, CutDevices, CutSteps, Size, set_status, set_local, status_when, goes, holds, Request, test_effect, told, told_again, logged, set_environment, Unsupported, assign_local, request_of, test_request, text_failed}
+use Rattle.rehearse_rules.specs.Execution.{Limits, CutDevices, CutSteps, Size, set_status, set_local, status_when, goes, holds, Request, test_effect, told, told_again, logged, set_environment, Unsupported, assign_local, request_of, test_request, text_failed, for_begun, block_skipped}
 use Rattle.rehearse_terms.specs.Outcomes.{Success}
-use Rattle.rehearse_machine.specs.Frames.{Frame, Lists, Linked, IfCondition, LoopCondition, LoopBody, ForBody, RunNames, RunText, Next, Go, Ask, Stop, tell_or_ask, finish_next, leave, begin_assign, begin_for, begin_arms, begin_tree, begin_text, begin_names, begin_exit, fitting, ask, begin_called, begin_fields, begin_command, move}
+use Rattle.rehearse_machine.specs.Frames.{Frame, Lists, Linked, IfCondition, LoopCondition, LoopBody, ForBody, RunNames, RunText, Next, Go, Ask, Stop, tell_or_ask, finish_next, leave, begin_assign, begin_for, begin_arms, begin_tree, begin_text, begin_names, begin_exit, fitting, ask, begin_called, begin_fields, begin_command, move, begin_turns, begin_words}
 use Rattle.rehearse_machine.specs.MoveCounts.{command_depth, arms_depth, script_depth, block_weight, links_weight, arms_weight, tree_weight, text_weight, names_weight, weight}
 use Rattle.rehearse_machine.specs.Meaning.{AreProperFrames}
-use Rattle.rehearse_rules.specs.ByShell.{reads_again, leaves_in, status_of_exit, asks_in, truth_in, fields_in, turns_in, skips_rest, status_of_loop, follows, assigned_in}
+use Rattle.rehearse_rules.specs.ByShell.{reads_again, leaves_in, status_of_exit, asks_in, truth_in, fields_in, turns_in, skips_rest, status_of_loop, follows, assigned_in, follows_turns}
 
 module _ (limits : Limits) where
   -- no step was begun since t
@@ -104,6 +104,18 @@ module _ (limits : Limits) where
   for-quiet name [] body fs s = refl
   for-quiet name (f ∷ values) body fs s = refl
 
+  values-quiet : (name : Text) (values : List Text) (body : Script) (fs : List Frame) (t s : State) → s.steps ≡ t.steps → IsQuiet t (begin_for name values body fs s)
+  values-quiet name [] body fs t s e = e
+  values-quiet name (f ∷ values) body fs t s e = e
+
+  turns-quiet : (name : Text) (values : List Text) (body : Script) (fs : List Frame) (t s : State) → s.steps ≡ t.steps → IsQuiet t (begin_turns limits.shell name values body fs s)
+  turns-quiet name values body fs t s e = either-quiet t (follows_turns limits.shell name values) (begin_for name values body fs s) (Stop (Unsupported name) s) (values-quiet name values body fs t s e) e
+
+  pub words-quiet : (name : Text) (words : List tree.Word) (body : Script) (fs : List Frame) (t s : State) → s.steps ≡ t.steps → IsQuiet t (begin_words limits.shell name words body fs s)
+  words-quiet name words body fs t s e =
+      let found : List Text = turns_in limits.shell (parameters_in s.memory) words in
+      either-quiet t (nat_le (size found) most_bytes) (begin_turns limits.shell name found body fs s) (Stop Size s) (turns-quiet name found body fs t s e) e
+
   -- the result of a step that was begun
   counted_further : (s : State) (next : Next) → s.steps < limits.step_bound → IsQuiet (record s { steps = suc s.steps }) next → IsFurther s next
   counted_further s (Go fs u) l q = (omega arith, omega arith)
@@ -153,7 +165,7 @@ module _ (limits : Limits) where
   command_progress (tree.Assign pairs) fs s p = let t : State = record s { steps = suc s.steps } in inl (counted_at (nat_lt s.steps limits.step_bound) s (begin_assign limits.shell pairs fs t) refl (assign-quiet pairs fs t t refl))
   command_progress (tree.If arms) fs s p = if_progress arms fs s p
   command_progress (tree.Loop until c b) fs s p = loop_progress until c b 0 fs s p.0
-  command_progress (tree.For name words body) fs s p = let t : State = record s { steps = suc s.steps } in inl (counted_at (nat_lt s.steps limits.step_bound) s (fitting (turns_in limits.shell (parameters_in t.memory) words) (λ f. begin_for name f body fs) t) refl (either-quiet t (nat_le (size (turns_in limits.shell (parameters_in t.memory) words)) most_bytes) (begin_for name (turns_in limits.shell (parameters_in t.memory) words) body fs t) (Stop Size t) (for-quiet name (turns_in limits.shell (parameters_in t.memory) words) body fs t) refl))
+  command_progress (tree.For name words body) fs s p = let t : State = record s { steps = suc s.steps } in inl (counted_at (nat_lt s.steps limits.step_bound) s (begin_words limits.shell name words body fs (for_begun limits.shell t)) refl (words-quiet name words body fs t (for_begun limits.shell t) refl))
 
   tree_progress : (o : Option Script) (name : Text) (names : List Text) (fs : List Frame) (s : State) → Progress s (suc (tree_weight o (suc (names_weight limits.shell s.memory.environment names (weight limits.shell s.memory.environment fs) + weight limits.shell s.memory.environment fs)))) (begin_tree limits.shell o name names fs s)
   tree_progress None name names fs s = inr refl
@@ -197,9 +209,9 @@ module _ (limits : Limits) where
       (either_progress s (suc (command_depth c + links_weight links m)) (skips_rest limits.shell) (Go fs s) (Go (Linked links ∷ fs) s) (let more = links_heavy links m in inr (refl, refl, omega arith)) (inr (refl, refl, omega arith)))
   move_progress (IfCondition b arms ∷ fs) s p =
       let m = weight limits.shell s.memory.environment fs in
-      either_progress s (suc (block_weight b m + arms_weight arms m)) (nat_eq s.memory.status 0) (Go (Lists b ∷ fs) s) (begin_arms limits.shell arms fs s)
+      either_progress s (suc (block_weight b m + arms_weight arms m)) (nat_eq s.memory.status 0) (Go (Lists b ∷ fs) s) (begin_arms limits.shell arms fs (block_skipped limits.shell b s))
       (progress_more s (suc (block_weight b m)) (suc (block_weight b m + arms_weight arms m)) (Go (Lists b ∷ fs) s) (omega arith) (inr (refl, refl, omega arith)))
-      (progress_more s (suc (arms_weight arms m)) (suc (block_weight b m + arms_weight arms m)) (begin_arms limits.shell arms fs s) (omega arith) (arms_progress arms fs s p.0.1))
+      (progress_more s (suc (arms_weight arms m)) (suc (block_weight b m + arms_weight arms m)) (begin_arms limits.shell arms fs (block_skipped limits.shell b s)) (omega arith) (arms_progress arms fs (block_skipped limits.shell b s) p.0.1))
   move_progress (LoopCondition until c b last ∷ fs) s p =
       let m = weight limits.shell s.memory.environment fs in
       let x = block_weight b (suc (block_weight c m)) in

@@ -4,19 +4,19 @@ use Rattle.device_list.specs.declared.finish.BoardEnd.{BoardEnd}
 use Rattle.hushlang.specs.Tree as tree
 use Rattle.hushlang.specs.Tree.{Script, Command, Arms, IsProper, IsProperCommand, AreProperArms, HoldsCommand}
 use Rattle.hushlang.specs.Expansion.{fields, joined, size, most_bytes}
-use Rattle.hushlang_old.specs.TreesByShell.{tree_in, lacks_end_in}
+use Rattle.hushlang_shells.specs.TreesByShell.{tree_in, lacks_end_in}
 use Rattle.rehearse_terms.specs.State.{Text, get, State}
 use Rattle.rehearse_rules.specs.Parameters.{parameters_in}
 use Rattle.device_list.specs.Called.{Called, BuiltIn, NoCommand, Device, called_by, sets_in}
 use Rattle.commands.specs.BuiltInCommands.{ChangesVariables, WritesText, RunsTexts, Tests, Exits}
 use Rattle.rehearse_rules.specs.Needs.{effect_now}
-use Rattle.rehearse_rules.specs.Execution.{Limits, CutDevices, CutSteps, Size, set_status, set_local, status_when, goes, holds, Request, test_effect, told, told_again, logged, set_environment, Unsupported, assign_local, request_of, test_request, text_failed}
+use Rattle.rehearse_rules.specs.Execution.{Limits, CutDevices, CutSteps, Size, set_status, set_local, status_when, goes, holds, Request, test_effect, told, told_again, logged, set_environment, Unsupported, assign_local, request_of, test_request, text_failed, for_begun, block_skipped}
 use Rattle.rehearse_terms.specs.Outcomes.{Success}
-use Rattle.rehearse_machine.specs.Frames.{Frame, Lists, Linked, IfCondition, LoopCondition, LoopBody, ForBody, RunNames, RunText, Next, Go, Stop, tell_or_ask, finish_next, leave, begin_assign, begin_for, begin_arms, begin_tree, begin_text, begin_names, begin_exit, fitting, ask, begin_called, begin_fields, begin_command, move}
-use Rattle.hushlang_old.proofs.TreeByShellLemmas.{trees_in_are_proper}
+use Rattle.rehearse_machine.specs.Frames.{Frame, Lists, Linked, IfCondition, LoopCondition, LoopBody, ForBody, RunNames, RunText, Next, Go, Stop, tell_or_ask, finish_next, leave, begin_assign, begin_for, begin_arms, begin_tree, begin_text, begin_names, begin_exit, fitting, ask, begin_called, begin_fields, begin_command, move, begin_turns, begin_words}
+use Rattle.hushlang_shells.proofs.TreeByShellLemmas.{trees_in_are_proper}
 use Rattle.rehearse_machine.proofs.StepBoundLemmas.{block_proper}
 use Rattle.rehearse_machine.specs.Meaning.{AreProperFrames, IsProperNext}
-use Rattle.rehearse_rules.specs.ByShell.{reads_again, leaves_in, status_of_exit, asks_in, truth_in, fields_in, turns_in, skips_rest, status_of_loop, follows, assigned_in}
+use Rattle.rehearse_rules.specs.ByShell.{reads_again, leaves_in, status_of_exit, asks_in, truth_in, fields_in, turns_in, skips_rest, status_of_loop, follows, assigned_in, follows_turns}
 
 module _ (limits : Limits) where
   either : (b : Bool) (x y : Next) → IsProperNext x → IsProperNext y → IsProperNext (elim b [ true ↦ x | false ↦ y ])
@@ -82,6 +82,9 @@ module _ (limits : Limits) where
   for-proper name [] body fs s q p = p
   for-proper name (f ∷ values) body fs s q p = (block_proper body q, p)
 
+  turns-proper : (name : Text) (values : List Text) (body : Script) (fs : List Frame) (s : State) → HoldsCommand body → AreProperFrames fs → IsProperNext (begin_turns limits.shell name values body fs s)
+  turns-proper name values body fs s q p = either (follows_turns limits.shell name values) (begin_for name values body fs s) (Stop (Unsupported name) s) (for-proper name values body fs s q p) tt
+
   arms-proper : (arms : Arms) (fs : List Frame) (s : State) → AreProperArms arms → AreProperFrames fs → IsProperNext (begin_arms limits.shell arms fs s)
   arms-proper (tree.Arm c b arms) fs s q p = (block_proper c q.0, ((block_proper b q.1, q.2), p))
   arms-proper (tree.Else b) fs s q p = (block_proper b q, p)
@@ -101,7 +104,7 @@ module _ (limits : Limits) where
   command-proper (tree.Assign pairs) fs s q p = let t : State = record s { steps = suc s.steps } in either (nat_lt s.steps limits.step_bound) (begin_assign limits.shell pairs fs t) (Stop CutSteps s) (assign-proper pairs fs t p) tt
   command-proper (tree.If arms) fs s q p = arms-proper arms fs s (if-proper arms q) p
   command-proper (tree.Loop until c b) fs s q p = (block_proper c q.0, (q, p))
-  command-proper (tree.For name words body) fs s q p = let t : State = record s { steps = suc s.steps } in either (nat_lt s.steps limits.step_bound) (fitting (turns_in limits.shell (parameters_in t.memory) words) (λ f. begin_for name f body fs) t) (Stop CutSteps s) (either (nat_le (size (turns_in limits.shell (parameters_in t.memory) words)) most_bytes) (begin_for name (turns_in limits.shell (parameters_in t.memory) words) body fs t) (Stop Size t) (for-proper name (turns_in limits.shell (parameters_in t.memory) words) body fs t q p) tt) tt
+  command-proper (tree.For name words body) fs s q p = let t : State = for_begun limits.shell (record s { steps = suc s.steps }) in let found : List Text = turns_in limits.shell (parameters_in t.memory) words in either (nat_lt s.steps limits.step_bound) (begin_words limits.shell name words body fs t) (Stop CutSteps s) (either (nat_le (size found) most_bytes) (begin_turns limits.shell name found body fs t) (Stop Size t) (turns-proper name found body fs t q p) tt) tt
 
   pub move-proper : (fs : List Frame) (s : State) → AreProperFrames fs → IsProperNext (move limits fs s)
   move-proper [] s p = tt
@@ -109,7 +112,7 @@ module _ (limits : Limits) where
   move-proper (Lists (tree.Runs (tree.Starts c links) lists) ∷ fs) s p = command-proper c (Linked links ∷ Lists lists ∷ fs) s p.0.0.0 (p.0.0.1, (p.0.1, p.1))
   move-proper (Linked tree.Alone ∷ fs) s p = p.1
   move-proper (Linked (tree.Joins op c links) ∷ fs) s p = either (goes op s.memory.status) (begin_command limits c (Linked links ∷ fs) s) (elim (skips_rest limits.shell) [ true ↦ Go fs s | false ↦ Go (Linked links ∷ fs) s ]) (command-proper c (Linked links ∷ fs) s p.0.0 (p.0.1, p.1)) (either (skips_rest limits.shell) (Go fs s) (Go (Linked links ∷ fs) s) p.1 (p.0.1, p.1))
-  move-proper (IfCondition b arms ∷ fs) s p = either (nat_eq s.memory.status 0) (Go (Lists b ∷ fs) s) (begin_arms limits.shell arms fs s) (p.0.0, p.1) (arms-proper arms fs s p.0.1 p.1)
+  move-proper (IfCondition b arms ∷ fs) s p = either (nat_eq s.memory.status 0) (Go (Lists b ∷ fs) s) (begin_arms limits.shell arms fs (block_skipped limits.shell b s)) (p.0.0, p.1) (arms-proper arms fs (block_skipped limits.shell b s) p.0.1 p.1)
   move-proper (LoopCondition until c b last ∷ fs) s p = either (holds until s.memory.status) (Go (Lists b ∷ LoopBody until c b ∷ fs) s) (Go fs (set_status (status_of_loop limits.shell last s.memory.status) s)) (block_proper b p.0.1, p) p.1
   move-proper (LoopBody until c b ∷ fs) s p = (block_proper c p.0.0, p)
   move-proper (ForBody name [] body ∷ fs) s p = p.1

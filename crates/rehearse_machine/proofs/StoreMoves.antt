@@ -61,3 +61,10 @@ finished_does old mid new f at status t e d =
 pub comes_at : (r : Result Step StoreError) (old new : Record) (f g : State → PlaceNext) → ((w : OutcomeWord) → f (state_at old.present w) ≡ g (state_at old.present w)) → Comes r old new f → Comes r old new g
 comes_at (Ok step) old new f g e h = (λ w. h.0 w ∙ e w, h.1)
 comes_at (Err x) old new f g e h = tt
+
+-- a frame that is pushed after the status was set
+pub skipped_does : (r : Result Step StoreError) (old mid new : Record) (f child : RunningFrame) (at : At) (status : ℕ) → mid ≡ changed (with_status status) old → Comes r mid new (GoOn (child ∷ moved_to at f ∷ under mid.present)) → Comes r old new (λ s. GoOn (child ∷ moved_to at f ∷ under old.present) (set_status status s))
+skipped_does r old mid new f child at status e comes =
+    comes_at r old new (λ s. GoOn (child ∷ moved_to at f ∷ under mid.present) (set_status status s)) (λ s. GoOn (child ∷ moved_to at f ∷ under old.present) (set_status status s))
+    (λ w. ap (λ (x : Record). GoOn (child ∷ moved_to at f ∷ under x.present) (set_status status (state_at old.present w))) e)
+    (comes_after r old mid new (set_status status) (GoOn (child ∷ moved_to at f ∷ under mid.present)) (λ w. ap (λ (x : Record). state_at x.present w) e) (subst (Keeps old) (sym e) (keeps_change (with_status status) old refl)) comes)

@@ -10,14 +10,14 @@ use Rattle.hushlang.specs.declared.tree.Script.{Script as Code}
 use Rattle.bootstore_state.specs.Moment as stored
 use Rattle.bootstore_state.specs.Record.{Record, beginning, started, changed, with_frame}
 use Rattle.rehearse_terms.specs.Outcomes.{OutcomeWord}
-use Rattle.hushlang_old.specs.TreesByShell.{tree_in}
+use Rattle.hushlang_shells.specs.TreesByShell.{tree_in}
 use Rattle.rehearse_terms.specs.State.{Text, Variables, get, State, start}
 use Rattle.rehearse_rules.specs.Execution.{Limits, Normal}
 use Rattle.rehearse_terms.specs.declared.shell.Shell.{Shell}
 use Rattle.rehearse_rules.specs.ByShell.{unread}
 use Rattle.rehearse_rules.specs.Runs.{Task, run_on}
 use Rattle.bootstore_state.proofs.StateLemmas.{stored_values, stored_starts}
-use Rattle.hushlang_old.proofs.TreeByShellLemmas.{trees_in_are_proper}
+use Rattle.hushlang_shells.proofs.TreeByShellLemmas.{trees_in_are_proper}
 use Rattle.rehearse_machine.specs.Frames.{Frame, Lists, begun_text}
 use Rattle.rehearse_machine.specs.Places.{frames_of, text_frame}
 use Rattle.rehearse_machine.specs.Came.{Over, settled}

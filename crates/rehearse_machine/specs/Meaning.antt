@@ -4,7 +4,7 @@ use Rattle.hushlang.specs.Tree.{Script, Joined, Command, Arms, IsProper, IsPrope
 use Rattle.rehearse_terms.specs.Outcomes.{OutcomeWord}
 use Rattle.rehearse_terms.specs.State.{State}
 use Rattle.rehearse_rules.specs.ByShell.{status_of_loop}
-use Rattle.rehearse_rules.specs.Execution.{Limits, Answer, Normal, Exit, Ended, Dry, Ending, Request, go_on, set_status, holds, text_end, take_outcome, run_all, turns, for_each, exec_script, exec_joined, exec_command, exec_arms, exec}
+use Rattle.rehearse_rules.specs.Execution.{Limits, Answer, Normal, Exit, Ended, Dry, Ending, Request, go_on, set_status, holds, text_end, take_outcome, run_all, turns, for_each, exec_script, exec_joined, exec_command, exec_arms, exec, block_skipped}
 use Rattle.rehearse_rules.specs.Runs.{Task, run_on}
 use Rattle.rehearse_machine.specs.Came.{Came, Over, settled}
 use Rattle.rehearse_machine.specs.Frames.{Frame, Lists, Linked, IfCondition, LoopCondition, LoopBody, ForBody, RunNames, RunText, Next, Go, Ask, Stop}
@@ -45,7 +45,10 @@ module _ (limits : Limits) where
   resume (Lists lists) a = go_on a (script lists)
   resume (Linked links) a = go_on a (joined_of links)
   resume (IfCondition b arms) a =
-      go_on a (λ t. elim (nat_eq t.memory.status 0) [ true ↦ script b t | false ↦ arms_of arms t ])
+      go_on a (λ t. elim (nat_eq t.memory.status 0) [
+        | true ↦ script b t
+        | false ↦ arms_of arms (block_skipped limits.shell b t)
+      ])
   resume (LoopCondition until c b last) a =
       go_on a (λ t.
       elim (holds until t.memory.status) [

@@ -10,15 +10,15 @@ use Rattle.bootstore_state.specs.declared.frame.FrameKind.{FrameKind}
 use Rattle.bootstore_state.specs.declared.frame.FrameKind.TheVariants as kinds
 use Rattle.bootstore_state.specs.Moment.{RunningFrame}
 use Rattle.rehearse_terms.specs.Outcomes.{Outcome, Success, Failure}
-use Rattle.hushlang_old.specs.TreesByShell.{tree_in, lacks_end_in}
+use Rattle.hushlang_shells.specs.TreesByShell.{tree_in, lacks_end_in}
 use Rattle.rehearse_terms.specs.State.{Text, get, State}
 use Rattle.rehearse_terms.specs.declared.shell.Shell.{Shell}
-use Rattle.rehearse_rules.specs.ByShell.{unread, reads_again, leaves_in, status_of_exit, asks_in, truth_in, fields_in, turns_in, skips_rest, status_of_nothing, status_of_no_block, status_of_loop, follows, assigned_in}
+use Rattle.rehearse_rules.specs.ByShell.{unread, reads_again, leaves_in, status_of_exit, asks_in, truth_in, fields_in, turns_in, skips_rest, status_of_nothing, status_of_no_block, status_of_loop, follows, assigned_in, follows_turns}
 use Rattle.rehearse_rules.specs.Parameters.{parameters_in}
 use Rattle.device_list.specs.Called.{Called, BuiltIn, NoCommand, Device, called_by, sets_in}
 use Rattle.commands.specs.BuiltInCommands.{ChangesVariables, WritesText, RunsTexts, Tests, Exits, variables_changed, text_written}
 use Rattle.rehearse_rules.specs.Needs.{effect_now}
-use Rattle.rehearse_rules.specs.Execution.{Limits, Ending, End, CutDevices, CutSteps, Unknown, Size, Finished, remember, set_status, set_local, begin_turn, status_when, goes, holds, Request, test_effect, outcome_when, told, told_again, logged, set_environment, Unsupported, assign_local, request_of, test_request, text_failed}
+use Rattle.rehearse_rules.specs.Execution.{Limits, Ending, End, CutDevices, CutSteps, Unknown, Size, Finished, remember, set_status, set_local, begin_turn, status_when, goes, holds, Request, test_effect, outcome_when, told, told_again, logged, set_environment, Unsupported, assign_local, request_of, test_request, text_failed, for_begun, block_skipped}
 use Rattle.rehearse_machine.specs.Frames.{Frame, Lists, Linked, IfCondition, LoopCondition, LoopBody, ForBody, RunNames, RunText, Next, Go, Ask, Stop, begun_text}
 
 -- ---- parts of a script by their numbers
@@ -238,6 +238,13 @@ abbrev pub for_begins : List Text → RunningFrame → List RunningFrame → Sta
 for_begins [] f fs s = GoOn (behind f ∷ fs) (set_status 0 s)
 for_begins (v ∷ vs) f fs s = GoOn (values_frame f (v ∷ vs) ∷ behind f ∷ fs) s
 
+-- the turns of a `for`, if they are followed
+abbrev pub place_turns : Shell → (name : Text) → List Text → RunningFrame → List RunningFrame → State → PlaceNext
+place_turns shell name values f fs s = elim (follows_turns shell name values) [
+  | true ↦ for_begins values f fs s
+  | false ↦ StopOn (Unsupported name) s
+]
+
 -- the arms of an `if` from one on
 abbrev pub place_arms : Shell → Arms → ℕ → RunningFrame → List RunningFrame → State → PlaceNext
 place_arms shell (tree.Arm c b more) a f fs s = GoOn (block_frame c ∷ in_turn (suc a) 0 f ∷ fs) s
@@ -250,7 +257,7 @@ abbrev pub condition_ends : Shell → Arms → ℕ → RunningFrame → List Run
 condition_ends shell (tree.Arm c b more) a f fs s =
     elim (nat_eq s.memory.status 0) [
       | true ↦ GoOn (block_frame b ∷ behind f ∷ fs) s
-      | false ↦ place_arms shell more (suc a) f fs s
+      | false ↦ place_arms shell more (suc a) f fs (block_skipped shell b s)
     ]
 condition_ends shell (tree.Else b) a f fs s = GoOn (behind f ∷ fs) s
 condition_ends shell tree.NoElse a f fs s = GoOn (behind f ∷ fs) s
@@ -274,6 +281,14 @@ phase_move shell o a f fs s = GoOn (behind f ∷ fs) s
 
 abbrev pub place_fitting : List Text → (List Text → State → PlaceNext) → State → PlaceNext
 place_fitting fs next s = elim (nat_le (size fs) most_bytes) [ true ↦ next fs s | false ↦ StopOn Size s ]
+
+-- a `for` that has begun finds its words
+abbrev pub place_words : Shell → (name : Text) → List tree.Word → RunningFrame → List RunningFrame → State → PlaceNext
+place_words shell name words f fs s =
+    place_fitting (turns_in shell (parameters_in s.memory) words) (λ found. place_turns shell name found f fs) s
+
+abbrev pub place_for : Shell → (name : Text) → List tree.Word → RunningFrame → List RunningFrame → State → PlaceNext
+place_for shell name words f fs s = place_words shell name words f fs (for_begun shell s)
 
 module _ (limits : Limits) where
   abbrev pub place_ask : Request → List RunningFrame → State → PlaceNext
@@ -323,7 +338,7 @@ module _ (limits : Limits) where
   place_command (tree.If arms) f fs s = place_arms limits.shell arms 0 f fs s
   place_command (tree.Loop until c b) f fs s = GoOn (block_frame c ∷ in_turn 1 0 f ∷ fs) s
   place_command (tree.For name words body) f fs s =
-      place_counted (λ t. place_fitting (turns_in limits.shell (parameters_in t.memory) words) (λ found. for_begins found f fs) t) s
+      place_counted (place_for limits.shell name words f fs) s
 
   -- a command that is skipped: the next one follows, or the next list
   abbrev pub place_skipped : RunningFrame → List RunningFrame → State → PlaceNext

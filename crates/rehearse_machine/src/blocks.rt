@@ -2,9 +2,9 @@
 ghost use Rattle.std.specs.Prelude.{◌∷◌, ◌+◌, ◌<◌, ◌^◌, map};
 ghost use Rattle.hushlang.specs.TreesShown as view;
 ghost use Rattle.rehearse_machine.specs.Places.{place_arms, drop_arms, condition_ends, loop_ends, block_frame, GoOn, in_turn};
-ghost use Rattle.rehearse_machine.specs.NextMoves.{Continues, ContinuesAt};
+ghost use Rattle.rehearse_machine.specs.NextMoves.{Continues, ContinuesAt, SkipsTo};
 
-use crate::by_shell::{status_of_loop, status_of_no_block};
+use crate::by_shell::{status_of_loop, status_of_no_block, status_of_skipped};
 use crate::frames::{behind, in_turn};
 use crate::next_move::Next;
 use bootstore_state::Frame;
@@ -37,6 +37,30 @@ pub(crate) fn begin_arms<'a>(
     }
 }
 
+/// The arms of an `if` from this one on follow a block that is not run, which leaves this status.
+fn skip_to_arm<'a>(
+    frame: &Frame,
+    shell: Shell,
+    skipped: u8,
+    arms: &'a [(Rc<Script>, Rc<Script>)],
+    other: &'a Option<Rc<Script>>,
+    arm: usize,
+) -> Next<'a>
+    requires { frame.now.place.command + 1 < 2 ^ 64 }
+    ensures { SkipsTo shell skipped result frame.now (λ limits. place_arms limits.shell
+        (drop_arms arm (view.arms (map view.arm arms.now) (view.script_in other.now))) arm
+        frame.now) }
+{
+    let at = frame.at();
+    if let Some((cond, _)) = arms.get(arm) {
+        return Next::Skips(in_turn(at, arm, 0), skipped, cond);
+    }
+    match other {
+        Some(body) => Next::Skips(behind(at), skipped, body),
+        None => Next::Finishes(behind(at), status_of_no_block(shell, skipped)),
+    }
+}
+
 /// Goes on after the condition of an arm: with its block if the status is 0, else with the arms
 /// after it.
 pub(crate) fn end_condition<'a>(
@@ -54,7 +78,10 @@ pub(crate) fn end_condition<'a>(
 {
     match arms.get(arm) {
         Some((_, body)) if status == 0 => Next::Enters(behind(frame.at()), body),
-        Some(_) => begin_arms(frame, shell, status, arms, other, arm + 1),
+        Some((_, body)) => {
+            let skipped = status_of_skipped(shell, body, status);
+            skip_to_arm(frame, shell, skipped, arms, other, arm + 1)
+        }
         None => Next::Goes(behind(frame.at())),
     }
 }

@@ -8,7 +8,7 @@ ghost use Rattle.rehearse_machine.specs.MovesShown.{Moves};
 
 use crate::ask::Step;
 use crate::by_shell::status_in_turn;
-use crate::frames::{block, enter, in_turn, leave};
+use crate::frames::{block, change_status, enter, in_turn, leave};
 use bootstore_state::{Frame, Store, StoreError};
 use hushlang::Script;
 use rehearse_terms::Shell;
@@ -20,12 +20,8 @@ fn begin_body<S: Store>(store: &mut S, shell: Shell) -> Result<(), StoreError>
         (with_status (status_in_turn shell (S.record_of store.old).present.status))
         (S.record_of store.old)) }
 {
-    let before = store.get_status();
-    let status = status_in_turn(shell, before);
-    if status == before {
-        return Ok(());
-    }
-    store.set_status(status)
+    let status = status_in_turn(shell, store.get_status());
+    change_status(store, status)
 }
 
 /// Goes on with a `for` whose variable has this name: with its body and the next field, or after it

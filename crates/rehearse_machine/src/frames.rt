@@ -1,7 +1,8 @@
 //! Places in scripts.
-ghost use Rattle.std.specs.Prelude.{◌≡◌, suc, ◌∷◌, ◌+◌, ◌<◌, ◌^◌};
+ghost use Rattle.std.specs.Prelude.{OnOk, ◌≡◌, suc, ◌∷◌, ◌+◌, ◌<◌, ◌^◌};
 ghost use Rattle.hushlang.specs.TreesShown as view;
 ghost use Rattle.bootstore_state.specs.Moment.{RunningFrame};
+ghost use Rattle.bootstore_state.specs.Record.{changed, with_status};
 ghost use Rattle.rehearse_rules.specs.Execution.{set_status};
 ghost use Rattle.rehearse_machine.specs.Places.{place, block_frame, text_frame, moved_to, GoOn};
 ghost use Rattle.rehearse_machine.specs.MovesShown.{Comes, Moves, under};
@@ -62,6 +63,17 @@ pub(crate) fn text(script: Rc<Script>) -> Frame
     Frame::new(FrameKind::Text, script, place(0, 0))
 }
 
+/// Sets the status, if it is another one.
+pub(crate) fn change_status<S: Store>(store: &mut S, status: u8) -> Result<(), StoreError>
+    ensures { OnOk result (S.record_of store.new
+        ≡ changed (with_status status) (S.record_of store.old)) }
+{
+    if status == store.get_status() {
+        return Ok(());
+    }
+    store.set_status(status)
+}
+
 /// Moves the innermost frame to a place, and pushes a frame on it.
 pub(crate) fn enter<'d, S: Store>(
     store: &mut S,
@@ -74,6 +86,20 @@ pub(crate) fn enter<'d, S: Store>(
     store.advance(at)?;
     store.push(child)?;
     Ok(Step::Going)
+}
+
+/// Moves the innermost frame to a place, sets the status, and pushes a frame on it.
+pub(crate) fn skip<'d, S: Store>(
+    store: &mut S,
+    at: At,
+    status: u8,
+    child: Frame,
+) -> Result<Step<'d>, StoreError>
+    ensures { (f : RunningFrame) → Moves f result (S.record_of store.old) (S.record_of store.new)
+        (λ fs s. GoOn (child ∷ moved_to at f ∷ fs) (set_status status s)) }
+{
+    change_status(store, status)?;
+    enter(store, at, child)
 }
 
 /// Moves the innermost frame to a place, and sets the status.

@@ -8,7 +8,7 @@ ghost use Rattle.rehearse_machine.specs.Turning.{IsSound, Turns, Drives};
 use crate::ask::Step;
 use crate::assigns::begin_assign;
 use crate::frame_moves::{move_for, move_run, next_of};
-use crate::frames::{behind, block, enter, finish, go_on, leave};
+use crate::frames::{behind, block, enter, finish, go_on, leave, skip};
 use crate::named::look_up;
 use crate::next_move::Next;
 use crate::simple::{begin_for, call};
@@ -40,6 +40,7 @@ fn proceed<'d, S: Store>(
         Next::Goes(at) => go_on(store, at),
         Next::Finishes(at, status) => finish(store, at, status),
         Next::Enters(at, script) => enter(store, at, block(script.clone()?)),
+        Next::Skips(at, status, script) => skip(store, at, status, block(script.clone()?)),
         Next::Calls(command) => {
             let after = behind(frame.at());
             let script = frame.script();
@@ -58,7 +59,7 @@ fn proceed<'d, S: Store>(
             )
         }
         Next::Assigns(values) => begin_assign(alloc, store, frame, bounds, values),
-        Next::Loops(words) => begin_for(alloc, store, fields, frame, bounds, words),
+        Next::Loops(name, words) => begin_for(alloc, store, fields, frame, bounds, name, words),
         Next::Turns => move_for(store, frame, bounds.shell()),
         Next::Names => move_run(store, frame, bounds.shell()),
     }
@@ -88,6 +89,10 @@ pub fn step<'d, S: Store>(
         Next::Enters(at, script) => {
             let child = block(script.clone()?);
             return enter(store, at, child);
+        }
+        Next::Skips(at, status, script) => {
+            let child = block(script.clone()?);
+            return skip(store, at, status, child);
         }
         Next::Calls(command) => {
             let after = behind(top.at());

@@ -33,7 +33,7 @@ pub(crate) fn look_up(command: &Call, devices: &Devices, shell: Shell, fields: &
 {
     let builtin = match shell {
         Shell::Profile => command.builtin_in(fields),
-        Shell::Old2023 | Shell::Old2025 => builtin_named(fields),
+        Shell::Old2023 | Shell::Old2025 | Shell::Modern2025 => builtin_named(fields),
     };
     let place = match (builtin, fields.first()) {
         (None, Some(name)) => near(command, devices, name),

@@ -61,9 +61,9 @@ pub(crate) fn begin_command<'c>(
             body: _,
         } => begin_loop(frame, cond, 0),
         Command::For {
-            name: _,
+            name,
             words,
             body: _,
-        } => Next::Loops(words),
+        } => Next::Loops(name, words),
     }
 }

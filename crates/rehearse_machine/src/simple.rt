@@ -1,10 +1,11 @@
 //! Simple commands.
-ghost use Rattle.std.specs.Prelude.{◌≡◌, ◌+◌, ◌<◌, ◌^◌, Bool, List, true, map, option_map};
+ghost use Rattle.std.specs.Prelude.{OnOk, ◌≡◌, ◌+◌, ◌<◌, ◌^◌, Bool, List, true, map, option_map};
 ghost use Rattle.builtins.specs.Builtins.{builtin_named, builtin_of};
 ghost use Rattle.builtins.specs.BuiltinsShown.{builtin_shown};
 ghost use Rattle.hushlang.specs.TreesShown as view;
 ghost use Rattle.hushlang.specs.Tree as tree;
-ghost use Rattle.rehearse_rules.specs.ByShell.{fields_in, leaves_in, reads_again, status_of_exit, turns_in};
+ghost use Rattle.rehearse_rules.specs.ByShell.{fields_in, leaves_in, reads_again, status_of_exit, status_of_for};
+ghost use Rattle.bootstore_state.specs.Record.{changed, with_status};
 ghost use Rattle.rehearse_terms.specs.State.{Text};
 ghost use Rattle.rehearse_rules.specs.Parameters.{parameters_in};
 ghost use Rattle.rehearse_rules.specs.Execution.{Limits, set_status, test_request};
@@ -12,7 +13,7 @@ ghost use Rattle.commands.specs.BuiltInCommands as says;
 ghost use Rattle.device_list.specs.Called as called;
 ghost use Rattle.text.specs.TextsShown.{bytes_of_words};
 ghost use Rattle.device_list.specs.DeviceList.{Devices as ListedDevices};
-ghost use Rattle.rehearse_machine.specs.Places.{place_ask, place_fields, place_called, place_exit, place_command, place_counted, place_fitting, for_begins, GoOn};
+ghost use Rattle.rehearse_machine.specs.Places.{place_ask, place_fields, place_called, place_exit, place_command, place_counted, for_begins, place_for, place_words, place_turns, GoOn};
 ghost use Rattle.rehearse_machine.specs.Places.{behind as goes_behind};
 ghost use Rattle.bootstore_state.specs.Moment.{RunningFrame};
 ghost use Rattle.rehearse_machine.specs.Variables.{parameters_at};
@@ -22,11 +23,11 @@ ghost use Rattle.rehearse_machine.specs.CalledShown.{builtin_called};
 use crate::ask::{Statuses, Step};
 use crate::built_in::{echo, setenv};
 use crate::by_shell::{
-    asks_in, follows, leaves_in, question_in, status_of_exit, status_of_nothing, statuses_in,
-    truth_in,
+    asks_in, follows, follows_turns, leaves_in, question_in, status_of_exit, status_of_for,
+    status_of_nothing, statuses_in, truth_in,
 };
 use crate::computed::carry_out;
-use crate::frames::{behind, enter, finish, place};
+use crate::frames::{behind, change_status, enter, finish, place};
 use crate::named::Named;
 use crate::outcomes::ask;
 use crate::run_and_exit::{begin_run, leave_text};
@@ -309,13 +310,14 @@ pub(crate) fn call<'d, S: Store>(
     run_fields(alloc, store, script, devices, bounds, named, fields)
 }
 
-/// Begins a step for a `for`, and expands its words. Without a field the status is 0.
+/// Begins a step for a `for`, and its turns with it. Without a field the status is 0.
 pub(crate) fn begin_for<'d, S: Store>(
     alloc: Global,
     store: &mut S,
     fields: &mut Fields,
     frame: &Frame,
     bounds: RunBounds,
+    name: &[u8],
     words: &[Word],
 ) -> Result<Step<'d>, StoreError>
     requires command { frame.now.place.command + 1 < 2 ^ 64 }
@@ -323,22 +325,69 @@ pub(crate) fn begin_for<'d, S: Store>(
     ensures { (devices : ListedDevices) → Moves frame.now result (S.record_of store.old)
         (S.record_of store.new)
         (λ fs. place_counted (limits_of devices bounds)
-        (λ t. place_fitting (turns_in bounds.shell (parameters_in t.memory)
-        (map view.word words.now)) (λ found. for_begins found frame.now fs) t)) }
+        (place_for bounds.shell name.now (map view.word words.now) frame.now fs)) }
 {
     let counted = count(store, bounds)?;
     if !counted {
         return Ok(Step::Ends(Halt::CutSteps));
     }
-    let fit = turned(alloc, fields, store, bounds.shell(), words)?;
+    let shell = bounds.shell();
+    begin_status(store, shell)?;
+    begin_words(alloc, store, fields, frame, shell, name, words)
+}
+
+/// Sets the status with which a `for` begins.
+fn begin_status<S: Store>(store: &mut S, shell: Shell) -> Result<(), StoreError>
+    ensures { OnOk result (S.record_of store.new ≡ changed
+        (with_status (status_of_for shell (S.record_of store.old).present.status))
+        (S.record_of store.old)) }
+{
+    let status = status_of_for(shell, store.get_status());
+    change_status(store, status)
+}
+
+/// Expands the words of a `for`, and starts its turns.
+fn begin_words<'d, S: Store>(
+    alloc: Global,
+    store: &mut S,
+    fields: &mut Fields,
+    frame: &Frame,
+    shell: Shell,
+    name: &[u8],
+    words: &[Word],
+) -> Result<Step<'d>, StoreError>
+    requires { frame.now.place.command + 1 < 2 ^ 64 }
+    ensures { Moves frame.now result (S.record_of store.old) (S.record_of store.new)
+        (place_words shell name.now (map view.word words.now) frame.now) }
+{
+    let fit = turned(alloc, fields, store, shell, words)?;
     if !fit {
         return Ok(Step::Ends(Halt::Size));
     }
-    begin_turns(alloc, store, frame, fields.as_slice())
+    begin_turns(alloc, store, frame, shell, name, fields.as_slice())
+}
+
+/// Starts the turns of a `for` with these fields, if the shell's turns are followed; else the run ends.
+fn begin_turns<'d, S: Store>(
+    alloc: Global,
+    store: &mut S,
+    frame: &Frame,
+    shell: Shell,
+    name: &[u8],
+    fields: &[Vec<u8>],
+) -> Result<Step<'d>, StoreError>
+    requires { frame.now.place.command + 1 < 2 ^ 64 }
+    ensures { Moves frame.now result (S.record_of store.old) (S.record_of store.new)
+        (place_turns shell name.now (bytes_of_words fields.now) frame.now) }
+{
+    if !follows_turns(shell, name, fields) {
+        return Ok(Step::Ends(Halt::Unsupported(Vec::from_slice(alloc, name)?)));
+    }
+    start_turns(alloc, store, frame, fields)
 }
 
 /// Starts the turns of a `for` with these fields.
-fn begin_turns<'d, S: Store>(
+fn start_turns<'d, S: Store>(
     alloc: Global,
     store: &mut S,
     frame: &Frame,

@@ -10,6 +10,7 @@ ghost use Rattle.rehearse_machine.specs.MovesShown.{IsExpanded, IsExpandedOne, I
 use crate::memory::Memory;
 use bootstore_state::{Store, StoreError};
 use hushlang::{ExpandError, Fields, Word, expand_one};
+use hushlang_modern::modern_fields;
 use hushlang_old::{inserted, old_fields, old_turns};
 use rehearse_terms::{RunBounds, Shell};
 use std::alloc::Global;
@@ -72,6 +73,10 @@ pub fn expanded<S: Store>(
             let found = old_fields(alloc, words, &Memory { store })?;
             Ok(replaced(fields, found))
         }
+        Shell::Modern2025 => {
+            let found = modern_fields(alloc, words, &Memory { store })?;
+            Ok(replaced(fields, found))
+        }
     }
 }
 
@@ -92,6 +97,10 @@ pub(crate) fn turned<S: Store>(
         Shell::Profile => filled(fields, store, words),
         Shell::Old2023 | Shell::Old2025 => {
             let found = old_turns(alloc, words, &Memory { store })?;
+            Ok(replaced(fields, found))
+        }
+        Shell::Modern2025 => {
+            let found = modern_fields(alloc, words, &Memory { store })?;
             Ok(replaced(fields, found))
         }
     }
@@ -149,7 +158,7 @@ pub fn assigned_value<S: Store>(
         (view.word word.now))) }
 {
     match shell {
-        Shell::Profile => expanded_one(alloc, store, word),
+        Shell::Profile | Shell::Modern2025 => expanded_one(alloc, store, word),
         Shell::Old2023 | Shell::Old2025 => {
             let value = inserted(alloc, word, &Memory { store })?;
             Ok(within(value))

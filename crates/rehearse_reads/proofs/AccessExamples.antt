@@ -5,7 +5,7 @@ use Rattle.hushlang.specs.Expansion.{fields, joined, atoms}
 use Rattle.hushlang.specs.Trees.{tree_of}
 use Rattle.hushlang_old.specs.OldTrees.{lacks_end, old_tree_of}
 use Rattle.hushlang_old.specs.OldFields.{old_fields, old_turns, inserted, word_text, command_text, read, reread}
-use Rattle.hushlang_old.specs.TreesByShell.{tree_in}
+use Rattle.hushlang_shells.specs.TreesByShell.{tree_in}
 use Rattle.device_list.specs.DeviceList.{Variable, Literal, Devices, only}
 use Rattle.device_list.specs.DeviceLaws.{quiet}
 use Rattle.rehearse_terms.specs.Outcomes.{OutcomeWord, Success, Failure}

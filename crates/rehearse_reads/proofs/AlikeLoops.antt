@@ -1,16 +1,17 @@
 -- Assignments and loops go alike.
 use Rattle.std.proofs.Common.{◌≡◌, refl, sym, ap, subst, ℕ, zero, suc, Bool, true, false, List, [], ◌∷◌, ◌++◌, length, nat_le}
 use Rattle.hushlang.specs.Tree as tree
+use Rattle.hushlang.specs.Tree.{Script}
 use Rattle.hushlang.specs.Expansion.{most_bytes}
 use Rattle.rehearse_terms.specs.State.{Text, State, LoggedCommand}
 use Rattle.rehearse_terms.specs.declared.shell.Shell.{Shell}
-use Rattle.rehearse_terms.specs.declared.shell.Shell.TheVariants.{Profile, Old2023, Old2025}
+use Rattle.rehearse_terms.specs.declared.shell.Shell.TheVariants.{Profile, Old2023, Old2025, Modern2025}
 use Rattle.rehearse_rules.specs.Parameters.{parameters_in}
-use Rattle.rehearse_rules.specs.ByShell.{assigned_in, status_of_nothing, status_of_no_block, status_of_loop}
-use Rattle.rehearse_rules.specs.Execution.{Limits, Answer, Normal, Ended, CutSteps, Size, go_on, set_status, set_local, assign, assign_local, turns, begin_turn, for_each, holds}
+use Rattle.rehearse_rules.specs.ByShell.{assigned_in, status_of_nothing, status_of_no_block, status_of_loop, follows_turns, status_of_skipped}
+use Rattle.rehearse_rules.specs.Execution.{Limits, Answer, Normal, Ended, CutSteps, Size, go_on, set_status, set_local, assign, assign_local, turns, begin_turn, for_each, holds, turns_of, for_begun, block_skipped, Unsupported}
 use Rattle.rehearse_rules.proofs.TakenOutcomes.{KeepsAll, Keeps-turns, Keeps-for, after_condition, Keeps-after_condition}
 use Rattle.rehearse_reads.specs.Keys.{Key, Status, Local, Access, Reads, ReadsWithin, known_after}
-use Rattle.rehearse_reads.specs.Accesses.{behind, status_written, word_reads, local_accesses, assign_accesses, turns_accesses, turn_accesses, each_accesses, for_accesses, nothing_accesses}
+use Rattle.rehearse_reads.specs.Accesses.{behind, status_written, word_reads, local_accesses, assign_accesses, turns_accesses, turn_accesses, each_accesses, for_accesses, nothing_accesses, modern_accesses, turns_of_accesses}
 use Rattle.rehearse_reads.specs.Alike.{AreAbreast, IsAlike}
 use Rattle.rehearse_reads.proofs.AccessLemmas.{within_then, read_first, read_then}
 use Rattle.rehearse_reads.proofs.AbreastLemmas.{near_status, near_statuses, near_local, near_assigned}
@@ -55,16 +56,32 @@ module _ (limits : Limits) (i j : ℕ) (k l : List LoggedCommand) where
   nothing_alike Profile known s t near = normal_alike limits i j k l (Status ∷ known) (set_status 0 s) (set_status 0 t) (near_status limits i j k l known s t 0 near)
   nothing_alike Old2023 known s t near = normal_alike limits i j k l known s t near
   nothing_alike Old2025 known s t near = normal_alike limits i j k l known s t near
+  nothing_alike Modern2025 known s t near = normal_alike limits i j k l known s t near
 
   pub no_block_alike : (shell : Shell) (known : List Key) (s t : State) → Near known s t → Is (known_after known (nothing_accesses shell)) (Normal (set_status (status_of_no_block shell s.memory.status) s)) (Normal (set_status (status_of_no_block shell t.memory.status) t))
   no_block_alike Profile known s t near = normal_alike limits i j k l (Status ∷ known) (set_status 0 s) (set_status 0 t) (near_status limits i j k l known s t 0 near)
   no_block_alike Old2023 known s t near = normal_alike limits i j k l known s t near
   no_block_alike Old2025 known s t near = normal_alike limits i j k l known s t near
+  no_block_alike Modern2025 known s t near = normal_alike limits i j k l known s t near
 
   pub near_turn : (shell : Shell) (known : List Key) (s t : State) (name value : Text) → Near known s t → Near (known_after known (turn_accesses shell name)) (begin_turn shell name value s) (begin_turn shell name value t)
   near_turn Profile known s t name value near = near_local limits i j k l known s t name value near
   near_turn Old2023 known s t name value near = near_status limits i j k l (Local name ∷ known) (set_local name value s) (set_local name value t) 0 (near_local limits i j k l known s t name value near)
   near_turn Old2025 known s t name value near = near_status limits i j k l (Local name ∷ known) (set_local name value s) (set_local name value t) 0 (near_local limits i j k l known s t name value near)
+  near_turn Modern2025 known s t name value near = near_local limits i j k l known s t name value near
+
+  pub near_for : (shell : Shell) (known : List Key) (s t : State) → Near known s t → Near (known_after known (modern_accesses shell)) (for_begun shell s) (for_begun shell t)
+  near_for Profile known s t near = near
+  near_for Old2023 known s t near = near
+  near_for Old2025 known s t near = near
+  near_for Modern2025 known s t near = near_status limits i j k l known s t 0 near
+
+  pub near_skipped : (shell : Shell) (block : Script) (known : List Key) (s t : State) → t.memory.status ≡ s.memory.status → Near known s t → Near (known_after known (modern_accesses shell)) (block_skipped shell block s) (block_skipped shell block t)
+  near_skipped Profile block known s t e near = near
+  near_skipped Old2023 block known s t e near = near
+  near_skipped Old2025 block known s t e near = near
+  near_skipped Modern2025 block known s t e near =
+      near_statuses limits i j k l known s t (status_of_skipped Modern2025 block s.memory.status) (status_of_skipped Modern2025 block t.memory.status) (ap (λ (n : ℕ). status_of_skipped Modern2025 block n) e) near
 
   -- ---- loops
 
@@ -107,3 +124,21 @@ module _ (limits : Limits) (i j : ℕ) (k l : List LoggedCommand) where
   pub Alike-for : (name : Text) (b : State → Answer) (v : State → List Access) → AlwaysDoes b v → KeepsAll limits b → (fs : List Text) → AlwaysDoes (for_each limits.shell name b 0 fs) (for_accesses limits.shell name b v fs)
   Alike-for name b v h kb [] known s t near w = normal_alike limits i j k l (Status ∷ known) (set_status 0 s) (set_status 0 t) (near_status limits i j k l known s t 0 near)
   Alike-for name b v h kb (f ∷ fs) known s t near w = Alike-each name b v h kb (f ∷ fs) known s t near w
+
+  pub Alike-turns_of : (name : Text) (b : State → Answer) (v : State → List Access) → AlwaysDoes b v → KeepsAll limits b → (fs : List Text) → AlwaysDoes (turns_of limits.shell name b fs) (turns_of_accesses limits.shell name b v fs)
+  Alike-turns_of name b v h kb fs = by (follows_turns limits.shell name fs)
+    where
+      by : (follows : Bool) → AlwaysDoes (λ s. elim follows [ true ↦ for_each limits.shell name b 0 fs s | false ↦ Ended (Unsupported name) s ]) (λ s. elim follows [ true ↦ for_accesses limits.shell name b v fs s | false ↦ [] ])
+      by true known s t near w = Alike-for name b v h kb fs known s t near w
+      by false known s t near w = ended_alike limits i j k l known (Unsupported name) s t near
+
+  -- what follows a block of an `if` that is not run
+  pub Alike-skip : (b : Script) (f : State → Answer) (u : State → List Access) → AlwaysDoes f u → (known : List Key) (s t : State) → t.memory.status ≡ s.memory.status → Near known s t
+      → ReadsWithin known (modern_accesses limits.shell ++ u (block_skipped limits.shell b s))
+      → Is (known_after known (modern_accesses limits.shell ++ u (block_skipped limits.shell b s))) (f (block_skipped limits.shell b s)) (f (block_skipped limits.shell b t))
+  Alike-skip b f u does known s t e near w =
+      let first : List Access = modern_accesses limits.shell in
+      let s' : State = block_skipped limits.shell b s in
+      let t' : State = block_skipped limits.shell b t in
+      after_then limits i j k l known first (u s') (f s') (f t')
+      (does (known_after known first) s' t' (near_skipped limits.shell b known s t e near) (within_then known first (u s') w))

@@ -2,7 +2,7 @@
 use Rattle.std.proofs.Common.{◌≡◌, sym, ap, subst, ℕ, zero, suc, Bool, true, false, List, [], ◌∷◌, ◌++◌, Option, Some, None, nat_eq}
 use Rattle.hushlang.specs.Tree as tree
 use Rattle.hushlang.specs.Tree.{Script, AndOr, Joined, Command, Arms}
-use Rattle.hushlang_old.specs.TreesByShell.{tree_in, lacks_end_in}
+use Rattle.hushlang_shells.specs.TreesByShell.{tree_in, lacks_end_in}
 use Rattle.builtins.specs.Builtins.{Builtin, SetEnv, Run, Test, Echo, True, False, Leave, builtin_of}
 use Rattle.commands.specs.Computed.{Computed}
 use Rattle.commands.specs.BuiltInCommands.{ChangesVariables, carried, deed_of, setenv, echo, variables_changed, text_written}
@@ -11,17 +11,17 @@ use Rattle.device_list.specs.DeviceList.{Effect, effect_of, computed_by}
 use Rattle.rehearse_terms.specs.State.{Text, State, LoggedCommand, get}
 use Rattle.rehearse_rules.specs.Parameters.{parameters_in}
 use Rattle.rehearse_rules.specs.ByShell.{unread, reads_again, leaves_in, status_of_exit, asks_in, truth_in, fields_in, turns_in, skips_rest, follows}
-use Rattle.rehearse_rules.specs.Execution.{Limits, Answer, Normal, Exit, Ended, Ending, CutSteps, Unknown, Unsupported, go_on, set_status, status_when, remember, goes, device, test_request, text_end, run_text, started_text, run_all, command, simple, sized, assign, for_each, exec_script, exec_list, exec_joined, exec_command, exec_arms, exec}
-use Rattle.rehearse_rules.proofs.TakenOutcomes.{KeepsAll, Keeps-if, Keeps-run, Keeps-simple, Keeps-sized, Keeps-assign, Keeps-for, Keeps-script, Keeps-joined, Keeps-arms, Keeps-exec, Keeps-ended}
+use Rattle.rehearse_rules.specs.Execution.{Limits, Answer, Normal, Exit, Ended, Ending, CutSteps, Unknown, Unsupported, go_on, set_status, status_when, remember, goes, device, test_request, text_end, run_text, started_text, run_all, command, simple, sized, assign, exec_script, exec_list, exec_joined, exec_command, exec_arms, exec, turns_of, for_words, for_begun, block_skipped}
+use Rattle.rehearse_rules.proofs.TakenOutcomes.{KeepsAll, Keeps-if, Keeps-run, Keeps-simple, Keeps-sized, Keeps-assign, Keeps-script, Keeps-joined, Keeps-arms, Keeps-exec, Keeps-ended, Keeps-words, Keeps-skip}
 use Rattle.rehearse_reads.specs.Keys.{Key, Environment, Status, Access, Reads, AreAmong, AgreeOn, all_read, ReadsWithin, known_after}
 use Rattle.rehearse_reads.specs.Alike.{AreAbreast, IsAlike}
-use Rattle.rehearse_reads.specs.Accesses.{behind, behind_text, status_written, words_reads, device_accesses, listed_accesses, computed_accesses, setenv_accesses, tree_accesses, text_accesses, started_accesses, run_accesses, builtin_accesses, call_accesses, simple_accesses, sized_accesses, assign_accesses, for_accesses, script_accesses, list_accesses, joined_accesses, command_accesses, arms_accesses, accesses}
-use Rattle.rehearse_reads.proofs.AccessLemmas.{read_first, read_then}
+use Rattle.rehearse_reads.specs.Accesses.{behind, behind_text, status_written, words_reads, device_accesses, listed_accesses, computed_accesses, setenv_accesses, tree_accesses, text_accesses, started_accesses, run_accesses, builtin_accesses, call_accesses, simple_accesses, sized_accesses, assign_accesses, script_accesses, list_accesses, joined_accesses, command_accesses, arms_accesses, accesses, modern_accesses, turns_of_accesses, for_words_accesses}
+use Rattle.rehearse_reads.proofs.AccessLemmas.{read_first, read_then, within_then}
 use Rattle.rehearse_reads.proofs.AbreastLemmas.{near_status, near_computed, near_sets, near_echoed}
 use Rattle.rehearse_reads.proofs.SameWords.{fields_agree, turns_agree}
-use Rattle.rehearse_reads.proofs.AlikeParts.{normal_alike, exit_alike, ended_alike, if_alike, after_keys, Alike-go_on, Alike-text_end, sized_alike}
+use Rattle.rehearse_reads.proofs.AlikeParts.{normal_alike, exit_alike, ended_alike, if_alike, after_keys, Alike-go_on, Alike-text_end, sized_alike, after_then}
 use Rattle.rehearse_reads.proofs.AlikeDevices.{Alike-begin, Alike-device, Alike-listed}
-use Rattle.rehearse_reads.proofs.AlikeLoops.{Alike-assign, nothing_alike, no_block_alike, Alike-turns, Alike-for}
+use Rattle.rehearse_reads.proofs.AlikeLoops.{Alike-skip, Alike-assign, nothing_alike, no_block_alike, Alike-turns, Alike-turns_of, near_for}
 
 module _ (limits : Limits) (i j : ℕ) (k l : List LoggedCommand) where
   abbrev Is : List Key → Answer → Answer → Type 0
@@ -129,6 +129,16 @@ module _ (limits : Limits) (i j : ℕ) (k l : List LoggedCommand) where
       → AlwaysDoes (λ t. sized (turns_in limits.shell (parameters_in t.memory) words) f t) (λ t. all_read (words_reads t.memory words) ++ sized_accesses (turns_in limits.shell (parameters_in t.memory) words) u t)
   turned_alike words f u h = expanded_alike (λ t. turns_in limits.shell (parameters_in t.memory) words) words (λ known s t agree w. turns_agree known s t agree limits.shell words w) f u h
 
+  for_alike : (name : Text) (words : List tree.Word) (b : State → Answer) (v : State → List Access) → AlwaysDoes b v → KeepsAll limits b
+      → AlwaysDoes (λ t. for_words limits.shell name words b (for_begun limits.shell t)) (λ t. modern_accesses limits.shell ++ for_words_accesses limits.shell name words b v (for_begun limits.shell t))
+  for_alike name words b v h kb known s t near w =
+      let first : List Access = modern_accesses limits.shell in
+      let s' : State = for_begun limits.shell s in
+      let t' : State = for_begun limits.shell t in
+      let rest : List Access = for_words_accesses limits.shell name words b v s' in
+      after_then limits i j k l known first rest (for_words limits.shell name words b s') (for_words limits.shell name words b t')
+      (turned_alike words (turns_of limits.shell name b) (turns_of_accesses limits.shell name b v) (Alike-turns_of limits i j k l name b v h kb) (known_after known first) s' t' (near_for limits i j k l limits.shell known s t near) (within_then known first rest w))
+
   -- ---- the tree
 
   module _ (left : ℕ) (text : Script → State → Answer) (of_text : Script → State → List Access) (kept : (a : Script) → KeepsAll limits (text a)) (does : (a : Script) → AlwaysDoes (text a) (of_text a)) where
@@ -170,24 +180,24 @@ module _ (limits : Limits) (i j : ℕ) (k l : List LoggedCommand) where
       Alike-one (tree.For name words b) known s t near w =
           let body : State → Answer = exec_script limits left text b in
           let of_body : State → List Access = script_accesses limits left text of_text b in
-          Alike-begin limits i j k l (λ x. sized (turns_in limits.shell (parameters_in x.memory) words) (for_each limits.shell name body 0) x)
-          (λ x. all_read (words_reads x.memory words) ++ sized_accesses (turns_in limits.shell (parameters_in x.memory) words) (for_accesses limits.shell name body of_body) x)
-          (turned_alike words (for_each limits.shell name body 0) (for_accesses limits.shell name body of_body) (λ fs. Alike-for limits i j k l name body of_body (Alike-script b) (Keeps-script limits left text kept b) fs))
-          (λ x. Keeps-sized limits (turns_in limits.shell (parameters_in x.memory) words) (for_each limits.shell name body 0) (λ fs. Keeps-for limits name body (Keeps-script limits left text kept b) 0 fs) x)
+          Alike-begin limits i j k l (λ x. for_words limits.shell name words body (for_begun limits.shell x))
+          (λ x. modern_accesses limits.shell ++ for_words_accesses limits.shell name words body of_body (for_begun limits.shell x))
+          (for_alike name words body of_body (Alike-script b) (Keeps-script limits left text kept b))
+          (Keeps-words limits name words body (Keeps-script limits left text kept b))
           known s t near w
 
       pub Alike-arms : (a : Arms) → AlwaysDoes (exec_arms limits left text a) (arms_accesses limits left text of_text a)
       Alike-arms tree.NoElse known s t near w = no_block_alike limits i j k l limits.shell known s t near
       Alike-arms (tree.Else b) known s t near w = Alike-script b known s t near w
       Alike-arms (tree.Arm c b arms) known s t near w =
-          Alike-go_on limits i j k l known s t (exec_script limits left text c) (λ x. elim (nat_eq x.memory.status 0) [ true ↦ exec_script limits left text b x | false ↦ exec_arms limits left text arms x ])
-          (script_accesses limits left text of_text c) (λ x. Reads Status ∷ elim (nat_eq x.memory.status 0) [ true ↦ script_accesses limits left text of_text b x | false ↦ arms_accesses limits left text of_text arms x ])
+          Alike-go_on limits i j k l known s t (exec_script limits left text c) (λ x. elim (nat_eq x.memory.status 0) [ true ↦ exec_script limits left text b x | false ↦ exec_arms limits left text arms (block_skipped limits.shell b x) ])
+          (script_accesses limits left text of_text c) (λ x. Reads Status ∷ elim (nat_eq x.memory.status 0) [ true ↦ script_accesses limits left text of_text b x | false ↦ modern_accesses limits.shell ++ arms_accesses limits left text of_text arms (block_skipped limits.shell b x) ])
           (Alike-script c known s t)
           (λ ks x y close m. if_alike limits i j k l ks (nat_eq x.memory.status 0) (nat_eq y.memory.status 0) (ap (λ (n : ℕ). nat_eq n 0) (close.keys Status m.0))
-          (exec_script limits left text b x) (exec_arms limits left text arms x) (exec_script limits left text b y) (exec_arms limits left text arms y)
-          (script_accesses limits left text of_text b x) (arms_accesses limits left text of_text arms x)
-          (Alike-script b ks x y close) (Alike-arms arms ks x y close) m.1)
-          (λ x. Keeps-if limits.device_bound x (nat_eq x.memory.status 0) (exec_script limits left text b) (exec_arms limits left text arms) (Keeps-script limits left text kept b x) (Keeps-arms limits left text kept arms x))
+          (exec_script limits left text b x) (exec_arms limits left text arms (block_skipped limits.shell b x)) (exec_script limits left text b y) (exec_arms limits left text arms (block_skipped limits.shell b y))
+          (script_accesses limits left text of_text b x) (modern_accesses limits.shell ++ arms_accesses limits left text of_text arms (block_skipped limits.shell b x))
+          (Alike-script b ks x y close) (Alike-skip limits i j k l b (exec_arms limits left text arms) (arms_accesses limits left text of_text arms) (Alike-arms arms) ks x y (close.keys Status m.0) close) m.1)
+          (λ x. Keeps-if limits.device_bound x (nat_eq x.memory.status 0) (exec_script limits left text b) (λ y. exec_arms limits left text arms (block_skipped limits.shell b y)) (Keeps-script limits left text kept b x) (Keeps-skip limits b (exec_arms limits left text arms) (Keeps-arms limits left text kept arms) x))
           near w
 
   -- a script goes alike, whatever steps are left

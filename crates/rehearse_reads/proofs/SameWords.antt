@@ -9,9 +9,11 @@ use Rattle.hushlang.specs.Expansion.{Parameters, Kept, split_atom, atoms_of_piec
 use Rattle.hushlang.specs.KnownFields.{is_constant_word, are_constant}
 use Rattle.hushlang_old.specs.OldFields.{newline_to_space, inserted, has_quotes, word_text, words_text, with_end, command_text, reread, old_fields, turns_of_word, old_turns}
 use Rattle.hushlang_old.specs.OldFields as old
+use Rattle.hushlang_modern.specs.ModernWords.{without_guards}
+use Rattle.hushlang_modern.specs.ModernFields.{Expanding, nothing_expanded, with_bytes, piece_begun, guarded_all, with_value, with_piece, with_pieces, all_fields, expanded, modern_fields_of_word, modern_fields}
 use Rattle.rehearse_terms.specs.State.{Text, State, get, value_in}
 use Rattle.rehearse_terms.specs.declared.shell.Shell.{Shell}
-use Rattle.rehearse_terms.specs.declared.shell.Shell.TheVariants.{Profile, Old2023, Old2025}
+use Rattle.rehearse_terms.specs.declared.shell.Shell.TheVariants.{Profile, Old2023, Old2025, Modern2025}
 use Rattle.rehearse_rules.specs.Parameters.{parameters_in}
 use Rattle.rehearse_rules.specs.ByShell.{fields_in, assigned_in, turns_in}
 use Rattle.rehearse_reads.specs.Keys.{Key, Environment, Local, Status, AreAmong, AgreeOn}
@@ -91,19 +93,48 @@ module _ (known : List Key) (s t : State) (agree : AgreeOn known s t) where
   unfolding old_turns
   same_old_turns words h = same_each (turns_of_word there) (turns_of_word here) (λ word k. ap old.turns_in (same_inserted word k)) words h
 
+  same_expanding : (piece : Piece) (e : Expanding) → AreAmong (piece_reads s.memory piece) known → with_piece there piece e ≡ with_piece here piece e
+  same_expanding (tree.Bytes bytes) e h = refl
+  same_expanding tree.Mark e h = refl
+  same_expanding (tree.Var name true) e h = ap (λ (o : Option Text). with_value (unwrap_or o []) (piece_begun e)) (same_value name h)
+  same_expanding (tree.Var name false) e h = ap (λ (o : Option Text). with_bytes (guarded_all (unwrap_or o [])) (piece_begun e)) (same_value name h)
+  same_expanding tree.Status e h = ap (λ (n : ℕ). with_bytes (decimal n) (piece_begun e)) (agree Status h.0)
+
+  same_word_expanding : (word : Word) (e : Expanding) → AreAmong (word_reads s.memory word) known → with_pieces there word e ≡ with_pieces here word e
+  same_word_expanding [] e h = refl
+  same_word_expanding (piece ∷ word) e h =
+      ap (λ (f : Expanding). with_pieces there word f) (same_expanding piece e (among_first known (piece_reads s.memory piece) (word_reads s.memory word) h))
+      ∙ same_word_expanding word (with_piece here piece e) (among_then known (piece_reads s.memory piece) (word_reads s.memory word) h)
+
+  same_expanded : (word : Word) → AreAmong (word_reads s.memory word) known → expanded there word ≡ expanded here word
+  unfolding expanded
+  same_expanded word h = ap (λ (e : Expanding). map without_guards (all_fields e)) (same_word_expanding word nothing_expanded h)
+
+  same_modern_word : (word : Word) → AreAmong (word_reads s.memory word) known → modern_fields_of_word there word ≡ modern_fields_of_word here word
+  same_modern_word word h =
+      ap (λ (a : List Text). if is_constant_word word then a else expanded there word) (ap (λ a. map kept_bytes (filter is_field (cut a))) (same_atoms word h))
+      ∙ ap (λ (a : List Text). if is_constant_word word then fields_of_word here word else a) (same_expanded word h)
+
+  same_modern_fields : (words : List Word) → AreAmong (words_reads s.memory words) known → modern_fields there words ≡ modern_fields here words
+  unfolding modern_fields
+  same_modern_fields words h = same_each (modern_fields_of_word there) (modern_fields_of_word here) same_modern_word words h
+
   -- ---- in each shell
 
   pub fields_agree : (shell : Shell) (words : List Word) → AreAmong (words_reads s.memory words) known → fields_in shell there words ≡ fields_in shell here words
   fields_agree Profile words h = same_fields words h
   fields_agree Old2023 words h = same_old_fields words h
   fields_agree Old2025 words h = same_old_fields words h
+  fields_agree Modern2025 words h = same_modern_fields words h
 
   pub turns_agree : (shell : Shell) (words : List Word) → AreAmong (words_reads s.memory words) known → turns_in shell there words ≡ turns_in shell here words
   turns_agree Profile words h = same_fields words h
   turns_agree Old2023 words h = same_old_turns words h
   turns_agree Old2025 words h = same_old_turns words h
+  turns_agree Modern2025 words h = same_modern_fields words h
 
   pub assigned_agree : (shell : Shell) (word : Word) → AreAmong (word_reads s.memory word) known → assigned_in shell there word ≡ assigned_in shell here word
   assigned_agree Profile word h = same_joined word h
   assigned_agree Old2023 word h = same_inserted word h
   assigned_agree Old2025 word h = same_inserted word h
+  assigned_agree Modern2025 word h = same_joined word h

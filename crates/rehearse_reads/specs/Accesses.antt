@@ -6,7 +6,7 @@ use Rattle.std.specs.List.{flat_map}
 use Rattle.hushlang.specs.Tree as tree
 use Rattle.hushlang.specs.Tree.{Script, AndOr, Joined, Command, Arms}
 use Rattle.hushlang.specs.Expansion.{size, most_bytes}
-use Rattle.hushlang_old.specs.TreesByShell.{tree_in, lacks_end_in}
+use Rattle.hushlang_shells.specs.TreesByShell.{tree_in, lacks_end_in}
 use Rattle.builtins.specs.Builtins.{Builtin, SetEnv, Run, Test, Echo, True, False, Leave, builtin_of}
 use Rattle.commands.specs.Computed.{Computed, Gives, Exists, Sets, Deletes, SetsNumber}
 use Rattle.commands.specs.VariableNames.{is_bad_name}
@@ -15,11 +15,11 @@ use Rattle.device_list.specs.DeviceList.{Effect, effect_of, computed_by}
 use Rattle.rehearse_terms.specs.Outcomes.{Outcome, Success, Failure, OutcomeWord}
 use Rattle.rehearse_terms.specs.State.{Text, get, Memory, State}
 use Rattle.rehearse_terms.specs.declared.shell.Shell.{Shell}
-use Rattle.rehearse_terms.specs.declared.shell.Shell.TheVariants.{Profile, Old2023, Old2025}
+use Rattle.rehearse_terms.specs.declared.shell.Shell.TheVariants.{Profile, Old2023, Old2025, Modern2025}
 use Rattle.rehearse_rules.specs.Parameters.{parameters_in}
-use Rattle.rehearse_rules.specs.ByShell.{asks_in, fields_in, turns_in, skips_rest, follows, assigned_in, is_refused}
+use Rattle.rehearse_rules.specs.ByShell.{asks_in, fields_in, turns_in, skips_rest, follows, assigned_in, is_refused, follows_turns}
 use Rattle.rehearse_rules.specs.Needs.{effect_now}
-use Rattle.rehearse_rules.specs.Execution.{Limits, Answer, Normal, Exit, Ended, Dry, CutSteps, Request, set_status, goes, holds, outcome_when, told, assign_local, begin_turn, request_of, test_request, started_text, run_text, exec_script, exec_list, exec_command, exec}
+use Rattle.rehearse_rules.specs.Execution.{Limits, Answer, Normal, Exit, Ended, Dry, CutSteps, Request, set_status, goes, holds, outcome_when, told, assign_local, begin_turn, request_of, test_request, started_text, run_text, exec_script, exec_list, exec_command, exec, for_begun, block_skipped}
 use Rattle.rehearse_reads.specs.Keys.{Key, Environment, Local, AnswerTo, Succeeded, Status, Access, Reads, Writes, all_read}
 
 -- what the next part of a script accesses, if this one has ended normally
@@ -136,11 +136,12 @@ turns_accesses shell (suc left) until cond body of_cond of_body s =
       | false ↦ status_written
     ])
 
--- the variable of a `for` is assigned, in U-Boot's shells as by a command
+-- the variable of a `for` is assigned, in U-Boot's old shell as by a command
 abbrev pub turn_accesses : Shell → (name : Text) → List Access
 turn_accesses Profile name = Writes (Local name) ∷ []
 turn_accesses Old2023 name = Writes (Local name) ∷ status_written
 turn_accesses Old2025 name = Writes (Local name) ∷ status_written
+turn_accesses Modern2025 name = Writes (Local name) ∷ []
 
 -- the body once for each field. The status of the last body is that of the `for`
 abbrev pub each_accesses : Shell → (name : Text) → (body : State → Answer) → (of_body : State → List Access) →
@@ -157,6 +158,26 @@ abbrev pub for_accesses : Shell → (name : Text) → (body : State → Answer) 
 for_accesses shell name body of_body [] s = status_written
 for_accesses shell name body of_body (f ∷ fs) s = each_accesses shell name body of_body (f ∷ fs) s
 
+-- in U-Boot's modern shell a `for` that begins sets the status, and so may a block of an `if` that is not run
+abbrev pub modern_accesses : Shell → List Access
+modern_accesses Profile = []
+modern_accesses Old2023 = []
+modern_accesses Old2025 = []
+modern_accesses Modern2025 = status_written
+
+-- the turns of a `for`, if they are followed
+abbrev pub turns_of_accesses : Shell → (name : Text) → (body : State → Answer) → (of_body : State → List Access) →
+    List Text → State → List Access
+turns_of_accesses shell name body of_body fs s =
+    elim (follows_turns shell name fs) [ true ↦ for_accesses shell name body of_body fs s | false ↦ [] ]
+
+-- a `for` that has begun finds its words
+abbrev pub for_words_accesses : Shell → (name : Text) → List tree.Word → (body : State → Answer) →
+    (of_body : State → List Access) → State → List Access
+for_words_accesses shell name words body of_body s =
+    all_read (words_reads s.memory words)
+    ++ sized_accesses (turns_in shell (parameters_in s.memory) words) (turns_of_accesses shell name body of_body) s
+
 -- ---- beside the execution
 
 -- the status of no command is that of before in U-Boot's shells
@@ -164,6 +185,7 @@ abbrev pub nothing_accesses : Shell → List Access
 nothing_accesses Profile = status_written
 nothing_accesses Old2023 = []
 nothing_accesses Old2025 = []
+nothing_accesses Modern2025 = []
 
 module _ (limits : Limits) where
   -- a step is begun if the bound allows one more
@@ -270,9 +292,9 @@ module _ (limits : Limits) where
           turns_accesses limits.shell left until (exec_script limits left text cond) (exec_script limits left text body)
           (script_accesses cond) (script_accesses body) s
       command_accesses (tree.For name words body) s =
-          begun_accesses (λ t. all_read (words_reads t.memory words)
-          ++ sized_accesses (turns_in limits.shell (parameters_in t.memory) words)
-          (for_accesses limits.shell name (exec_script limits left text body) (script_accesses body)) t) s
+          begun_accesses (λ t. modern_accesses limits.shell
+          ++ for_words_accesses limits.shell name words (exec_script limits left text body) (script_accesses body)
+          (for_begun limits.shell t)) s
 
       -- the status of each condition is read
       pub arms_accesses : Arms → State → List Access
@@ -280,7 +302,10 @@ module _ (limits : Limits) where
       arms_accesses (tree.Else body) s = script_accesses body s
       arms_accesses (tree.Arm cond body more) s =
           script_accesses cond s ++ behind (exec_script limits left text cond s) (λ t. Reads Status
-          ∷ elim (nat_eq t.memory.status 0) [ true ↦ script_accesses body t | false ↦ arms_accesses more t ])
+          ∷ elim (nat_eq t.memory.status 0) [
+            | true ↦ script_accesses body t
+            | false ↦ modern_accesses limits.shell ++ arms_accesses more (block_skipped limits.shell body t)
+          ])
 
   -- a script with this many steps left, as `exec` runs it
   abbrev pub accesses : (left : ℕ) → Script → State → List Access

@@ -5,25 +5,25 @@ use Rattle.hushlang.specs.Tree as tree
 use Rattle.hushlang.specs.Tree.{Script, AndOr, Joined, Command, Arms}
 use Rattle.hushlang.specs.Expansion.{size, most_bytes}
 use Rattle.hushlang.specs.declared.tree.Op.{Op}
-use Rattle.hushlang_old.specs.TreesByShell.{tree_in, lacks_end_in}
+use Rattle.hushlang_shells.specs.TreesByShell.{tree_in, lacks_end_in}
 use Rattle.builtins.specs.Builtins.{Builtin, SetEnv, Run, Test, Echo, True, False, Leave, builtin_of}
 use Rattle.commands.specs.Computed.{Computed}
 use Rattle.device_list.specs.DeviceList.{Effect, effect_of, computed_by}
 use Rattle.bootstore_state.specs.declared.frame.At.{At}
 use Rattle.rehearse_terms.specs.State.{Text, State, get}
 use Rattle.rehearse_terms.specs.declared.shell.Shell.{Shell}
-use Rattle.rehearse_terms.specs.declared.shell.Shell.TheVariants.{Profile, Old2023, Old2025}
+use Rattle.rehearse_terms.specs.declared.shell.Shell.TheVariants.{Profile, Old2023, Old2025, Modern2025}
 use Rattle.rehearse_rules.specs.ByShell.{leaves_in, asks_in, fields_in, turns_in, follows, reads_again}
 use Rattle.rehearse_rules.specs.Parameters.{parameters_in}
 use Rattle.rehearse_rules.specs.Execution.{Limits, goes, holds, test_request}
 use Rattle.rehearse_machine.specs.Frames.{Frame, Lists, Linked, IfCondition, LoopCondition, LoopBody, ForBody, RunNames, RunText}
 use Rattle.rehearse_machine.specs.Places.{drop_joined, joined_at, drop_arms, condition_frame, phase, from_command, for_frame, run_frame}
 use Rattle.rehearse_reads.specs.Keys.{Key, Access, Reads, Writes, Environment, Local, Status, all_read, Covers}
-use Rattle.rehearse_reads.specs.Accesses.{status_written, words_reads, setenv_accesses, computed_accesses, sized_accesses, assign_accesses, turn_accesses, nothing_accesses}
+use Rattle.rehearse_reads.specs.Accesses.{status_written, words_reads, setenv_accesses, computed_accesses, sized_accesses, assign_accesses, turn_accesses, nothing_accesses, modern_accesses}
 use Rattle.rehearse_reads.proofs.KeysRead.{covering_joins}
 use Rattle.rehearse_frames.specs.MoveAccesses.{of_leaving, of_exit, of_beginning_for, of_beginning_arms, of_beginning_tree, of_beginning_text, of_beginning_names, of_builtin, of_listed, of_call, of_fields, of_command, of_move}
 use Rattle.rehearse_reports.proofs.ReportLemmas.{covers_itself, covers_through, covers_less, covers_write, reads_cover, reads_alone}
-use Rattle.rehearse_reports.proofs.CoverLemmas.{covers_status, covers_nothing, covers_arms}
+use Rattle.rehearse_reports.proofs.CoverLemmas.{covers_status, covers_nothing, covers_arms, covers_modern}
 
 abbrev status_read : List Access
 status_read = Reads Status ∷ []
@@ -145,9 +145,9 @@ module _ (limits : Limits) (s : State) where
   arms_end : (arms : Arms) (fs : List Frame) → Covers status_read (of_move limits (condition_frame arms ∷ fs) s)
   arms_end (tree.Arm c b more) fs = by (nat_eq s.memory.status 0)
     where
-      by : (x : Bool) → Covers status_read (Reads Status ∷ (elim x [ true ↦ [] | false ↦ of_beginning_arms limits.shell more ]))
+      by : (x : Bool) → Covers status_read (Reads Status ∷ (elim x [ true ↦ [] | false ↦ modern_accesses limits.shell ++ of_beginning_arms limits.shell more ]))
       by true = covers_itself status_read
-      by false = covers_less status_read (of_beginning_arms limits.shell more) (covers_arms limits.shell more)
+      by false = covers_less status_read (modern_accesses limits.shell ++ of_beginning_arms limits.shell more) (covers_modern limits.shell [] (of_beginning_arms limits.shell more) (covers_arms limits.shell more))
   arms_end (tree.Else b) fs = nothing_read
   arms_end tree.NoElse fs = nothing_read
 
@@ -173,6 +173,7 @@ module _ (limits : Limits) (s : State) where
   turn_covers Profile name = reads_cover (Status ∷ []) (Writes (Local name) ∷ []) (Writes (Local name) ∷ []) (covers_itself (Writes (Local name) ∷ []))
   turn_covers Old2023 name = reads_cover (Status ∷ []) (Writes (Local name) ∷ []) (Writes (Local name) ∷ status_written) (covers_less (Writes (Local name) ∷ []) status_written covers_status)
   turn_covers Old2025 name = reads_cover (Status ∷ []) (Writes (Local name) ∷ []) (Writes (Local name) ∷ status_written) (covers_less (Writes (Local name) ∷ []) status_written covers_status)
+  turn_covers Modern2025 name = reads_cover (Status ∷ []) (Writes (Local name) ∷ []) (Writes (Local name) ∷ []) (covers_itself (Writes (Local name) ∷ []))
 
   pub turn_begins : (name : Text) (values : List Text) (turn : ℕ) (body : Script) (fs : List Frame) (v : Text) → slice_get values turn ≡ Some v → Covers (Reads Status ∷ Writes (Local name) ∷ []) (of_move limits (ForBody name (drop turn values) body ∷ fs) s)
   turn_begins name [] turn body fs v e = absurd (let f = e in cc)

@@ -8,15 +8,15 @@ use Rattle.device_list.specs.Called.{sets_in}
 use Rattle.rehearse_terms.specs.Outcomes.{Success, Failure}
 use Rattle.rehearse_terms.specs.State.{Text, Memory, State, get}
 use Rattle.rehearse_terms.specs.declared.shell.Shell.{Shell}
-use Rattle.rehearse_terms.specs.declared.shell.Shell.TheVariants.{Profile, Old2023, Old2025}
-use Rattle.rehearse_rules.specs.ByShell.{fields_in, turns_in, assigned_in, is_refused, reads_again}
+use Rattle.rehearse_terms.specs.declared.shell.Shell.TheVariants.{Profile, Old2023, Old2025, Modern2025}
+use Rattle.rehearse_rules.specs.ByShell.{fields_in, turns_in, assigned_in, is_refused, reads_again, follows_turns}
 use Rattle.rehearse_rules.specs.Parameters.{parameters_in}
-use Rattle.rehearse_rules.specs.Execution.{Limits, Request, told, outcome_when, assign_local}
+use Rattle.rehearse_rules.specs.Execution.{Limits, Request, told, outcome_when, assign_local, for_begun}
 use Rattle.rehearse_reads.specs.Keys.{Key, Access, Reads, Writes, Environment, Local, Status, all_read, Covers}
-use Rattle.rehearse_reads.specs.Accesses.{status_written, variable_reads, piece_reads, word_reads, words_reads, names_written, told_reads, outcome_accesses, sized_accesses, local_accesses, assign_accesses, nothing_accesses, begun_accesses}
+use Rattle.rehearse_reads.specs.Accesses.{status_written, variable_reads, piece_reads, word_reads, words_reads, names_written, told_reads, outcome_accesses, sized_accesses, local_accesses, assign_accesses, nothing_accesses, begun_accesses, modern_accesses}
 use Rattle.rehearse_reads.proofs.KeysRead.{covering_joins}
-use Rattle.rehearse_frames.specs.MoveAccesses.{of_asking, of_telling, of_beginning_for, of_beginning_arms, of_fields, of_command}
-use Rattle.rehearse_reports.proofs.ReportLemmas.{covers_itself, covers_through, covers_less, covers_write, reads_cover, reads_alone, nothing_after}
+use Rattle.rehearse_frames.specs.MoveAccesses.{of_asking, of_telling, of_beginning_for, of_beginning_arms, of_fields, of_command, of_beginning_turns, of_beginning_words}
+use Rattle.rehearse_reports.proofs.ReportLemmas.{covers_itself, covers_through, covers_less, covers_write, covers_written, reads_cover, reads_alone, nothing_after}
 
 pub covers_status : Covers [] status_written
 covers_status = covers_write Status [] (covers_itself [])
@@ -25,6 +25,14 @@ pub covers_nothing : (shell : Shell) → Covers [] (nothing_accesses shell)
 covers_nothing Profile = covers_status
 covers_nothing Old2023 = covers_itself []
 covers_nothing Old2025 = covers_itself []
+covers_nothing Modern2025 = covers_itself []
+
+-- a status that is written in the modern shell alone needs nothing known
+pub covers_modern : (shell : Shell) (xs ys : List Access) → Covers xs ys → Covers xs (modern_accesses shell ++ ys)
+covers_modern Profile xs ys h = h
+covers_modern Old2023 xs ys h = h
+covers_modern Old2025 xs ys h = h
+covers_modern Modern2025 xs ys h = covers_written Status xs ys h
 
 -- ---- device commands
 
@@ -56,20 +64,51 @@ covers_first : (fields : List Text) → Covers [] (of_beginning_for fields)
 covers_first [] = covers_status
 covers_first (f ∷ fields) = covers_itself []
 
+-- what words read again, where the variables of the environment are the same
+variable_again : (m n : Memory) (name : Text) → n.environment ≡ m.environment → variable_reads n name ≡ variable_reads m name
+variable_again m n name e = ap (λ v. Environment name ∷ (elim (get v name) [ Some value ↦ [] | None ↦ Local name ∷ [] ])) e
+
+piece_again : (m n : Memory) (piece : tree.Piece) → n.environment ≡ m.environment → piece_reads n piece ≡ piece_reads m piece
+piece_again m n (tree.Bytes bytes) e = refl
+piece_again m n tree.Mark e = refl
+piece_again m n (tree.Var name split) e = variable_again m n name e
+piece_again m n tree.Status e = refl
+
+word_again : (m n : Memory) (word : tree.Word) → n.environment ≡ m.environment → word_reads n word ≡ word_reads m word
+word_again m n [] e = refl
+word_again m n (piece ∷ word) e = ap (λ (x : List Key). x ++ word_reads n word) (piece_again m n piece e) ∙ ap (λ (x : List Key). piece_reads m piece ++ x) (word_again m n word e)
+
+words_again : (m n : Memory) (words : List tree.Word) → n.environment ≡ m.environment → words_reads n words ≡ words_reads m words
+words_again m n [] e = refl
+words_again m n (word ∷ words) e = ap (λ (x : List Key). x ++ words_reads n words) (word_again m n word e) ∙ ap (λ (x : List Key). word_reads m word ++ x) (words_again m n words e)
+
+covers_turns : (shell : Shell) (name : Text) (fields : List Text) → Covers [] (of_beginning_turns shell name fields)
+covers_turns shell name fields = by (follows_turns shell name fields)
+  where
+    by : (b : Bool) → Covers [] (elim b [ true ↦ of_beginning_for fields | false ↦ [] ])
+    by true = covers_first fields
+    by false = covers_itself []
+
 -- the words of a `for`
+covers_words : (shell : Shell) (name : Text) (words : List tree.Word) (s : State) → Covers (all_read (words_reads s.memory words)) (of_beginning_words shell name words s)
+covers_words shell name words s =
+    covers_less (all_read (words_reads s.memory words)) (sized_accesses (turns_in shell (parameters_in s.memory) words) (λ values u. of_beginning_turns shell name values) s)
+    (by (nat_le (size (turns_in shell (parameters_in s.memory) words)) most_bytes) (turns_in shell (parameters_in s.memory) words))
+  where
+    by : (b : Bool) (fields : List Text) → Covers [] (elim b [ true ↦ of_beginning_turns shell name fields | false ↦ [] ])
+    by true fields = covers_turns shell name fields
+    by false fields = covers_itself []
+
 pub covers_for : (limits : Limits) (name : Text) (words : List tree.Word) (body : tree.Script) (s : State) → Covers (all_read (words_reads s.memory words)) (of_command limits (tree.For name words body) [] s)
 covers_for limits name words body s = by (nat_lt s.steps limits.step_bound)
   where
-    sized : (b : Bool) (fields : List Text) → Covers [] (elim b [ true ↦ of_beginning_for fields | false ↦ [] ])
-    sized true fields = covers_first fields
-    sized false fields = covers_itself []
+    begun : State
+    begun = for_begun limits.shell (record s { steps = suc s.steps })
 
-    by : (b : Bool) → Covers (all_read (words_reads s.memory words)) (elim b [
-      | true ↦ all_read (words_reads s.memory words) ++ sized_accesses (turns_in limits.shell (parameters_in s.memory) words) (λ values u. of_beginning_for values) (record s { steps = suc s.steps })
-      | false ↦ []
-    ])
-    by true = covers_less (all_read (words_reads s.memory words)) (sized_accesses (turns_in limits.shell (parameters_in s.memory) words) (λ values u. of_beginning_for values) (record s { steps = suc s.steps }))
-        (sized (nat_le (size (turns_in limits.shell (parameters_in s.memory) words)) most_bytes) (turns_in limits.shell (parameters_in s.memory) words))
+    by : (b : Bool) → Covers (all_read (words_reads s.memory words)) (elim b [ true ↦ modern_accesses limits.shell ++ of_beginning_words limits.shell name words begun | false ↦ [] ])
+    by true =
+        covers_modern limits.shell (all_read (words_reads s.memory words)) (of_beginning_words limits.shell name words begun)
+        (subst (λ (keys : List Key). Covers (all_read keys) (of_beginning_words limits.shell name words begun)) (words_again s.memory begun.memory words refl) (covers_words limits.shell name words begun))
     by false = reads_alone (words_reads s.memory words)
 
 -- a step that is begun, or is none
@@ -97,19 +136,6 @@ long_so limits words s e fits =
     ∙ nothing_after (all_read (words_reads s.memory words)))
 
 -- ---- assignments
-
-variable_again : (m n : Memory) (name : Text) → n.environment ≡ m.environment → variable_reads n name ≡ variable_reads m name
-variable_again m n name e = ap (λ v. Environment name ∷ (elim (get v name) [ Some value ↦ [] | None ↦ Local name ∷ [] ])) e
-
-piece_again : (m n : Memory) (piece : tree.Piece) → n.environment ≡ m.environment → piece_reads n piece ≡ piece_reads m piece
-piece_again m n (tree.Bytes bytes) e = refl
-piece_again m n tree.Mark e = refl
-piece_again m n (tree.Var name split) e = variable_again m n name e
-piece_again m n tree.Status e = refl
-
-word_again : (m n : Memory) (word : tree.Word) → n.environment ≡ m.environment → word_reads n word ≡ word_reads m word
-word_again m n [] e = refl
-word_again m n (piece ∷ word) e = ap (λ (x : List Key). x ++ word_reads n word) (piece_again m n piece e) ∙ ap (λ (x : List Key). piece_reads m piece ++ x) (word_again m n word e)
 
 covers_local : (shell : Shell) (name value : Text) → Covers [] (local_accesses shell name value)
 covers_local shell name value = by (is_refused shell value)
@@ -189,4 +215,4 @@ none_begun limits (tree.Assign pairs) s e = subst (Covers []) (sym (begun_so lim
 none_begun limits (tree.If arms) s e = covers_arms limits.shell arms
 none_begun limits (tree.Loop until c b) s e = covers_itself []
 none_begun limits (tree.For name words body) s e =
-    subst (Covers []) (sym (begun_so limits (λ u. all_read (words_reads u.memory words) ++ sized_accesses (turns_in limits.shell (parameters_in u.memory) words) (λ values v. of_beginning_for values) u) s false e)) (covers_itself [])
+    subst (Covers []) (sym (begun_so limits (λ t. modern_accesses limits.shell ++ of_beginning_words limits.shell name words (for_begun limits.shell t)) s false e)) (covers_itself [])

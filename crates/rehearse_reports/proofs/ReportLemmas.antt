@@ -21,14 +21,17 @@ covers_less xs ys h later =
     subst (λ (keys : List Key). AreAmong keys (keys_in_front xs later)) (sym (stretches_join xs ys later)) (more_keys_in_front xs (keys_in_front ys later) later (h later))
 
 -- a write needs nothing known
-pub covers_write : (key : Key) (xs : List Access) → Covers [] xs → Covers [] (Writes key ∷ xs)
-covers_write key xs h later = all_by (keys_in_front (Writes key ∷ xs) later) later
-    (λ x g. among_all x (keys_in_front xs later) later (behind_write x key (keys_in_front xs later) g).0 (h later))
+pub covers_written : (key : Key) (xs ys : List Access) → Covers xs ys → Covers xs (Writes key ∷ ys)
+covers_written key xs ys h later = all_by (keys_in_front (Writes key ∷ ys) later) (keys_in_front xs later)
+    (λ x g. among_all x (keys_in_front ys later) (keys_in_front xs later) (behind_write x key (keys_in_front ys later) g).0 (h later))
   where
     among_all : (x : Key) (keys more : List Key) → IsAmong x keys → AreAmong keys more → IsAmong x more
     among_all x [] more g all = absurd g
     among_all x (k ∷ keys) more (inl same) all = subst (λ (y : Key). IsAmong y more) (sym same) all.0
     among_all x (k ∷ keys) more (inr g) all = among_all x keys more g all.1
+
+pub covers_write : (key : Key) (xs : List Access) → Covers [] xs → Covers [] (Writes key ∷ xs)
+covers_write key xs h = covers_written key [] xs h
 
 with_more : (key : Key) (some more : List Key) → AreAmong some more → AreAmong some (key ∷ more)
 with_more key [] more g = tt

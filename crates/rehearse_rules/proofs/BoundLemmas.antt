@@ -5,18 +5,18 @@ use Rattle.hushlang.specs.Tree as tree
 use Rattle.hushlang.specs.Tree.{Script, AndOr, Joined, Command, Arms, IsProper, IsProperList, IsProperJoined, IsProperCommand, HasArm, AreProperArms, HoldsCommand}
 use Rattle.hushlang.specs.Expansion.{size, most_bytes}
 use Rattle.rehearse_terms.specs.Outcomes.{OutcomeWord, Outcome, Success, Failure}
-use Rattle.hushlang_old.specs.TreesByShell.{tree_in, lacks_end_in}
+use Rattle.hushlang_shells.specs.TreesByShell.{tree_in, lacks_end_in}
 use Rattle.rehearse_terms.specs.State.{Text, get, State, start}
 use Rattle.rehearse_rules.specs.Parameters.{parameters_in}
 use Rattle.device_list.specs.Called.{Called, BuiltIn, Device, NoCommand, called_by, sets_in}
 use Rattle.commands.specs.BuiltInCommands.{ChangesVariables, WritesText, RunsTexts, Tests, Exits}
-use Rattle.rehearse_rules.specs.ByShell.{unread, leaves_in, status_of_exit, asks_in, truth_in, fields_in, turns_in, skips_rest, status_of_loop, follows, assigned_in, reads_again}
-use Rattle.rehearse_rules.specs.Execution.{Limits, Answer, Normal, Exit, Ended, Dry, Ending, CutDevices, CutSteps, Size, go_on, set_status, status_when, goes, holds, begin, take_outcome, with_outcome, outcome_when, told, told_again, tell_or_take, device, Request, logged, set_environment, finish, text_end, run_text, run_all, command, simple, sized, assign, turns, begin_turn, for_each, exec_script, exec_list, exec_joined, exec_command, exec_arms, exec, Unsupported, assign_local, request_of, test_request, started_text, text_failed}
+use Rattle.rehearse_rules.specs.ByShell.{unread, leaves_in, status_of_exit, asks_in, truth_in, fields_in, turns_in, skips_rest, status_of_loop, follows, assigned_in, reads_again, follows_turns}
+use Rattle.rehearse_rules.specs.Execution.{Limits, Answer, Normal, Exit, Ended, Dry, Ending, CutDevices, CutSteps, Size, go_on, set_status, status_when, goes, holds, begin, take_outcome, with_outcome, outcome_when, told, told_again, tell_or_take, device, Request, logged, set_environment, finish, text_end, run_text, run_all, command, simple, sized, assign, turns, begin_turn, for_each, exec_script, exec_list, exec_joined, exec_command, exec_arms, exec, Unsupported, assign_local, request_of, test_request, started_text, text_failed, turns_of, for_words, for_begun, block_skipped}
 use Rattle.rehearse_rules.specs.Needs.{effect_now}
 use Rattle.rehearse_rules.specs.Runs.{Task, run_on, state_of, steps}
-use Rattle.hushlang_old.proofs.TreeByShellLemmas.{trees_in_are_proper}
+use Rattle.hushlang_shells.proofs.TreeByShellLemmas.{trees_in_are_proper}
 use Rattle.rehearse_terms.specs.declared.shell.Shell.{Shell}
-use Rattle.rehearse_terms.specs.declared.shell.Shell.TheVariants.{Profile, Old2023, Old2025}
+use Rattle.rehearse_terms.specs.declared.shell.Shell.TheVariants.{Profile, Old2023, Old2025, Modern2025}
 use Rattle.rehearse_rules.proofs.GrowingSteps.{Grew, Grew-block}
 use Rattle.rehearse_rules.proofs.TakenOutcomes.{skipped, Track, KeepsAll, Keeps-started, Keeps-script, Keeps-list, Keeps-one, Keeps-exec, Keeps-ended}
 
@@ -102,6 +102,7 @@ module _ (limits : Limits) where
     unread-ends Profile name t h = (h, tt)
     unread-ends Old2023 name t h = (h, tt)
     unread-ends Old2025 name t h = (h, tt)
+    unread-ends Modern2025 name t h = (h, tt)
 
     tree-ends : (found : Option Script) (name : Text) (t : State) → ((a : Script) → found ≡ Some a → IsProper a) → IsWithin t → limits.step_bound < n + t.steps → Ends (elim found [ None ↦ Ended (unread limits.shell name) t | Some a ↦ script a (elim a [ tree.Empty ↦ set_status 0 t | tree.Runs l ls ↦ t ]) ])
     tree-ends None name t p h r = unread-ends limits.shell name t h
@@ -160,6 +161,12 @@ module _ (limits : Limits) where
     for-ends name b k e last [] s h r = h
     for-ends name b k e last (f ∷ fs) s h r = Ends-go_on (begin_turn limits.shell name f s) (b (begin_turn limits.shell name f s)) (λ t. for_each limits.shell name b t.memory.status fs t) (k (begin_turn limits.shell name f s)).0 (e (begin_turn limits.shell name f s) (h, r)) (λ t w l. for-ends name b k e t.memory.status fs t w (omega arith))
 
+    turns_of-end : (name : Text) (b : State → Answer) → KeepsAll limits b → EndsAll n b → (fs : List Text) (s : State) → IsWithin s → limits.step_bound ≤ n + s.steps → Ends (turns_of limits.shell name b fs s)
+    turns_of-end name b k e fs s h r = Ends-if (follows_turns limits.shell name fs) (for_each limits.shell name b 0 fs s) (Ended (Unsupported name) s) (λ x. for-ends name b k e 0 fs s h r) (λ x. (h, tt))
+
+    words-end : (name : Text) (words : List tree.Word) (b : State → Answer) → KeepsAll limits b → EndsAll n b → (s : State) → IsWithin s → limits.step_bound ≤ n + s.steps → Ends (for_words limits.shell name words b s)
+    words-end name words b k e s h r = Ends-sized (turns_in limits.shell (parameters_in s.memory) words) (turns_of limits.shell name b) s h (turns_of-end name b k e (turns_in limits.shell (parameters_in s.memory) words) s h r)
+
     mutual
       script-ends : (a : Script) → IsProper a → EndsAll n (exec_script limits n text a)
       script-ends tree.Empty p s r = r.0
@@ -177,17 +184,17 @@ module _ (limits : Limits) where
       one-ends (tree.Assign pairs) p s r = Ends-begin n (assign limits.shell pairs) (λ t h q. Ends-assign pairs t h) s r
       one-ends (tree.If arms) p s r = arm-ends arms p s r
       one-ends (tree.Loop until c b) p s r = turns-end n until (exec_script limits n text c) (exec_script limits n text b) (Keeps-script limits n text kept c) (Keeps-script limits n text kept b) (block-ends c p.0) (block-ends b p.1) (Grew-block limits n text kept c p.0) 0 s r.0 r.1 r.1
-      one-ends (tree.For name words b) p s r = Ends-begin n (λ t. sized (turns_in limits.shell (parameters_in t.memory) words) (for_each limits.shell name (exec_script limits n text b) 0) t) (λ t h q. Ends-sized (turns_in limits.shell (parameters_in t.memory) words) (for_each limits.shell name (exec_script limits n text b) 0) t h (for-ends name (exec_script limits n text b) (Keeps-script limits n text kept b) (block-ends b p) 0 (turns_in limits.shell (parameters_in t.memory) words) t h (omega arith))) s r
+      one-ends (tree.For name words b) p s r = Ends-begin n (λ t. for_words limits.shell name words (exec_script limits n text b) (for_begun limits.shell t)) (λ t h q. words-end name words (exec_script limits n text b) (Keeps-script limits n text kept b) (block-ends b p) (for_begun limits.shell t) h (omega arith)) s r
 
       arm-ends : (a : Arms) → HasArm a → EndsAll n (exec_arms limits n text a)
       arm-ends tree.NoElse p s r = absurd p
       arm-ends (tree.Else b) p s r = absurd p
-      arm-ends (tree.Arm c b arms) p s r = Ends-go_on s (exec_script limits n text c s) (λ t. elim (nat_eq t.memory.status 0) [ true ↦ exec_script limits n text b t | false ↦ exec_arms limits n text arms t ]) (Keeps-script limits n text kept c s).0 (block-ends c p.0 s r) (λ t w e. let q = r.1 in let reach : Reaches n t = (w, omega arith) in Ends-if (nat_eq t.memory.status 0) (exec_script limits n text b t) (exec_arms limits n text arms t) (λ x. block-ends b p.1 t reach) (λ x. arms-end arms p.2 t reach))
+      arm-ends (tree.Arm c b arms) p s r = Ends-go_on s (exec_script limits n text c s) (λ t. elim (nat_eq t.memory.status 0) [ true ↦ exec_script limits n text b t | false ↦ exec_arms limits n text arms (block_skipped limits.shell b t) ]) (Keeps-script limits n text kept c s).0 (block-ends c p.0 s r) (λ t w e. let q = r.1 in let reach : Reaches n t = (w, omega arith) in Ends-if (nat_eq t.memory.status 0) (exec_script limits n text b t) (exec_arms limits n text arms (block_skipped limits.shell b t)) (λ x. block-ends b p.1 t reach) (λ x. arms-end arms p.2 (block_skipped limits.shell b t) reach))
 
       arms-end : (a : Arms) → AreProperArms a → EndsAll n (exec_arms limits n text a)
       arms-end tree.NoElse p s r = r.0
       arms-end (tree.Else b) p s r = block-ends b p s r
-      arms-end (tree.Arm c b arms) p s r = Ends-go_on s (exec_script limits n text c s) (λ t. elim (nat_eq t.memory.status 0) [ true ↦ exec_script limits n text b t | false ↦ exec_arms limits n text arms t ]) (Keeps-script limits n text kept c s).0 (block-ends c p.0 s r) (λ t w e. let q = r.1 in let reach : Reaches n t = (w, omega arith) in Ends-if (nat_eq t.memory.status 0) (exec_script limits n text b t) (exec_arms limits n text arms t) (λ x. block-ends b p.1 t reach) (λ x. arms-end arms p.2 t reach))
+      arms-end (tree.Arm c b arms) p s r = Ends-go_on s (exec_script limits n text c s) (λ t. elim (nat_eq t.memory.status 0) [ true ↦ exec_script limits n text b t | false ↦ exec_arms limits n text arms (block_skipped limits.shell b t) ]) (Keeps-script limits n text kept c s).0 (block-ends c p.0 s r) (λ t w e. let q = r.1 in let reach : Reaches n t = (w, omega arith) in Ends-if (nat_eq t.memory.status 0) (exec_script limits n text b t) (exec_arms limits n text arms (block_skipped limits.shell b t)) (λ x. block-ends b p.1 t reach) (λ x. arms-end arms p.2 (block_skipped limits.shell b t) reach))
 
       block-ends : (a : Script) → HoldsCommand a → EndsAll n (exec_script limits n text a)
       block-ends tree.Empty p s r = absurd p

@@ -15,10 +15,10 @@ use Rattle.device_list.specs.Called.{Called, BuiltIn, listed_by, other_called, c
 use Rattle.commands.specs.BuiltInCommands.{Deed, ChangesVariables, WritesText, RunsTexts, Tests, Exits, deed_of, carried, asks_device, exit_status}
 use Rattle.commands.specs.Verdict.{verdict}
 use Rattle.device_list.specs.DeviceList.{Devices, computed_by}
-use Rattle.rehearse_rules.specs.ByShell.{reads_again, leaves_in, status_of_exit, asks_in, truth_in, fields_in, turns_in, skips_rest, status_of_nothing, status_of_no_block, follows, question_in, truth_if}
+use Rattle.rehearse_rules.specs.ByShell.{reads_again, leaves_in, status_of_exit, asks_in, truth_in, fields_in, skips_rest, status_of_nothing, status_of_no_block, follows, question_in, truth_if}
 use Rattle.rehearse_terms.specs.declared.shell.Shell.{Shell}
 use Rattle.rehearse_terms.specs.declared.shell.Shell.TheVariants.{Profile}
-use Rattle.rehearse_rules.specs.Execution.{Limits, Answer, Normal, Exit, Ended, CutDevices, CutSteps, Request, tell_or_take, device, go_on, set_status, status_when, goes, begin, command, simple, sized, turns, for_each, text_end, run_text, run_all, exec_script, exec_list, exec_joined, exec_command, exec_arms, exec, Unsupported, assign, started_text}
+use Rattle.rehearse_rules.specs.Execution.{Limits, Answer, Normal, Exit, Ended, CutDevices, CutSteps, Request, tell_or_take, device, go_on, set_status, status_when, goes, begin, command, simple, sized, turns, text_end, run_text, run_all, exec_script, exec_list, exec_joined, exec_command, exec_arms, exec, Unsupported, assign, started_text, for_words, for_begun, block_skipped}
 use Rattle.rehearse_rules.specs.GivenExecution.{Others, asked_anew, given_builtin, given_simple, given_script, given_list, given_joined, given_command, given_arms, given_exec, given_run_on}
 
 -- what a part of a script does to states
@@ -181,14 +181,14 @@ module _ (bounds : Limits) (own : bounds.shell ≡ Profile) (devices : Devices) 
       one-same (tree.Assign values) = λ i s. begin (limits bounds devices) (assign (own i) values) s
       one-same (tree.If arms) = arms-same arms
       one-same (tree.Loop until cond body) = λ i s. turns (own i) left until (script-same cond i) (script-same body i) 0 s
-      one-same (tree.For name words body) = λ i s. begin (limits bounds devices) (λ t. sized (turns_in (own i) (parameters_in t.memory) words) (for_each (own i) name (script-same body i) 0) t) s
+      one-same (tree.For name words body) = λ i s. begin (limits bounds devices) (λ t. for_words (own i) name words (script-same body i) (for_begun (own i) t)) s
 
       arms-same : (a : Arms) → exec_arms (limits bounds devices) left f a ≡ given_arms bounds others left g a
       arms-same tree.NoElse = λ i s. Normal (set_status (status_of_no_block (own i) s.memory.status) s)
       arms-same (tree.Else body) = script-same body
       arms-same (tree.Arm cond body more) = λ i s. go_on (script-same cond i s) (λ t. elim (nat_eq t.memory.status 0) [
         | true ↦ script-same body i t
-        | false ↦ arms-same more i t
+        | false ↦ arms-same more i (block_skipped (own i) body t)
       ])
 
   exec-same : (left : ℕ) → exec (limits bounds devices) left ≡ given_exec bounds others left

@@ -1,12 +1,12 @@
 -- A command begins a step, and so does each block: the steps only grow.
-use Rattle.rehearse_rules.specs.ByShell.{fields_in, reads_again, turns_in}
+use Rattle.rehearse_rules.specs.ByShell.{fields_in, reads_again}
 use Rattle.std.proofs.Common.{ℕ, zero, suc, Bool, true, false, ◌<◌, ◌≤◌, arith, nat_lt, nat_eq}
 use Rattle.hushlang.specs.Tree as tree
 use Rattle.hushlang.specs.Tree.{Script, AndOr, Command, Arms, IsProperList, IsProperCommand, HasArm, HoldsCommand}
 use Rattle.rehearse_terms.specs.State.{State}
 use Rattle.rehearse_rules.specs.Parameters.{parameters_in}
-use Rattle.rehearse_rules.specs.Execution.{Limits, Answer, Normal, Exit, Ended, Dry, CutSteps, go_on, simple, sized, assign, turns, for_each, exec_script, exec_list, exec_joined, exec_command, exec_arms}
-use Rattle.rehearse_rules.proofs.TakenOutcomes.{Track, Keeps, KeepsAll, Keeps-sized, Keeps-simple, Keeps-assign, Keeps-for, Keeps-if, Keeps-turns, after_condition, Keeps-after_condition, Keeps-script, Keeps-joined, Keeps-arms}
+use Rattle.rehearse_rules.specs.Execution.{Limits, Answer, Normal, Exit, Ended, Dry, CutSteps, go_on, simple, sized, assign, turns, exec_script, exec_list, exec_joined, exec_command, exec_arms, for_words, for_begun, block_skipped}
+use Rattle.rehearse_rules.proofs.TakenOutcomes.{Track, Keeps, KeepsAll, Keeps-sized, Keeps-simple, Keeps-assign, Keeps-if, Keeps-turns, after_condition, Keeps-after_condition, Keeps-script, Keeps-joined, Keeps-arms, Keeps-words, Keeps-skip}
 
 -- if the text or the run goes on, at least n steps were begun
 abbrev pub AtLeast : ℕ → Answer → Type 0
@@ -51,7 +51,7 @@ module _ (limits : Limits) (left : ℕ) (text : Script → State → Answer) (ke
     Grew-command (tree.Assign pairs) p s = Grew-begin (nat_lt s.steps limits.step_bound) s (assign limits.shell pairs) (Keeps-assign limits pairs)
     Grew-command (tree.If arms) p s = Grew-if arms p s
     Grew-command (tree.Loop until c b) p s = Grew-turns left until (exec_script limits left text c) (exec_script limits left text b) (Keeps-script limits left text kept c) (Keeps-script limits left text kept b) (Grew-block c p.0) 0 s
-    Grew-command (tree.For name words b) p s = Grew-begin (nat_lt s.steps limits.step_bound) s (λ t. sized (turns_in limits.shell (parameters_in t.memory) words) (for_each limits.shell name (exec_script limits left text b) 0) t) (λ t. Keeps-sized limits (turns_in limits.shell (parameters_in t.memory) words) (for_each limits.shell name (exec_script limits left text b) 0) (λ fs. Keeps-for limits name (exec_script limits left text b) (Keeps-script limits left text kept b) 0 fs) t)
+    Grew-command (tree.For name words b) p s = Grew-begin (nat_lt s.steps limits.step_bound) s (λ t. for_words limits.shell name words (exec_script limits left text b) (for_begun limits.shell t)) (Keeps-words limits name words (exec_script limits left text b) (Keeps-script limits left text kept b))
 
     pub Grew-block : (a : Script) → HoldsCommand a → (s : State) → Grew s.steps (exec_script limits left text a s)
     Grew-block tree.Empty p s = absurd p
@@ -61,6 +61,6 @@ module _ (limits : Limits) (left : ℕ) (text : Script → State → Answer) (ke
     Grew-list (tree.Starts c links) p s = Grew-go_on limits.device_bound s.steps (exec_command limits left text c s) (exec_joined limits left text links) (Grew-command c p.0 s) (Keeps-joined limits left text kept links)
 
     Grew-if : (a : Arms) → HasArm a → (s : State) → Grew s.steps (exec_arms limits left text a s)
-    Grew-if (tree.Arm c b arms) p s = Grew-go_on limits.device_bound s.steps (exec_script limits left text c s) (λ t. elim (nat_eq t.memory.status 0) [ true ↦ exec_script limits left text b t | false ↦ exec_arms limits left text arms t ]) (Grew-block c p.0 s) (λ t. Keeps-if limits.device_bound t (nat_eq t.memory.status 0) (exec_script limits left text b) (exec_arms limits left text arms) (Keeps-script limits left text kept b t) (Keeps-arms limits left text kept arms t))
+    Grew-if (tree.Arm c b arms) p s = Grew-go_on limits.device_bound s.steps (exec_script limits left text c s) (λ t. elim (nat_eq t.memory.status 0) [ true ↦ exec_script limits left text b t | false ↦ exec_arms limits left text arms (block_skipped limits.shell b t) ]) (Grew-block c p.0 s) (λ t. Keeps-if limits.device_bound t (nat_eq t.memory.status 0) (exec_script limits left text b) (λ u. exec_arms limits left text arms (block_skipped limits.shell b u)) (Keeps-script limits left text kept b t) (Keeps-skip limits b (exec_arms limits left text arms) (Keeps-arms limits left text kept arms) t))
     Grew-if (tree.Else b) p s = absurd p
     Grew-if tree.NoElse p s = absurd p

@@ -10,13 +10,13 @@ use Rattle.commands.specs.BuiltInCommands.{ChangesVariables, WritesText, RunsTex
 use Rattle.device_list.specs.DeviceList.{Effect, computed_by, effect_of}
 use Rattle.rehearse_rules.proofs.TakenOutcomes.{skipped}
 use Rattle.rehearse_terms.specs.declared.shell.Shell.{Shell}
-use Rattle.rehearse_rules.specs.ByShell.{unread, reads_again, leaves_in, status_of_exit, asks_in, question_in, truth_in, fields_in, turns_in, skips_rest, status_of_loop, follows, assigned_in}
-use Rattle.rehearse_rules.specs.Execution.{Limits, Answer, Normal, Exit, Ended, Dry, CutSteps, Size, Request, go_on, set_status, status_when, goes, holds, begin, device, test_effect, text_end, run_text, run_all, command, simple, sized, assign, turns, begin_turn, for_each, exec_script, exec_list, exec_joined, exec_command, exec_arms, exec, Unsupported, assign_local, request_of, test_request, started_text, text_failed}
+use Rattle.rehearse_rules.specs.ByShell.{unread, reads_again, leaves_in, status_of_exit, asks_in, question_in, truth_in, fields_in, turns_in, skips_rest, status_of_loop, follows, assigned_in, follows_turns}
+use Rattle.rehearse_rules.specs.Execution.{Limits, Answer, Normal, Exit, Ended, Dry, CutSteps, Size, Request, go_on, set_status, status_when, goes, holds, begin, device, test_effect, text_end, run_text, run_all, command, simple, sized, assign, turns, begin_turn, for_each, exec_script, exec_list, exec_joined, exec_command, exec_arms, exec, Unsupported, assign_local, request_of, test_request, started_text, text_failed, turns_of, for_words, for_begun, block_skipped}
 use Rattle.rehearse_rules.specs.Needs.{effect_now}
 use Rattle.rehearse_rules.specs.Runs.{state_of}
 use Rattle.rehearse_terms.specs.State.{Text, get, LoggedCommand, State}
 use Rattle.rehearse_rules.specs.Parameters.{parameters_in}
-use Rattle.hushlang_old.specs.TreesByShell.{tree_in, lacks_end_in}
+use Rattle.hushlang_shells.specs.TreesByShell.{tree_in, lacks_end_in}
 
 module _ (P : List LoggedCommand → Type 0) where
   -- it holds of the log
@@ -140,6 +140,9 @@ module _ (P : List LoggedCommand → Type 0) where
     keeps-for name b k last [] s h = h
     keeps-for name b k last (f ∷ fs) s h = keeps-go_on (b (begin_turn limits.shell name f s)) (λ t. for_each limits.shell name b t.memory.status fs t) (k (begin_turn limits.shell name f s) h) (λ t. keeps-for name b k t.memory.status fs t)
 
+    keeps-words : (name : Text) (words : List tree.Word) (b : State → Answer) → KeepsLog b → KeepsLog (for_words limits.shell name words b)
+    keeps-words name words b k s = keeps-sized (turns_in limits.shell (parameters_in s.memory) words) (turns_of limits.shell name b) (λ fs t h. keeps-if (follows_turns limits.shell name fs) (for_each limits.shell name b 0 fs t) (Ended (Unsupported name) t) (keeps-for name b k 0 fs t h) h) s
+
     module _ (left : ℕ) (text : Script → State → Answer) (keeps : (a : Script) → KeepsLog (text a)) where
       mutual
         keeps-script : (a : Script) → KeepsLog (exec_script limits left text a)
@@ -160,14 +163,14 @@ module _ (P : List LoggedCommand → Type 0) where
         keeps-one (tree.Assign pairs) s h = keeps-begin (assign limits.shell pairs) (keeps-assign limits.shell pairs) s h
         keeps-one (tree.If arms) s h = keeps-arms arms s h
         keeps-one (tree.Loop until c b) s h = keeps-turns left until (exec_script limits left text c) (exec_script limits left text b) (keeps-script c) (keeps-script b) 0 s h
-        keeps-one (tree.For name words b) s h = keeps-begin (λ t. sized (turns_in limits.shell (parameters_in t.memory) words) (for_each limits.shell name (exec_script limits left text b) 0) t)
-            (λ t. keeps-sized (turns_in limits.shell (parameters_in t.memory) words) (for_each limits.shell name (exec_script limits left text b) 0) (λ fs. keeps-for name (exec_script limits left text b) (keeps-script b) 0 fs) t) s h
+        keeps-one (tree.For name words b) s h = keeps-begin (λ t. for_words limits.shell name words (exec_script limits left text b) (for_begun limits.shell t))
+            (λ t. keeps-words name words (exec_script limits left text b) (keeps-script b) (for_begun limits.shell t)) s h
 
         keeps-arms : (a : Arms) → KeepsLog (exec_arms limits left text a)
         keeps-arms tree.NoElse s h = h
         keeps-arms (tree.Else b) s h = keeps-script b s h
-        keeps-arms (tree.Arm c b arms) s h = keeps-go_on (exec_script limits left text c s) (λ t. elim (nat_eq t.memory.status 0) [ true ↦ exec_script limits left text b t | false ↦ exec_arms limits left text arms t ]) (keeps-script c s h)
-            (λ t i. keeps-if (nat_eq t.memory.status 0) (exec_script limits left text b t) (exec_arms limits left text arms t) (keeps-script b t i) (keeps-arms arms t i))
+        keeps-arms (tree.Arm c b arms) s h = keeps-go_on (exec_script limits left text c s) (λ t. elim (nat_eq t.memory.status 0) [ true ↦ exec_script limits left text b t | false ↦ exec_arms limits left text arms (block_skipped limits.shell b t) ]) (keeps-script c s h)
+            (λ t i. keeps-if (nat_eq t.memory.status 0) (exec_script limits left text b t) (exec_arms limits left text arms (block_skipped limits.shell b t)) (keeps-script b t i) (keeps-arms arms (block_skipped limits.shell b t) i))
 
     keeps-exec : (left : ℕ) (a : Script) → KeepsLog (exec limits left a)
     keeps-exec zero a = keeps-script zero (λ t s. Ended CutSteps s) (λ b s h. h) a

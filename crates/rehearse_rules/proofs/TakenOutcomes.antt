@@ -9,11 +9,11 @@ use Rattle.hushlang.specs.Tree.{Script, AndOr, Joined, Command, Arms}
 use Rattle.rehearse_terms.specs.State.{Text, get, Memory, State, LoggedCommand, asked_of}
 use Rattle.rehearse_rules.specs.Parameters.{parameters_in}
 use Rattle.hushlang.specs.Expansion.{size, most_bytes}
-use Rattle.hushlang_old.specs.TreesByShell.{tree_in, lacks_end_in}
+use Rattle.hushlang_shells.specs.TreesByShell.{tree_in, lacks_end_in}
 use Rattle.device_list.specs.Called.{Called, BuiltIn, Device, NoCommand, called_by, sets_in}
 use Rattle.commands.specs.BuiltInCommands.{ChangesVariables, WritesText, RunsTexts, Tests, Exits, variables_changed, text_written}
-use Rattle.rehearse_rules.specs.ByShell.{unread, leaves_in, status_of_exit, asks_in, truth_in, fields_in, turns_in, skips_rest, status_of_nothing, status_of_no_block, status_of_loop, follows, assigned_in, reads_again, status_of_text}
-use Rattle.rehearse_rules.specs.Execution.{Limits, Answer, Normal, Exit, Ended, Dry, Ending, CutDevices, CutSteps, Unknown, Size, go_on, remember, set_status, status_when, goes, holds, begin, take_outcome, with_outcome, outcome_when, told, told_again, tell_or_take, device, Request, logged, set_environment, finish, text_end, run_text, run_all, command, simple, sized, assign, turns, begin_turn, for_each, exec_script, exec_list, exec_joined, exec_command, exec_arms, exec, succeeds, Unsupported, assign_local, request_of, test_request, started_text, text_failed}
+use Rattle.rehearse_rules.specs.ByShell.{unread, leaves_in, status_of_exit, asks_in, truth_in, fields_in, turns_in, skips_rest, status_of_nothing, status_of_no_block, status_of_loop, follows, assigned_in, reads_again, status_of_text, follows_turns, status_of_for, status_of_skipped}
+use Rattle.rehearse_rules.specs.Execution.{Limits, Answer, Normal, Exit, Ended, Dry, Ending, CutDevices, CutSteps, Unknown, Size, go_on, remember, set_status, status_when, goes, holds, begin, take_outcome, with_outcome, outcome_when, told, told_again, tell_or_take, device, Request, logged, set_environment, finish, text_end, run_text, run_all, command, simple, sized, assign, turns, begin_turn, for_each, exec_script, exec_list, exec_joined, exec_command, exec_arms, exec, succeeds, Unsupported, assign_local, request_of, test_request, started_text, text_failed, turns_of, for_words, for_begun, block_skipped}
 use Rattle.rehearse_rules.specs.Needs.{effect_now}
 use Rattle.rehearse_rules.specs.Expected.{Answered, asked_in}
 use Rattle.rehearse_terms.specs.declared.shell.Shell.{Shell}
@@ -424,6 +424,18 @@ module _ (limits : Limits) where
       (Keeps-remember bound s (λ m. (begin_turn limits.shell name f (record s { memory = m })).memory) b (k (begin_turn limits.shell name f s)))
       (λ t. Keeps-for name b k t.memory.status fs t)
 
+  pub Keeps-turns_of : (name : Text) (b : State → Answer) → KeepsAll b → (fs : List Text) → KeepsAll (turns_of limits.shell name b fs)
+  Keeps-turns_of name b k fs s = Keeps-if limits.device_bound s (follows_turns limits.shell name fs) (for_each limits.shell name b 0 fs) (Ended (Unsupported name)) (Keeps-for name b k 0 fs s) (Keeps-ended limits.device_bound s (Unsupported name))
+
+  pub Keeps-words : (name : Text) (words : List tree.Word) (b : State → Answer) → KeepsAll b → KeepsAll (λ t. for_words limits.shell name words b (for_begun limits.shell t))
+  Keeps-words name words b k s =
+      Keeps-remember limits.device_bound s (λ m. record m { status = status_of_for limits.shell m.status }) (for_words limits.shell name words b)
+      (let u : State = for_begun limits.shell s in Keeps-sized (turns_in limits.shell (parameters_in u.memory) words) (turns_of limits.shell name b) (Keeps-turns_of name b k) u)
+
+  -- what follows a block that is not run
+  pub Keeps-skip : (b : Script) (f : State → Answer) → KeepsAll f → KeepsAll (λ t. f (block_skipped limits.shell b t))
+  Keeps-skip b f k s = Keeps-remember limits.device_bound s (λ m. record m { status = status_of_skipped limits.shell b m.status }) f (k (block_skipped limits.shell b s))
+
   -- what follows a command that is skipped
   abbrev pub skipped : (State → Answer) → State → Answer
   skipped rest t = elim (skips_rest limits.shell) [ true ↦ Normal t | false ↦ rest t ]
@@ -449,12 +461,12 @@ module _ (limits : Limits) where
       Keeps-one (tree.Assign pairs) s = Keeps-begin (assign limits.shell pairs) (Keeps-assign pairs) s
       Keeps-one (tree.If arms) s = Keeps-arms arms s
       Keeps-one (tree.Loop until c b) s = Keeps-turns left until (exec_script limits left text c) (exec_script limits left text b) (Keeps-script c) (Keeps-script b) 0 s
-      Keeps-one (tree.For name words b) s = Keeps-begin (λ t. sized (turns_in limits.shell (parameters_in t.memory) words) (for_each limits.shell name (exec_script limits left text b) 0) t) (λ t. Keeps-sized (turns_in limits.shell (parameters_in t.memory) words) (for_each limits.shell name (exec_script limits left text b) 0) (λ fs. Keeps-for name (exec_script limits left text b) (Keeps-script b) 0 fs) t) s
+      Keeps-one (tree.For name words b) s = Keeps-begin (λ t. for_words limits.shell name words (exec_script limits left text b) (for_begun limits.shell t)) (Keeps-words name words (exec_script limits left text b) (Keeps-script b)) s
 
       pub Keeps-arms : (a : Arms) → KeepsAll (exec_arms limits left text a)
       Keeps-arms tree.NoElse s = Keeps-normal limits.device_bound s (λ m. record m { status = status_of_no_block limits.shell m.status })
       Keeps-arms (tree.Else b) s = Keeps-script b s
-      Keeps-arms (tree.Arm c b arms) s = Keeps-go_on limits.device_bound s (exec_script limits left text c) (λ t. elim (nat_eq t.memory.status 0) [ true ↦ exec_script limits left text b t | false ↦ exec_arms limits left text arms t ]) (Keeps-script c s) (λ t. Keeps-if limits.device_bound t (nat_eq t.memory.status 0) (exec_script limits left text b) (exec_arms limits left text arms) (Keeps-script b t) (Keeps-arms arms t))
+      Keeps-arms (tree.Arm c b arms) s = Keeps-go_on limits.device_bound s (exec_script limits left text c) (λ t. elim (nat_eq t.memory.status 0) [ true ↦ exec_script limits left text b t | false ↦ exec_arms limits left text arms (block_skipped limits.shell b t) ]) (Keeps-script c s) (λ t. Keeps-if limits.device_bound t (nat_eq t.memory.status 0) (exec_script limits left text b) (λ u. exec_arms limits left text arms (block_skipped limits.shell b u)) (Keeps-script b t) (Keeps-skip b (exec_arms limits left text arms) (Keeps-arms arms) t))
 
   -- a script keeps all this, whatever steps are left
   pub Keeps-exec : (left : ℕ) (a : Script) → KeepsAll (exec limits left a)

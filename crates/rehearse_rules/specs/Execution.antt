@@ -8,13 +8,13 @@ use Rattle.hushlang.specs.Expansion.{size, most_bytes}
 use Rattle.hushlang.specs.declared.tree.Op.{Op}
 use Rattle.hushlang.specs.declared.tree.Op.TheVariants.{And, Or}
 use Rattle.rehearse_terms.specs.Outcomes.{Outcome, Success, Failure, OutcomeWord}
-use Rattle.hushlang_old.specs.TreesByShell.{tree_in, lacks_end_in}
+use Rattle.hushlang_shells.specs.TreesByShell.{tree_in, lacks_end_in}
 use Rattle.rehearse_terms.specs.State.{Text, Variables, get, with_value, Memory, LoggedCommand, answer_in, State}
 use Rattle.rehearse_terms.specs.declared.shell.Shell.{Shell}
 use Rattle.rehearse_rules.specs.Needs.{effect_now}
 pub use Rattle.rehearse_rules.specs.Ending.{Ending, End, CutDevices, CutSteps, Unknown, Syntax, Unsupported, Size, Finished}
 use Rattle.rehearse_rules.specs.Parameters.{parameters_in}
-use Rattle.rehearse_rules.specs.ByShell.{unread, reads_again, leaves_in, status_of_exit, status_of_text, asks_in, question_in, truth_in, truth_if, fields_in, turns_in, skips_rest, status_of_nothing, status_of_no_block, status_of_loop, status_in_turn, follows, assigned_in, locals_in}
+use Rattle.rehearse_rules.specs.ByShell.{unread, reads_again, leaves_in, status_of_exit, status_of_text, asks_in, question_in, truth_in, truth_if, fields_in, turns_in, skips_rest, status_of_nothing, status_of_no_block, status_of_loop, status_in_turn, status_of_for, status_of_skipped, follows, follows_turns, assigned_in, locals_in}
 use Rattle.device_list.specs.DeviceList.{Effect, Devices}
 use Rattle.device_list.specs.Called.{Called, BuiltIn, NoCommand, Device, called_by, sets_in}
 use Rattle.commands.specs.BuiltInCommands.{ChangesVariables, WritesText, RunsTexts, Tests, Exits, variables_changed, text_written}
@@ -215,6 +215,24 @@ for_each shell name body last [] s = Normal (set_status last s)
 for_each shell name body last (f ∷ fs) s =
     go_on (body (begin_turn shell name f s)) (λ t. for_each shell name body t.memory.status fs t)
 
+-- the turns of a `for`, if they are followed
+abbrev pub turns_of : Shell → (name : Text) → (body : State → Answer) → List Text → State → Answer
+turns_of shell name body fs s = elim (follows_turns shell name fs) [
+  | true ↦ for_each shell name body 0 fs s
+  | false ↦ Ended (Unsupported name) s
+]
+
+abbrev pub for_begun : Shell → State → State
+for_begun shell s = set_status (status_of_for shell s.memory.status) s
+
+-- a `for` that has begun finds its words, and then its turns follow
+abbrev pub for_words : Shell → (name : Text) → List tree.Word → (body : State → Answer) → State → Answer
+for_words shell name words body s = sized (turns_in shell (parameters_in s.memory) words) (turns_of shell name body) s
+
+-- a block of an `if` is not run
+abbrev pub block_skipped : Shell → (block : Script) → State → State
+block_skipped shell block s = set_status (status_of_skipped shell block s.memory.status) s
+
 -- ---- execution; `script` is what the tree of a text does to a state
 
 module _ (limits : Limits) where
@@ -314,8 +332,7 @@ module _ (limits : Limits) where
       exec_command (tree.Loop until cond body) s =
           turns limits.shell left until (exec_script cond) (exec_script body) 0 s
       exec_command (tree.For name words body) s =
-          begin (λ t. sized (turns_in limits.shell (parameters_in t.memory) words)
-          (for_each limits.shell name (exec_script body) 0) t) s
+          begin (λ t. for_words limits.shell name words (exec_script body) (for_begun limits.shell t)) s
 
       -- the block after the first condition that ends with status 0, else the `else` block
       pub exec_arms : Arms → State → Answer
@@ -323,7 +340,7 @@ module _ (limits : Limits) where
       exec_arms (tree.Else body) s = exec_script body s
       exec_arms (tree.Arm cond body more) s = go_on (exec_script cond s) (λ t. elim (nat_eq t.memory.status 0) [
         | true ↦ exec_script body t
-        | false ↦ exec_arms more t
+        | false ↦ exec_arms more (block_skipped limits.shell body t)
       ])
 
   -- a script with this many steps left; the texts that `run` starts have one less, which the `run` takes

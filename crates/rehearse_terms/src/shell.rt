@@ -9,4 +9,6 @@ pub enum Shell {
     Old2023,
     /// The old shell of U-Boot 2025.01.
     Old2025,
+    /// The modern shell of U-Boot 2025.01, on a board whose addresses have 64 bits.
+    Modern2025,
 }

@@ -77,6 +77,7 @@ fn shell_of(name: &str) -> anyhow::Result<Shell> {
         "profile" => Ok(Shell::Profile),
         "old-2023.01" => Ok(Shell::Old2023),
         "old-2025.01" => Ok(Shell::Old2025),
+        "modern-2025.01" => Ok(Shell::Modern2025),
         _ => anyhow::bail!("no shell"),
     }
 }

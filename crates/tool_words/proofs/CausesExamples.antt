@@ -4,7 +4,7 @@ use Rattle.clap.proofs.OnLiterals.{clap_on_literals}
 use Rattle.envimage.specs.declared.image.ByteOrder.TheVariants.{Big, Little}
 use Rattle.tool_words.specs.declared.ask.OriginError.TheVariants.{SecondNeedsImage}
 use Rattle.tool_words.specs.Asked.{causing, configured, misnamed, whole}
-use Rattle.rehearse_terms.specs.declared.shell.Shell.TheVariants.{Old2023, Old2025, Profile}
+use Rattle.rehearse_terms.specs.declared.shell.Shell.TheVariants.{Modern2025, Old2023, Old2025, Profile}
 use Rattle.tool_words.specs.CommandLine.{ubtool}
 use Rattle.tool_words.proofs.CommandLineExamples.{AsksFor, IsRefused, IsUnread, read_from, usual_list}
 
@@ -57,6 +57,16 @@ causes_in_newest_old : AsksFor (codes "causes" ∷ codes "-d" ∷ codes "d" ∷ 
     }) Little)
 unfolding clap_on_literals ubtool
 causes_in_newest_old = (refl, refl)
+
+-- causes -d d --shell modern
+causes_in_newest_modern : AsksFor (codes "causes" ∷ codes "-d" ∷ codes "d" ∷ codes "--shell" ∷ codes "modern" ∷ [])
+    (causing usual_list (record {
+      variable = codes "bootcmd";
+      bounds = record { devices = 1000; steps = 1000000; failures = Some 2; shell = Modern2025 };
+      check = false;
+    }) Little)
+unfolding clap_on_literals ubtool
+causes_in_newest_modern = (refl, refl)
 
 -- causes --check -d d --shell old-2023.01 --failures 1
 checked : AsksFor (codes "causes" ∷ codes "--check" ∷ codes "-d" ∷ codes "d" ∷ codes "--shell" ∷ codes "old-2023.01" ∷ codes "--failures" ∷ codes "1" ∷ [])
@@ -129,7 +139,7 @@ signed_cause_failures : IsUnread (codes "causes" ∷ codes "-d" ∷ codes "d" �
 unfolding clap_on_literals ubtool
 signed_cause_failures = (refl, refl)
 
--- causes -d d --shell modern
-causes_in_modern : IsUnread (codes "causes" ∷ codes "-d" ∷ codes "d" ∷ codes "--shell" ∷ codes "modern" ∷ [])
+-- causes -d d --shell modern-2023.01
+causes_in_no_shell : IsUnread (codes "causes" ∷ codes "-d" ∷ codes "d" ∷ codes "--shell" ∷ codes "modern-2023.01" ∷ [])
 unfolding clap_on_literals ubtool
-causes_in_modern = (refl, refl)
+causes_in_no_shell = (refl, refl)

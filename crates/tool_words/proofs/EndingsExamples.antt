@@ -4,7 +4,7 @@ use Rattle.clap.proofs.OnLiterals.{clap_on_literals}
 use Rattle.envimage.specs.declared.image.ByteOrder.TheVariants.{Big, Little}
 use Rattle.tool_words.specs.declared.ask.OriginError.TheVariants.{SecondNeedsImage}
 use Rattle.tool_words.specs.Asked.{configured, ending, misnamed, whole}
-use Rattle.rehearse_terms.specs.declared.shell.Shell.TheVariants.{Old2023, Old2025, Profile}
+use Rattle.rehearse_terms.specs.declared.shell.Shell.TheVariants.{Modern2025, Old2023, Old2025, Profile}
 use Rattle.tool_words.specs.CommandLine.{ubtool}
 use Rattle.tool_words.proofs.CommandLineExamples.{AsksFor, IsRefused, IsUnread, read_from, usual_list}
 
@@ -113,7 +113,19 @@ unfolding clap_on_literals ubtool
 endings_in_newest_old = (refl, refl)
 
 -- endings -d d --shell modern-2025.01
-modern_endings : IsUnread (codes "endings" ∷ codes "-d" ∷ codes "d" ∷ codes "--shell" ∷ codes "modern-2025.01" ∷ [])
+endings_in_modern_2025 : AsksFor (codes "endings" ∷ codes "-d" ∷ codes "d" ∷ codes "--shell" ∷ codes "modern-2025.01" ∷ [])
+    (ending usual_list (record {
+      variable = codes "bootcmd";
+      bounds = record { devices = 1000; steps = 1000000; failures = None; shell = Modern2025 };
+      states = 1000000;
+      names = [];
+      flow = false;
+    }) Little)
+unfolding clap_on_literals ubtool
+endings_in_modern_2025 = (refl, refl)
+
+-- endings -d d --shell modern-2025
+modern_endings : IsUnread (codes "endings" ∷ codes "-d" ∷ codes "d" ∷ codes "--shell" ∷ codes "modern-2025" ∷ [])
 unfolding clap_on_literals ubtool
 modern_endings = (refl, refl)
 

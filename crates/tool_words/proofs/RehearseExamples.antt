@@ -4,7 +4,7 @@ use Rattle.clap.proofs.OnLiterals.{clap_on_literals}
 use Rattle.envimage.specs.declared.image.ByteOrder.TheVariants.{Big, Little}
 use Rattle.tool_words.specs.declared.ask.OriginError.TheVariants.{ImageAndConfig}
 use Rattle.tool_words.specs.Asked.{configured, misnamed, page_with, rehearsing, too_many_devices, whole, word_alone}
-use Rattle.rehearse_terms.specs.declared.shell.Shell.TheVariants.{Old2023, Old2025, Profile}
+use Rattle.rehearse_terms.specs.declared.shell.Shell.TheVariants.{Modern2025, Old2023, Old2025, Profile}
 use Rattle.rehearse_terms.specs.Asking.{Alone, Listed, whole_page}
 use Rattle.tool_words.specs.CommandLine.{ubtool}
 use Rattle.tool_words.proofs.CommandLineExamples.{AsksFor, IsRefused, IsUnread, read_from, usual_list}
@@ -187,8 +187,19 @@ after_in_profile : AsksFor (codes "rehearse" ∷ codes "-d" ∷ codes "d" ∷ co
 unfolding clap_on_literals ubtool
 after_in_profile = (refl, refl)
 
--- rehearse -d d --shell modern
-modern_shell : IsUnread (codes "rehearse" ∷ codes "-d" ∷ codes "d" ∷ codes "--shell" ∷ codes "modern" ∷ [])
+-- rehearse -d d --word 01 --shell modern
+word_in_newest_modern : AsksFor (codes "rehearse" ∷ codes "-d" ∷ codes "d" ∷ codes "--word" ∷ codes "01" ∷ codes "--shell" ∷ codes "modern" ∷ [])
+    (rehearsing usual_list (record {
+      variable = codes "bootcmd";
+      bounds = record { devices = 1000; steps = 1000000; failures = None; shell = Modern2025 };
+      wanted = Alone (codes "01");
+      names = [];
+    }) Little)
+unfolding clap_on_literals ubtool
+word_in_newest_modern = (refl, refl)
+
+-- rehearse -d d --shell modern-2023.01
+modern_shell : IsUnread (codes "rehearse" ∷ codes "-d" ∷ codes "d" ∷ codes "--shell" ∷ codes "modern-2023.01" ∷ [])
 unfolding clap_on_literals ubtool
 modern_shell = (refl, refl)
 

@@ -18,7 +18,7 @@ use Rattle.rehearse_terms.specs.Asking.{Asking, Wanted, Listed, Alone}
 use Rattle.rehearse_terms.specs.declared.wanted.Page.{Page}
 use Rattle.rehearse_terms.specs.Bounds.{BoundsShown, bounds_of, in_shell, run_bounds_of, most_run_devices, most_steps}
 use Rattle.rehearse_terms.specs.declared.shell.Shell.{Shell}
-use Rattle.rehearse_terms.specs.declared.shell.Shell.TheVariants.{Old2023, Old2025, Profile}
+use Rattle.rehearse_terms.specs.declared.shell.Shell.TheVariants.{Modern2025, Old2023, Old2025, Profile}
 use Rattle.tool_words.specs.Numbers.{any_number, byte_of}
 use Rattle.tool_words.specs.declared.ask.ImageAsk.{ImageAsk}
 use Rattle.tool_words.specs.declared.ask.Taking.{Taking}
@@ -264,13 +264,15 @@ bounds_asked rows = bounds_or usual_devices usual_steps rows
 abbrev pub run_bounds_asked : List Row → Option BoundsShown
 run_bounds_asked rows = bounds_or most_run_devices most_steps rows
 
--- the shell of this name; the newest of U-Boot's old shells has a name without its version too
+-- the shell of this name; the newest of U-Boot's old shells has a name without its version too, and so has that of its modern ones
 abbrev pub shell_named : Text → Option Shell
 shell_named name =
     if bytes_eq name (codes "profile") then Some Profile
     else (if bytes_eq name (codes "old-2023.01") then Some Old2023
     else (if bytes_eq name (codes "old-2025.01") then Some Old2025
-    else (if bytes_eq name (codes "old") then Some Old2025 else None)))
+    else (if bytes_eq name (codes "old") then Some Old2025
+    else (if bytes_eq name (codes "modern-2025.01") then Some Modern2025
+    else (if bytes_eq name (codes "modern") then Some Modern2025 else None)))))
 
 -- the shell by whose rules the scripts run, ubtool's own if none is given; nothing if no shell has the name
 abbrev pub shell_of : List Row → Option Shell

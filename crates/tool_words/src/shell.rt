@@ -20,6 +20,8 @@ fn shell_named(name: &str) -> Option<Shell>
         "old-2023.01" => Some(Shell::Old2023),
         "old-2025.01" => Some(Shell::Old2025),
         "old" => Some(Shell::Old2025),
+        "modern-2025.01" => Some(Shell::Modern2025),
+        "modern" => Some(Shell::Modern2025),
         _ => None,
     }
 }
@@ -41,7 +43,7 @@ pub(crate) fn unnamed(alloc: Global, matches: &ArgMatches<'_>) -> UseError
     let name = matches.get_str("shell").unwrap_or("");
     let text = format!(in alloc;
         "error: invalid value '{name}' for '--shell <NAME>'\n  \
-        [possible values: profile, old-2023.01, old-2025.01, old]\n\n\
+        [possible values: profile, old-2023.01, old-2025.01, old, modern-2025.01, modern]\n\n\
         For more information, try '--help'.\n"
     );
     match text {

@@ -195,8 +195,8 @@ const SHELL: Argument<'static> = Argument {
     alias: None,
     required: false,
     value: "NAME",
-    help: "The shell by whose rules the scripts run: profile, old-2023.01, old-2025.01 or old \
-        [default: profile]",
+    help: "The shell by whose rules the scripts run: profile, old-2023.01, old-2025.01, old, \
+        modern-2025.01 or modern [default: profile]",
 };
 
 const WORD: Argument<'static> = Argument {

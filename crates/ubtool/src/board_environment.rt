@@ -16,7 +16,7 @@ fn env_on_board(shell: Shell, env: Env) -> Result<Env, AllocError>
 {
     match shell {
         Shell::Profile => Ok(env),
-        Shell::Old2023 | Shell::Old2025 => env.imported(),
+        Shell::Old2023 | Shell::Old2025 | Shell::Modern2025 => env.imported(),
     }
 }
 

@@ -12,6 +12,7 @@ use Rattle.bootstore_state.specs.declared.frame.At.{At}
 use Rattle.rehearse_machine.specs.declared.next_move.Next.TheVariants as nexts
 use Rattle.rehearse_machine.specs.Places.{GoOn, place, block_frame, moved_to}
 use Rattle.rehearse_machine.specs.Variables.{parameters_at}
+use Rattle.rehearse_rules.specs.Execution.{set_status}
 use Rattle.rehearse_machine.specs.MovesShown.{limits_of, under, IsExpanded}
 use Rattle.rehearse_machine.proofs.StoreMoves.{comes_as}
 use Rattle.rehearse_machine.proofs.NextMoveLemmas.{proceeds, known_before}
@@ -33,6 +34,15 @@ returns-in_ok-clone-in-Enters g c top =
     proceeds (limits_of c.args.devices.now c.args.bounds) c.enter.result old (g.S.Store.record_of c.enter.new.store) (nexts.Enters c.in-Enters.at c.in-Enters.script) c.args.next f c.in-Enters.is
     (comes_as c.enter.result old (g.S.Store.record_of c.enter.new.store) (GoOn (c.block.result ∷ moved_to c.in-Enters.at f ∷ under old.present)) _
     (λ s. ap (λ (x : RunningFrame). GoOn (x ∷ moved_to c.in-Enters.at f ∷ under old.present) s) child) (c.enter.ensures f top))
+
+pub returns-in_ok-clone-in-Skips : goal.returns-in_ok-clone-in-Skips
+returns-in_ok-clone-in-Skips g c top =
+    let old = g.S.Store.record_of c.args.store.now in
+    let f = c.args.frame.now in
+    let child = c.block-in-Skips.ensures ∙ ap (λ (x : Code). block_frame (view.script x)) c.in_ok-clone-in-Skips.ensures.cases in
+    proceeds (limits_of c.args.devices.now c.args.bounds) c.skip.result old (g.S.Store.record_of c.skip.new.store) (nexts.Skips c.in-Skips.at c.in-Skips.status c.in-Skips.script) c.args.next f c.in-Skips.is
+    (comes_as c.skip.result old (g.S.Store.record_of c.skip.new.store) (λ s. GoOn (c.block-in-Skips.result ∷ moved_to c.in-Skips.at f ∷ under old.present) (set_status c.in-Skips.status s)) _
+    (λ s. ap (λ (x : RunningFrame). GoOn (x ∷ moved_to c.in-Skips.at f ∷ under old.present) (set_status c.in-Skips.status s)) child) (c.skip.ensures f top))
 
 pub returns-in-Some : goal.returns-in-Some
 returns-in-Some g c top =
@@ -62,7 +72,7 @@ returns-in-Assigns g c top =
 
 pub returns-in-Loops : goal.returns-in-Loops
 returns-in-Loops g c top =
-    proceeds (limits_of c.args.devices.now c.args.bounds) c.begin_for.result _ _ (nexts.Loops c.in-Loops.words) c.args.next c.args.frame.now c.in-Loops.is (c.begin_for.ensures c.args.devices.now top)
+    proceeds (limits_of c.args.devices.now c.args.bounds) c.begin_for.result _ _ (nexts.Loops c.in-Loops.name c.in-Loops.words) c.args.next c.args.frame.now c.in-Loops.is (c.begin_for.ensures c.args.devices.now top)
 
 pub call-requires-clause-named : goal.call-requires-clause-named
 call-requires-clause-named g c fit =

@@ -12,6 +12,7 @@ use Rattle.bootstore_state.specs.declared.frame.At.{At}
 use Rattle.rehearse_machine.specs.declared.next_move.Next.TheVariants as nexts
 use Rattle.rehearse_machine.specs.Places.{GoOn, place, block_frame, moved_to}
 use Rattle.rehearse_machine.specs.Variables.{parameters_at}
+use Rattle.rehearse_rules.specs.Execution.{set_status}
 use Rattle.rehearse_machine.specs.MovesShown.{limits_of, under, IsExpanded}
 use Rattle.rehearse_machine.proofs.StoreMoves.{comes_as}
 use Rattle.rehearse_machine.proofs.NextMoveLemmas.{is_top, moves_on, known_before}
@@ -43,6 +44,17 @@ returns-in-Enters g c =
     moves_on (limits_of c.args.devices.now c.args.bounds) c.enter.result old new (nexts.Enters c.in-Enters.at c.in-Enters.script) c.next_of.result c.shell-shell.result c.get_status-status.result f c.in-Enters.is top (sym c.shell-shell.ensures) (sym c.get_status-status.ensures) c.next_of.ensures.next
     (comes_as c.enter.result old new (GoOn (c.block-child.result ∷ moved_to c.in-Enters.at f ∷ under old.present)) _
     (λ s. ap (λ (x : RunningFrame). GoOn (x ∷ moved_to c.in-Enters.at f ∷ under old.present) s) child) (c.enter.ensures f top))
+
+pub returns-in-Skips : goal.returns-in-Skips
+returns-in-Skips g c =
+    let old = g.S.Store.record_of c.args.store.now in
+    let new = g.S.Store.record_of c.skip.new.store in
+    let f = c.in-Some.top.now in
+    let top = is_top old.present.frames f c.in-Some.ensures in
+    let child = c.block-child-in-Skips.ensures ∙ ap (λ (x : Code). block_frame (view.script x)) c.in_ok-clone-in-Skips.ensures.cases in
+    moves_on (limits_of c.args.devices.now c.args.bounds) c.skip.result old new (nexts.Skips c.in-Skips.at c.in-Skips.status c.in-Skips.script) c.next_of.result c.shell-shell.result c.get_status-status.result f c.in-Skips.is top (sym c.shell-shell.ensures) (sym c.get_status-status.ensures) c.next_of.ensures.next
+    (comes_as c.skip.result old new (λ s. GoOn (c.block-child-in-Skips.result ∷ moved_to c.in-Skips.at f ∷ under old.present) (set_status c.in-Skips.status s)) _
+    (λ s. ap (λ (x : RunningFrame). GoOn (x ∷ moved_to c.in-Skips.at f ∷ under old.present) (set_status c.in-Skips.status s)) child) (c.skip.ensures f top))
 
 pub returns-in-Some-fields : goal.returns-in-Some-fields
 returns-in-Some-fields g c =

@@ -3,7 +3,7 @@ use Rattle.std.specs.Prelude.{option_map}
 use Rattle.hushlang.specs.TreesShown as view
 use Rattle.bootstore_state.specs.Moment.{environment_of}
 use Rattle.bootstore_state.specs.Record.{Record}
-use Rattle.hushlang_old.specs.TreesByShell.{tree_in}
+use Rattle.hushlang_shells.specs.TreesByShell.{tree_in}
 use Rattle.rehearse_terms.specs.declared.shell.Shell.{Shell}
 use Rattle.rehearse_rules.specs.Execution.{Ending}
 use Rattle.rehearse_rules.specs.ByShell.{unread}

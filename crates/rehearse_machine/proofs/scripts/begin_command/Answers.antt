@@ -7,7 +7,7 @@ use Rattle.std.specs.Prelude.{Vec}
 use Rattle.std.specs.declared.alloc.Global.{Global}
 use Rattle.hushlang.specs.declared.tree.Word.{Word}
 use Rattle.rehearse_rules.specs.Parameters.{parameters_in}
-use Rattle.rehearse_machine.specs.Places.{place_arms, place_command, place_counted, place_fitting, for_begins}
+use Rattle.rehearse_machine.specs.Places.{place_arms, place_command, place_counted, place_fitting, for_begins, place_for}
 use Rattle.rehearse_machine.proofs.ArmLemmas.{Arm}
 use Rattle.rehearse_machine.proofs.CommandLemmas.{says_if, says_loop, says_simple, says_assign, says_for}
 use Rattle.rehearse_machine.proofs.scripts.begin_command.Goals as goal
@@ -34,5 +34,6 @@ returns-in-Loop-clause-next c limits fs s own e =
 
 pub returns-in-For-clause-next : goal.returns-in-For-clause-next
 returns-in-For-clause-next c limits fs s own e =
-    ap (λ (x : List Word). place_counted limits (λ t. place_fitting (turns_in limits.shell (parameters_in t.memory) (map view.word x)) (λ found. for_begins found c.args.frame.now fs) t) s) c.deref-in-For.ensures.value
+    ap (λ (x : List ℕ). place_counted limits (place_for limits.shell x (map view.word c.deref-in-For-2.result.now) c.args.frame.now fs) s) c.deref-in-For.ensures.value
+    ∙ ap (λ (x : List Word). place_counted limits (place_for limits.shell c.in-For.name.items (map view.word x) c.args.frame.now fs) s) c.deref-in-For-2.ensures.value
     ∙ sym (ap (λ (x : Command). place_command limits x c.args.frame.now fs s) (says_for c.args.command.now c.in-For.name c.in-For.words c.in-For.body c.in-For.is))

@@ -7,7 +7,7 @@ use Rattle.text.specs.TextsShown.{bytes_of_words}
 use Rattle.bootstore_state.specs.declared.frame.At.{At}
 use Rattle.rehearse_machine.specs.Places.{place}
 use Rattle.rehearse_machine.proofs.ForLemmas.{no_words, some_words, values_are, for_ends, for_turns}
-use Rattle.rehearse_machine.proofs.simple.begin_turns.Goals as goal
+use Rattle.rehearse_machine.proofs.simple.start_turns.Goals as goal
 
 pub returns-then-is_empty : goal.returns-then-is_empty
 returns-then-is_empty g c top =

@@ -2,10 +2,12 @@
 ghost use Rattle.std.specs.Prelude.{◌≡◌, IfOk, option_map};
 ghost use Rattle.hushlang.specs.TreesShown as view;
 ghost use Rattle.hushlang.specs.Trees.{tree_of};
-ghost use Rattle.hushlang_old.specs.TreesByShell.{lacks_end_in, tree_in};
+ghost use Rattle.hushlang_modern.specs.ModernTrees.{modern_text};
+ghost use Rattle.hushlang_shells.specs.TreesByShell.{has_failed, lacks_end_in, tree_in, tree_read};
 
-use crate::old_trees::{lacks_end, read_old};
 use hushlang::{Script, SyntaxError, parse};
+use hushlang_modern::{ModernText, Stop, read_modern};
+use hushlang_old::{lacks_end, read_old};
 use rehearse_terms::Shell;
 use std::alloc::{AllocError, Global};
 
@@ -22,6 +24,26 @@ fn read_profile(alloc: Global, text: &[u8]) -> Result<Option<Script>, AllocError
     }
 }
 
+/// The script of a text as U-Boot's modern shell reads it, if it has one.
+fn read_in_modern(alloc: Global, text: &[u8]) -> Result<Option<Script>, AllocError>
+    ensures { IfOk result (λ found. option_map view.script found ≡ tree_read (modern_text text.now)) }
+{
+    match read_modern(alloc, text)? {
+        ModernText::Read(script) => Ok(Some(script)),
+        ModernText::Unread(_) => Ok(None),
+    }
+}
+
+/// Whether U-Boot's modern shell finds a fault in a text that it only tells.
+fn fails_in_modern(alloc: Global, text: &[u8]) -> Result<bool, AllocError>
+    ensures { IfOk result (λ fails. fails ≡ has_failed (modern_text text.now)) }
+{
+    match read_modern(alloc, text)? {
+        ModernText::Unread(Stop::Fails) => Ok(true),
+        ModernText::Unread(_) | ModernText::Read(_) => Ok(false),
+    }
+}
+
 /// The script of a text, if the shell can read it.
 pub fn read_text(alloc: Global, shell: Shell, text: &[u8]) -> Result<Option<Script>, AllocError>
     ensures { IfOk result (λ found. option_map view.script found ≡ tree_in shell text.now) }
@@ -30,6 +52,7 @@ pub fn read_text(alloc: Global, shell: Shell, text: &[u8]) -> Result<Option<Scri
         Shell::Profile => read_profile(alloc, text),
         Shell::Old2023 => read_old(alloc, false, text),
         Shell::Old2025 => read_old(alloc, true, text),
+        Shell::Modern2025 => read_in_modern(alloc, text),
     }
 }
 
@@ -42,5 +65,6 @@ pub fn text_lacks_end(alloc: Global, shell: Shell, text: &[u8]) -> Result<bool, 
         Shell::Profile => Ok(false),
         Shell::Old2023 => lacks_end(alloc, false, text),
         Shell::Old2025 => lacks_end(alloc, true, text),
+        Shell::Modern2025 => fails_in_modern(alloc, text),
     }
 }

@@ -1,7 +1,7 @@
 use Rattle.std.proofs.Common.{sym}
 use Rattle.hushlang.specs.TreesShown as view
 use Rattle.hushlang.proofs.TreeLemmas.{trees_are_read, refused_texts}
-use Rattle.hushlang_old.proofs.trees_by_shell.read_profile.Goals as goal
+use Rattle.hushlang_shells.proofs.trees_by_shell.read_profile.Goals as goal
 
 pub returns-in-Ok : goal.returns-in-Ok
 returns-in-Ok c = sym ((trees_are_read c.args.text.now (view.script c.in-Ok.script)).1 c.in-Ok.ensures.tree)

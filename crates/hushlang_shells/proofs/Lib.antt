@@ -1,0 +1,2 @@
+pub mod TreeByShellLemmas
+mod TreesByShellExamples

@@ -1,0 +1,87 @@
+-- What U-Boot's modern shell does, computed. The expected values are those of that shell of U-Boot 2025.01.
+use Rattle.std.proofs.Common.{◌≡◌, List, [], ◌∷◌, codes, refl, map}
+use Rattle.rehearse_terms.specs.State.{Text}
+use Rattle.rehearse_terms.specs.declared.shell.Shell.TheVariants.{Modern2025}
+use Rattle.rehearse_rules.specs.Execution.{Limits, End, Unsupported}
+use Rattle.rehearse_rules.proofs.ExampleRehearsals.{only_load, limits, bootcmd, bootcmd_among, Told, told_of}
+
+abbrev in_modern : Limits
+in_modern = record (limits only_load 2 10000) { shell = Modern2025 }
+
+-- what texts write and how they end
+abbrev by_modern : List Text → List Told
+by_modern texts = map (λ text. told_of (bootcmd in_modern text)) texts
+
+-- operators of a list have one rank, and a command that is skipped keeps the status
+skipped_commands : by_modern (codes "false && echo a || echo b; echo c" ∷ codes "true || echo a && echo b" ∷ codes "false && true || true" ∷ [])
+    ≡ (codes "b\nc\n", End 0) ∷ (codes "b\n", End 0) ∷ ([], End 0) ∷ []
+unfolding told_of
+skipped_commands = refl
+
+words_of_nothing : by_modern (codes "false; $none; echo $?" ∷ [])
+    ≡ (codes "1\n", End 0) ∷ []
+unfolding told_of
+words_of_nothing = refl
+
+-- a block of an `if` that is not run sets the status 0 if it has a command, also in front of `else` and of the next condition
+blocks_that_are_skipped : by_modern (codes "if false; then true; elif false; then true; fi; echo $?" ∷ codes "if false; then; fi; echo $?" ∷ codes "if false; then true; elif false; then; fi; echo $?" ∷ codes "if false; then true; else echo $?; fi" ∷ codes "if false; then true; elif test $? = 0; then echo b; fi" ∷ codes "if false; then true; else; fi; echo $?" ∷ [])
+    ≡ (codes "0\n", End 0) ∷ (codes "1\n", End 0) ∷ (codes "1\n", End 0) ∷ (codes "0\n", End 0) ∷ (codes "b\n", End 0) ∷ (codes "0\n", End 0) ∷ []
+unfolding told_of
+blocks_that_are_skipped = refl
+
+-- a loop that its condition has ended has the status 0
+loops_that_end : by_modern (codes "while false; do true; done; echo $?" ∷ codes "x=a; until test $x = b; do x=b; false; done; echo $?" ∷ [])
+    ≡ (codes "0\n", End 0) ∷ (codes "0\n", End 0) ∷ []
+unfolding told_of
+loops_that_end = refl
+
+-- a `for` sets the status 0 before its words are found; a turn keeps that of the body before it
+turns_of_a_for : by_modern (codes "for i in a b; do echo $?; false; done" ∷ codes "false; for i in $? $none; do echo $i; done; echo $?" ∷ codes "false; for i in; do true; done; echo $?" ∷ codes "false; for i in $none; do true; done; echo $?" ∷ [])
+    ≡ (codes "0\n1\n", End 1) ∷ (codes "0\n0\n", End 0) ∷ (codes "0\n", End 0) ∷ (codes "0\n", End 0) ∷ []
+unfolding told_of
+turns_of_a_for = refl
+
+-- values are not read again, and are cut outside double quotes alone
+values : by_modern (codes "x='\"a  b\"'; echo $x" ∷ codes "x='#a'; echo b $x c" ∷ codes "x='a b'; for i in \"$x\" c; do echo $i; done" ∷ [])
+    ≡ (codes "\"a b\"\n", End 0) ∷ (codes "b #a c\n", End 0) ∷ (codes "a b\nc\n", End 0) ∷ []
+unfolding told_of
+values = refl
+
+-- `test` is that of U-Boot 2025.01
+truths : by_modern (codes "test $none = v; echo $?" ∷ codes "test a = b c; echo $?" ∷ [])
+    ≡ (codes "0\n", End 0) ∷ (codes "0\n", End 0) ∷ []
+unfolding told_of
+truths = refl
+
+-- an empty value is assigned; in front of a command no assignment is made
+assignments : by_modern (codes "x=a; x=; echo $?$x; x=$none; echo $?$x" ∷ codes "x=1 echo a; echo $x" ∷ [])
+    ≡ (codes "0\n0\n", End 0) ∷ (codes "a\n\n", End 0) ∷ []
+unfolding told_of
+assignments = refl
+
+-- `''` is no word, and a word with a byte of a pattern keeps the backslashes that quotes have put in
+words : by_modern (codes "echo a '' \"\" b" ∷ codes "echo a*\\b \"x-y\"*" ∷ [])
+    ≡ (codes "a  b\n", End 0) ∷ (codes "a*\\b x\\-y*\n", End 0) ∷ []
+unfolding told_of
+words = refl
+
+-- a text of `run` with a fault that the shell tells has the status 1, and nothing of it is run; at one by which it gives up the run ends
+abbrev started : Text → Text → Told
+started t text = told_of (bootcmd_among in_modern ((codes "t", t) ∷ []) text)
+
+faults : started (codes "echo b; if true; then echo a") (codes "run t; echo $?; run t || echo c") ∷ started (codes "echo b; fi") (codes "run t") ∷ started (codes "false") (codes "run t; echo $?") ∷ []
+    ≡ (codes "1\nc\n", End 0) ∷ ([], Unsupported (codes "t")) ∷ (codes "1\n", End 0) ∷ []
+unfolding told_of
+faults = refl
+
+-- NAME=VALUE of a `for` that fills a block of memory, of 24 bytes or 40; before any turn the run ends
+filled_blocks : by_modern (codes "for i in aaaaaaaaaaaaaaaaaaaaa; do echo b; done" ∷ codes "for i in a aaaaaaaaaaaaaaaaaaaaaa; do echo b; done" ∷ codes "for i in aaaaaaaaaaaaaaaaaaaaaaaaaaaaaaaaaaaaaa; do echo b; done" ∷ codes "for i in aaaaaa; do echo b; done" ∷ [])
+    ≡ (codes "b\n", End 0) ∷ ([], Unsupported (codes "i")) ∷ ([], Unsupported (codes "i")) ∷ (codes "b\n", End 0) ∷ []
+unfolding told_of
+filled_blocks = refl
+
+-- calls that are not followed: `exit`, an option of `setenv`, and one that changes the text that the board runs
+calls : by_modern (codes "echo a; exit 3" ∷ codes "echo a; setenv -f b c" ∷ codes "setenv b c; echo $b; setenv bootcmd d" ∷ codes "echo 1 2 3 4 5 6 7 8 9 a b c d e f g" ∷ [])
+    ≡ (codes "a\n", Unsupported (codes "exit")) ∷ (codes "a\n", Unsupported (codes "setenv")) ∷ (codes "c\n", Unsupported (codes "setenv")) ∷ (codes "1 2 3 4 5 6 7 8 9 a b c d e f g\n", End 0) ∷ []
+unfolding told_of
+calls = refl
