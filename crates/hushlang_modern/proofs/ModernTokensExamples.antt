@@ -3,7 +3,7 @@ use Rattle.std.proofs.Common.{◌≡◌, ℕ, Bool, true, false, List, [], ◌�
 use Rattle.std.specs.Prelude.{codes}
 use Rattle.hushlang.specs.Tree.{Piece, Bytes, Mark, Var, Status}
 use Rattle.hushlang.specs.declared.tree.Op.TheVariants.{And, Or}
-use Rattle.hushlang_modern.specs.ModernTokens.{FoundTokens, Token, Word, NewLine, Semicolon, Joins, modern_tokens, read, read_open}
+use Rattle.hushlang_modern.specs.ModernTokens.{FoundTokens, Token, Word, NewLine, Semicolon, Ampersand, Joins, modern_tokens, read, read_open}
 use Rattle.hushlang_modern.specs.declared.stop.Stop.TheVariants.{Fails, Panics, Unsupported}
 
 -- a word without quotes, one with them, and one that is an assignment
@@ -23,9 +23,11 @@ abbrev text : List ℕ → Piece
 text bytes = Bytes bytes
 
 -- separators, operators and comments
-signs : map modern_tokens (codes "a && b||c;\n#d" ∷ codes "a#b # \\\nc" ∷ codes "a\\\nb \\\n" ∷ [])
+signs : map modern_tokens (codes "a && b||c;\n#d" ∷ codes "a#b # \\\nc" ∷ codes "a\\\nb \\\n" ∷ codes "a&b &\"c\"&" ∷ codes "a&\\" ∷ [])
     ≡ whole (bare (text (codes "a") ∷ []) ∷ Joins And ∷ bare (text (codes "b") ∷ []) ∷ Joins Or ∷ bare (text (codes "c") ∷ []) ∷ Semicolon ∷ NewLine ∷ [])
-    ∷ whole (bare (text (codes "a#b") ∷ []) ∷ NewLine ∷ bare (text (codes "c") ∷ []) ∷ []) ∷ whole (bare (text (codes "ab") ∷ []) ∷ []) ∷ []
+    ∷ whole (bare (text (codes "a#b") ∷ []) ∷ NewLine ∷ bare (text (codes "c") ∷ []) ∷ []) ∷ whole (bare (text (codes "ab") ∷ []) ∷ [])
+    ∷ whole (bare (text (codes "a") ∷ []) ∷ Ampersand ∷ bare (text (codes "b") ∷ []) ∷ Ampersand ∷ quoted (text (codes "c") ∷ []) ∷ Ampersand ∷ [])
+    ∷ record { tokens = bare (text (codes "a") ∷ []) ∷ []; stop = Some Unsupported; quoted = false } ∷ []
 unfolding modern_tokens read read_open
 signs = refl
 
@@ -42,6 +44,15 @@ variables : map modern_tokens (codes "$a-${b#}$?" ∷ codes "\"$a b$?\"$ $" ∷ 
     ∷ whole (bare (Var (codes "_1") true ∷ text (codes ".") ∷ Status ∷ []) ∷ []) ∷ []
 unfolding modern_tokens read read_open
 variables = refl
+
+-- an operator in braces is the last byte of the name
+operators : map modern_tokens (codes "${a:-b}\"${b#%}c\" ${d" ∷ codes "${a+$b}${c?" ∷ codes "${a:\"b\"}" ∷ codes "\"${a-" ∷ codes "${a:/" ∷ codes "${a=" ∷ [])
+    ≡ record { tokens = quoted (Var (codes "a:") true ∷ text (codes "-b}") ∷ Mark ∷ Var (codes "b#%") false ∷ text (codes "}c") ∷ []) ∷ []; stop = Some Panics; quoted = false }
+    ∷ whole (bare (Var (codes "a+") true ∷ Var (codes "b") true ∷ text (codes "}") ∷ Var (codes "c?") true ∷ []) ∷ [])
+    ∷ whole (quoted (Var (codes "a:") true ∷ text (codes "b}") ∷ []) ∷ []) ∷ record { tokens = []; stop = Some Fails; quoted = true }
+    ∷ record { tokens = []; stop = Some Unsupported; quoted = false } ∷ record { tokens = []; stop = Some Unsupported; quoted = false } ∷ []
+unfolding modern_tokens read read_open
+operators = refl
 
 -- assignments
 assignments : map modern_tokens (codes "a=b=c 'd'=\"e\" 1=f" ∷ codes "\"a\"=b $c=d \\e=f g\\=h" ∷ [])

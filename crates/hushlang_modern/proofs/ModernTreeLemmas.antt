@@ -11,7 +11,7 @@ use Rattle.hushlang_old.specs.declared.reserved.Reserved.{Reserved}
 use Rattle.hushlang_old.specs.declared.reserved.Reserved.TheVariants as r
 use Rattle.hushlang_old.proofs.NestLemmas as nesting
 use Rattle.hushlang_old.proofs.NestLemmas.{IsNest, IsGone}
-use Rattle.hushlang_modern.specs.ModernTokens.{FoundWord, Token, Word, NewLine, Semicolon, Joins, FoundTokens, modern_tokens}
+use Rattle.hushlang_modern.specs.ModernTokens.{FoundWord, Token, Word, NewLine, Semicolon, Ampersand, Joins, FoundTokens, modern_tokens}
 use Rattle.hushlang_modern.specs.ModernWords.{word_of, is_sure, reserved_in, is_sign, name_in, is_strange, is_assignment, value_of, is_hazard}
 use Rattle.hushlang_modern.specs.ModernTrees.{ModernText, Read, Unread, Building, nothing_built, part_in, Step, Goes, Stops, has_values, has_words, has_begun, has_command, command_of, without_words, command_ended, opened, needs_command, gone_to, goes_on, reserved_read, with_word, with_assignment, word_begun, command_begun, plain_word, first_word, command_word, named, word_at, all_ended, list_separated, words_ended, end_at, joined_by, read_token, read_tokens, text_in, text_of_step, text_of_tokens, modern_text}
 use Rattle.hushlang_modern.specs.declared.stop.Stop.{Stop}
@@ -50,7 +50,7 @@ command_ended_building b h =
 
 joined_building : (op : Op) (b : Building) → IsBuilding b → IsBuilding (joined_by op b)
 joined_building op b h =
-    one_building (has_command b) (record (command_ended b) { nest = nests.operator_read op (command_ended b).nest }) b
+    one_building (has_command b) (record (command_ended b) { nest = nests.operator_read op (command_ended b).nest; plain = false }) b
     (nesting.joined op (command_ended b).nest (command_ended_building b h)) h
 
 all_ended_building : (b : Building) → IsBuilding b → IsBuilding (all_ended b)
@@ -74,7 +74,7 @@ goes_by word b h =
 reserved_by : (word : Reserved) (b : Building) → IsBuilding b → MayBe (reserved_read word b)
 reserved_by word b h =
     either (nests.begins word) (opened word b) (goes_on word b)
-    (either (nests.is_full b.nest || b.closed) (Stops Unsupported) (Goes (record b { nest = nests.begun word b.nest; fresh = true }))
+    (either (nests.is_full b.nest || b.closed) (Stops Unsupported) (Goes (record b { nest = nests.begun word b.nest; fresh = true; plain = false }))
     tt (nesting.opened word b.nest h))
     (goes_by word b h)
 
@@ -139,6 +139,8 @@ unfolding read_token
 token_by (Word w) b h = word_by (part_in b) w b h
 token_by NewLine b h = end_by (part_in b) true b h
 token_by Semicolon b h = end_by (part_in b) false b h
+token_by Ampersand b h =
+    either (nests.is_header (part_in b) || not b.plain) (Stops Unsupported) (Goes (list_separated b)) tt (separated_building b h)
 token_by (Joins op) b h = either (nests.is_header (part_in b)) (Stops Unsupported) (Goes (joined_by op b)) tt (joined_building op b h)
 
 next_by : (next : Step) (tokens : List Token) → ((b : Building) → IsBuilding b → MayBe (read_tokens tokens b)) → MayBe next → MayBe (elim next [ Stops stop ↦ Stops stop | Goes b ↦ read_tokens tokens b ])

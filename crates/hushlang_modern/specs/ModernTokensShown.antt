@@ -18,6 +18,7 @@ abbrev pub token : Token → says.Token
 token (code.Word w) = says.Word (word w)
 token code.NewLine = says.NewLine
 token code.Semicolon = says.Semicolon
+token code.Ampersand = says.Ampersand
 token (code.Joins op) = says.Joins op
 
 abbrev pub found : FoundTokens → says.FoundTokens
@@ -32,6 +33,7 @@ place places.Opened name = says.Opened
 place places.Dollar name = says.Dollar
 place places.Name name = says.Name name
 place places.Brace name = says.Brace name
+place places.Operator name = says.Operator name
 place places.Hash name = says.Hash
 place places.Comment name = says.Comment
 place (places.Joint op) name = says.Joint op
@@ -45,6 +47,9 @@ in_name = places.Name
 
 abbrev pub in_brace : Place
 in_brace = places.Brace
+
+abbrev pub behind_operator : Place
+behind_operator = places.Operator
 
 abbrev pub reading : TextReading → says.Reading
 reading r = record {

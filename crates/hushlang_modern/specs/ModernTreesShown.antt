@@ -16,6 +16,7 @@ building b = record {
   words = map tokens.word b.words.items;
   closed = b.closed;
   fresh = b.fresh;
+  plain = b.plain;
 }
 
 -- how the reading stops, or what is built

@@ -20,8 +20,9 @@ use std::alloc::{AllocError, Global};
 use std::mem;
 
 /// The block on the way and the compound commands that are open; the assignments on the way; the words
-/// on the way; whether a compound command has just ended; and whether the next word may be the first
-/// one behind `if`, `while` or `until` to have a byte.
+/// on the way; whether a compound command has just ended; whether the next word may be the first one
+/// behind `if`, `while` or `until` to have a byte; and whether the list on the way has no operator, and
+/// is the first of the text or behind another one of its block.
 #[derive(Drop)]
 pub(crate) struct Building {
     alloc: Global,
@@ -30,6 +31,7 @@ pub(crate) struct Building {
     words: Vec<FoundWord>,
     closed: bool,
     fresh: bool,
+    plain: bool,
 }
 
 impl Building {
@@ -44,6 +46,7 @@ impl Building {
             words: Vec::new(alloc),
             closed: false,
             fresh: false,
+            plain: true,
         }
     }
 
@@ -97,6 +100,7 @@ impl Building {
         }
         self.nest.begin(word)?;
         self.fresh = true;
+        self.plain = false;
         Ok(None)
     }
 
@@ -116,6 +120,7 @@ impl Building {
             }
             Gone::Astray => return Ok(Some(Stop::Panics)),
         }
+        self.plain = false;
         Ok(None)
     }
 
@@ -284,6 +289,7 @@ impl Building {
         }
         self.end_command()?;
         self.nest.set_operator(op);
+        self.plain = false;
         Ok(())
     }
 
@@ -305,6 +311,7 @@ impl Building {
             ≡ says.all_ended (shown.building self.old)) }
     {
         self.end_command()?;
+        self.plain = true;
         self.nest.end_list()
     }
 
@@ -342,6 +349,18 @@ impl Building {
         Ok(None)
     }
 
+    /// A single `&`.
+    fn end_at_ampersand(&mut self) -> Result<Option<Stop>, AllocError>
+        ensures { IfOk result (λ stop. says.ampersand_in (shown.building self.old)
+            ≡ shown.unless stop (shown.building self.new)) }
+    {
+        if is_header(self.nest.part()) || !self.plain {
+            return Ok(Some(Stop::Unsupported));
+        }
+        self.separate()?;
+        Ok(None)
+    }
+
     /// Reads a token. The answer is how the reading stops there, if it does.
     #[tactic(auto, unfolding(crate::specs::ModernTrees::read_token))]
     pub(crate) fn read_token(&mut self, token: Token) -> Result<Option<Stop>, AllocError>
@@ -352,6 +371,7 @@ impl Building {
             Token::Word(word) => self.read_word(word),
             Token::NewLine => self.end(true),
             Token::Semicolon => self.end(false),
+            Token::Ampersand => self.end_at_ampersand(),
             Token::Joins(op) => self.join(op),
         }
     }

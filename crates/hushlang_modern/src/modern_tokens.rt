@@ -32,6 +32,8 @@ pub(crate) enum Token {
     NewLine,
     /// `;`
     Semicolon,
+    /// A single `&`.
+    Ampersand,
     /// `&&` or `||`.
     Joins(Op),
 }
@@ -53,6 +55,8 @@ enum Place {
     Name,
     /// The byte behind `${` and some bytes.
     Brace,
+    /// The byte behind an operator in braces, which ends the name.
+    Operator,
     /// The first byte of a comment.
     Hash,
     /// A further byte of a comment.
@@ -460,8 +464,13 @@ impl TextReading {
         if byte == b'}' {
             return self.end_brace();
         }
-        if is_foreign(byte) || is_operator(byte) || !begins_with_name(&self.name) {
+        if is_foreign(byte) || byte == b'=' || !begins_with_name(&self.name) {
             self.place = Place::Stopped(Stop::Unsupported);
+            return Ok(());
+        }
+        if is_operator(byte) {
+            self.name.push(byte)?;
+            self.place = Place::Operator;
             return Ok(());
         }
         if is_name_byte(byte) || byte == b'#' {
@@ -482,6 +491,21 @@ impl TextReading {
             return self.read_brace_first(byte);
         }
         self.read_brace_next(byte)
+    }
+
+    /// Reads the byte behind an operator in braces.
+    fn read_operator(&mut self, byte: u8) -> Result<(), AllocError>
+        requires { self.old.place ≡ shown.behind_operator }
+        ensures { OnOk result (shown.reading self.new
+            ≡ says.read_operator self.old.name.items byte (shown.reading self.old)) }
+    {
+        if byte == b'/' {
+            self.place = Place::Stopped(Stop::Unsupported);
+            return Ok(());
+        }
+        self.place = Place::Open;
+        self.push_variable()?;
+        self.read_open(byte)
     }
 
     /// Reads a byte of a comment.
@@ -509,6 +533,20 @@ impl TextReading {
         self.read_comment(byte)
     }
 
+    /// Reads the byte behind a single `&` or `|`.
+    fn read_single_joint(&mut self, op: Op, byte: u8) -> Result<(), AllocError>
+        ensures { OnOk result (shown.reading self.new
+            ≡ says.read_single_joint op byte (shown.reading self.old)) }
+    {
+        if op == Op::Or || byte == b'\\' {
+            self.place = Place::Stopped(Stop::Unsupported);
+            return Ok(());
+        }
+        self.place = Place::Open;
+        self.push_token(Token::Ampersand)?;
+        self.read_open(byte)
+    }
+
     /// Reads the byte behind the first `&` or `|`.
     fn read_joint(&mut self, op: Op, byte: u8) -> Result<(), AllocError>
         ensures { OnOk result
@@ -518,8 +556,7 @@ impl TextReading {
             self.place = Place::Open;
             return self.push_token(Token::Joins(op));
         }
-        self.place = Place::Stopped(Stop::Unsupported);
-        Ok(())
+        self.read_single_joint(op, byte)
     }
 
     /// Reads a byte.
@@ -535,6 +572,7 @@ impl TextReading {
             Place::Dollar => self.read_dollar(byte),
             Place::Name => self.read_name(byte),
             Place::Brace => self.read_brace(byte),
+            Place::Operator => self.read_operator(byte),
             Place::Hash => self.read_hash(byte),
             Place::Comment => self.read_comment(byte),
             Place::Joint(op) => self.read_joint(op, byte),
@@ -559,7 +597,7 @@ impl TextReading {
     {
         match self.place {
             Place::Stopped(stop) => Some(stop),
-            Place::Behind(_) | Place::Joint(_) => Some(Stop::Unsupported),
+            Place::Behind(_) | Place::Joint(Op::Or) => Some(Stop::Unsupported),
             Place::Brace => {
                 let begun = !self.name.is_empty();
                 Some(if begun { Stop::Panics } else { Stop::Fails })
@@ -575,10 +613,11 @@ impl TextReading {
     {
         match self.place {
             Place::Dollar => self.word.push_byte(b'$')?,
-            Place::Name => {
+            Place::Name | Place::Operator => {
                 self.place = Place::Open;
                 self.push_variable()?;
             }
+            Place::Joint(Op::And) => self.push_token(Token::Ampersand)?,
             _ => (),
         }
         self.place = Place::Open;
