@@ -63,6 +63,42 @@ one state more than allowed
   ! ubtool: more states than allowed
   [1]
 
+as many steps in all as are allowed
+  $ ubtool endings -c flow.config -d devices -b load --work 3
+  ends 2 first 00 fewest 0 00 end 0
+  ends 2 first 01 fewest 1 01 end 1
+  fails test -e mmc 0:1 /x
+  all 4 states 2
+
+one step more than allowed
+  $ ubtool endings -c flow.config -d devices -b load --work 2
+  ! ubtool: more steps than allowed
+  [1]
+
+one step is more than none
+  $ ubtool endings -c flow.config -d devices -b load --work 0
+  ! ubtool: more steps than allowed
+  [1]
+
+more states than allowed, before more steps than allowed are begun
+  $ ubtool endings -c flow.config -d devices -b load --states 0 --work 1
+  ! ubtool: more states than allowed
+  [1]
+
+a flow takes the same steps
+  $ ubtool endings -c flow.config -d devices -b load --flow --work 2
+  ! ubtool: more steps than allowed
+  [1]
+
+a loop without an end, by the steps in all that a call may begin, and by the default
+  $ script loop 'bootcmd=load; while true; do true; done'
+  $ ubtool endings -c loop.config -d devices --work 100000
+  ! ubtool: more steps than allowed
+  [1]
+  $ ubtool endings -c loop.config -d devices
+  ends 2 first 0 fewest 0 0 cut steps
+  all 2 states 1
+
 no device command, and no state
   $ : >devices.none
   $ ubtool endings -c flow.config -d devices.none -b load --states 0

@@ -239,6 +239,13 @@ a number with a sign, endings -d d --states
   ! For more information, try '--help'.
   [2]
 
+a number with a sign, endings -d d --work
+  $ ubtool endings -d d --work +1
+  ! error: a number is written in digits alone, without a sign
+  !
+  ! For more information, try '--help'.
+  [2]
+
 a number with a sign, endings -d d --devices
   $ ubtool endings -d d --devices +1
   ! error: a number is written in digits alone, without a sign

@@ -23,15 +23,7 @@ unread_none = refl
 unread_profile : is_unread (Some Profile) (codes "fi") ≡ false
 unread_profile = refl
 
-ununread_modern : is_unread (Some Modern2025) (codes "a & b") ≡ true
-unfolding modern_text
-unread_modern = refl
-
-read_modern : is_unread (Some Modern2025) (codes "if a; then else b; fi") ≡ false
-unfolding modern_text
-read_modern = refl
-
-read_old : is_unread (Some Old2023) (codes "if a; then b; fi fi") ≡ true
+unread_old : is_unread (Some Old2023) (codes "if a; then b; fi fi") ≡ true
 unfolding old_tree_of
 unread_old = refl
 

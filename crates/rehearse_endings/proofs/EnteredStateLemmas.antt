@@ -1,11 +1,12 @@
 -- The states that the search enters, each by the outcomes that lead to it. No two are alike.
-use Rattle.std.proofs.Common.{ℕ, suc, zero, ◌+◌, ◌≤◌, List, [], ◌∷◌, ◌++◌, length, reverse, Some, refl, sym, ap, subst, ◌∙◌, ◌≡◌, arith, append_assoc, append-nil, length-append, inl, inr, map}
+use Rattle.std.proofs.Common.{ℕ, suc, zero, ◌+◌, ◌≤◌, ◌<◌, List, [], ◌∷◌, ◌++◌, length, reverse, Some, refl, sym, ap, subst, ◌∙◌, ◌≡◌, arith, append_assoc, append-nil, length-append, inl, inr, map}
 use Rattle.std.specs.Prelude.{Result, Err, IfErr, Option, None, MatchOption}
 use Rattle.std.specs.List.{AllByRecursion, slice_get}
 use Rattle.std.specs.FinMap.{get-entries}
 use Rattle.std.specs.declared.alloc.Global.{Global}
 use Rattle.bootstore_state.specs.Moment.{Moment}
 use Rattle.bootstore_state.specs.StoredState.{state_at}
+use Rattle.rehearse_terms.specs.Bounds.{most_steps}
 use Rattle.rehearse_terms.specs.Outcomes.{OutcomeWord, Outcome, Success, Failure}
 use Rattle.rehearse_terms.specs.State.{Text}
 use Rattle.rehearse_rules.specs.Execution.{Limits}
@@ -27,10 +28,10 @@ use Rattle.rehearse_states.specs.RowsShown.{summary_shown, saturated_summary}
 use Rattle.rehearse_states.specs.Summaries.{Summary}
 use Rattle.rehearse_states.specs.declared.flow.Flow.{Flow}
 use Rattle.rehearse_states.proofs.NodeLemmas.{asks_append}
-use Rattle.rehearse_endings.proofs.SearchLemmas.{kind_settled}
+use Rattle.rehearse_endings.proofs.SearchLemmas.{Room, kind_settled}
 use Rattle.rehearse_endings.specs.Indexed.{Fits, NoneFits}
 use Rattle.rehearse_endings.specs.Searching.{IsKeptAt, SummedFrom}
-use Rattle.rehearse_endings.specs.States.{AreApart, AreKeptAs, AreOnOneRun, Asked, ComesBefore, ComesBy, ComesToStates, Entered, HasEntered, HasStates, IsKeptAs, IsLike, IsMet, IsSearchedIn, IsUnlike, NoTwoAlike, Searched}
+use Rattle.rehearse_endings.specs.States.{AreApart, AreKeptAs, AreOnOneRun, Asked, ComesBefore, ComesBy, ComesToStates, ComesToSteps, Entered, HasEntered, HasStates, IsKeptAs, IsLike, IsMet, IsSearchedIn, IsUnlike, NoTwoAlike, Searched}
 use Rattle.rehearse_endings.specs.declared.sum_error.SumError.{SumError}
 use Rattle.rehearse_endings.specs.declared.sum_error.SumError.TheVariants.{States}
 use Rattle.rehearse_endings.specs.declared.table.Entry.{Entry}
@@ -136,6 +137,18 @@ module _ (names : List Text) (task : Task) (p : OutcomeWord) (m : Moment) (begun
 -- the answer that the table is full is passed on
 pub refused_as : {A : Type 0} (names : List Text) (task : Task) (count : ℕ) (r : Result A SumError) (e : SumError) → r ≡ Err e → (e ≡ States → ComesToStates names task count) → IfErr r (λ (x : SumError). x ≡ States → ComesToStates names task count)
 refused_as {A} names task count r e is h = subst (λ (x : Result A SumError). IfErr x (λ (y : SumError). y ≡ States → ComesToStates names task count)) (sym is) h
+
+-- any other answer too
+pub passed_on : {A : Type 0} (P : SumError → Type 0) (r : Result A SumError) (e : SumError) → r ≡ Err e → P e → IfErr r P
+passed_on {A} P r e is h = subst (λ (x : Result A SumError). IfErr x P) (sym is) h
+
+-- as many steps as the states that were entered have room for
+pub too_costly : (names : List Text) (task : Task) (begun : List Asked) (table : Table) (work steps : ℕ) → HasEntered names task begun table → work < steps → Room steps table.visited → ComesToSteps names task work
+too_costly names task begun table work steps h more room = (table.visited, (h.0, begun, h.1.many, h.1.apart), omega (arith, more, room))
+
+-- before a state was entered
+pub costly_at_once : (names : List Text) (task : Task) (work steps : ℕ) → work < steps → steps ≤ most_steps → ComesToSteps names task work
+costly_at_once names task work steps more within = (0, ([], [], refl, record { found = tt; met = tt; unlike = tt; anew = tt; one_run = tt }), omega arith)
 
 -- ---- a state that was searched
 

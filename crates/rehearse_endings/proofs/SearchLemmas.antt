@@ -47,7 +47,7 @@ use Rattle.rehearse_states.specs.PlaceNumbers.{place_number}
 use Rattle.std.proofs.lemmas.Option.{get_or_from_slice_get, slice_get_within}
 use Rattle.rehearse_endings.specs.Indexed.{AreNoted, Fits, IsNoted, IsTaken, LeadTo, NoneFits, NoneFrom, TakesOne}
 use Rattle.rehearse_endings.specs.Searching.{future, SummedFrom, seen_from, IsReached, IsEntry, AreEntries, IsFound, IsKeptAt}
-use Rattle.rehearse_endings.specs.Searched.{IsSearched}
+use Rattle.rehearse_endings.specs.Searched.{IsSearched, IsSpent}
 use Rattle.rehearse_endings.specs.declared.table.Future.{Future}
 use Rattle.rehearse_endings.specs.declared.table.Table.{Table}
 use Rattle.rehearse_endings.specs.declared.table.Entry.{Entry}
@@ -430,15 +430,29 @@ begun_on r r₁ e l = omega arith
 pub begun_marked : (r₀ r : Record) → r ≡ with_mark r₀ → r.begun ≡ r₀.begun
 begun_marked r₀ r e = ap (λ (x : Record). x.begun) e
 
--- the second stretch of steps from a state
-pub begun_lost : (r₀ r r₁ r₂ back r₃ : Record) (v₀ v₁ v₂ : ℕ) → r ≡ with_mark r₀ → r₁.begun + r.present.steps ≡ r.begun + r₁.present.steps → r₁.present.steps ≤ most_steps → Room r₀.begun v₀ → v₁ ≡ v₀ + 1
-    → Grows r₁.begun r₂.begun v₁ v₂ → back ≡ gone_back r₂ → r₃.begun + back.present.steps ≡ back.begun + r₃.present.steps → r₃.present.steps ≤ most_steps → Room r₃.begun v₂
-begun_lost r₀ r r₁ r₂ back r₃ v₀ v₁ v₂ marked on within room visited grows returns lost within' =
+-- the first stretch of steps from a state
+pub begun_won : (r₀ r r₁ : Record) (v₀ v₁ : ℕ) → r ≡ with_mark r₀ → r₁.begun ≤ r.begun + most_steps → Room r₀.begun v₀ → v₁ ≡ v₀ + 1 → Room r₁.begun v₁
+begun_won r₀ r r₁ v₀ v₁ marked on room visited =
+    let a = begun_marked r₀ r marked in
+    omega (arith, a, on, room, visited)
+
+-- the second one
+pub begun_behind : (r₀ r r₁ r₂ back r₃ : Record) (v₀ v₁ v₂ : ℕ) → r ≡ with_mark r₀ → r₁.begun + r.present.steps ≡ r.begun + r₁.present.steps → r₁.present.steps ≤ most_steps → Room r₀.begun v₀ → v₁ ≡ v₀ + 1
+    → Grows r₁.begun r₂.begun v₁ v₂ → back ≡ gone_back r₂ → r₃.begun ≤ back.begun + most_steps → Room r₃.begun v₂
+begun_behind r₀ r r₁ r₂ back r₃ v₀ v₁ v₂ marked on within room visited grows returns lost =
     let a = begun_marked r₀ r marked in
     let b = begun_on r r₁ on within in
     let c = begun_back r₂ back returns in
-    let d = begun_on back r₃ lost within' in
-    omega (arith, a, b, c, d, room, visited, grows)
+    omega (arith, a, b, c, lost, room, visited, grows)
+
+pub begun_lost : (r₀ r r₁ r₂ back r₃ : Record) (v₀ v₁ v₂ : ℕ) → r ≡ with_mark r₀ → r₁.begun + r.present.steps ≡ r.begun + r₁.present.steps → r₁.present.steps ≤ most_steps → Room r₀.begun v₀ → v₁ ≡ v₀ + 1
+    → Grows r₁.begun r₂.begun v₁ v₂ → back ≡ gone_back r₂ → r₃.begun + back.present.steps ≡ back.begun + r₃.present.steps → r₃.present.steps ≤ most_steps → Room r₃.begun v₂
+begun_lost r₀ r r₁ r₂ back r₃ v₀ v₁ v₂ marked on within room visited grows returns lost within' =
+    begun_behind r₀ r r₁ r₂ back r₃ v₀ v₁ v₂ marked on within room visited grows returns (begun_on back r₃ lost within')
+
+-- the steps are not many more than allowed
+pub spent_by : (work : ℕ) (r r₁ : Record) → r.begun ≤ work → work < r₁.begun → r₁.begun ≤ r.begun + most_steps → IsSpent work r₁
+spent_by work r r₁ allowed more on = (more, omega (arith, allowed, on))
 
 -- the steps of both sides, and of the state itself
 pub begun_sides : (r₀ r r₁ r₂ back r₃ r₄ : Record) (v₀ v₁ v₂ v₃ v₄ : ℕ) → r ≡ with_mark r₀ → r₁.begun + r.present.steps ≡ r.begun + r₁.present.steps → r₁.present.steps ≤ most_steps → v₁ ≡ v₀ + 1

@@ -1,5 +1,5 @@
 -- What a search from a text that has stopped comes to. Ours.
-use Rattle.std.specs.Prelude.{◌≡◌, ◌+◌, ◌*◌, ◌≤◌, List, [], length}
+use Rattle.std.specs.Prelude.{◌≡◌, ℕ, ◌+◌, ◌*◌, ◌≤◌, ◌<◌, List, [], length}
 use Rattle.bootstore_state.specs.Record.{Record}
 use Rattle.rehearse_terms.specs.Bounds.{most_steps}
 use Rattle.rehearse_terms.specs.Outcomes.{OutcomeWord}
@@ -17,6 +17,10 @@ use Rattle.rehearse_reports.specs.Following.{AreEnoughAtStop}
 use Rattle.rehearse_reports.specs.ReportsShown.{keys_shown}
 use Rattle.rehearse_endings.specs.declared.table.Future.{Future}
 use Rattle.rehearse_endings.specs.declared.table.Table.{Table}
+
+-- more steps were begun than allowed, by one stretch at most
+abbrev pub IsSpent : (work : ℕ) → Record → Type 0
+IsSpent work r = (work < r.begun) × (r.begun ≤ work + most_steps)
 
 -- everything after the stop is searched: the summary says what is to come, the keys are enough for it, and the table has what was entered
 pub record IsSearched (names : List Text) (task : Task) (stop : Stop) (old new : Record) (before after : Table) (f : Future) : Type 0 where

@@ -1,8 +1,9 @@
 -- The states in which device commands ask, and to which the runs of a task come. Ours.
-use Rattle.std.specs.Prelude.{◌≡◌, ℕ, ◌+◌, List, [], ◌∷◌, ◌++◌, length, reverse, ◌⊎◌}
+use Rattle.std.specs.Prelude.{◌≡◌, ℕ, ◌+◌, ◌*◌, ◌<◌, List, [], ◌∷◌, ◌++◌, length, reverse, ◌⊎◌}
 use Rattle.std.specs.List.{AllByRecursion}
 use Rattle.bootstore_state.specs.Moment.{Moment}
 use Rattle.bootstore_state.specs.StoredState.{state_at}
+use Rattle.rehearse_terms.specs.Bounds.{most_steps}
 use Rattle.rehearse_terms.specs.Outcomes.{OutcomeWord, Outcome, Short}
 use Rattle.rehearse_terms.specs.State.{Text}
 use Rattle.rehearse_rules.specs.Execution.{Limits}
@@ -81,6 +82,11 @@ HasStates names task count = (searched : List Searched) × (length searched ≡ 
 abbrev pub ComesToStates : (names : List Text) → Task → (count : ℕ) → Type 0
 ComesToStates names task count =
     (searched : List Searched) × (begun : List Asked) × (length searched + length begun ≡ count) × AreApart names task searched begun
+
+-- so many that at most two stretches of steps from each of them, and one from the start, may begin more steps than this
+abbrev pub ComesToSteps : (names : List Text) → Task → (steps : ℕ) → Type 0
+ComesToSteps names task steps =
+    (count : ℕ) × ComesToStates names task count × (steps < (2 * count + 1) * most_steps)
 
 -- ---- while the search goes on
 

@@ -9,10 +9,10 @@ use Rattle.rehearse_states.specs.Endings.{endings}
 use Rattle.rehearse_states.specs.Drawing.{asks_in}
 use Rattle.rehearse_states.specs.Flow.{Node, IsFlow, flow_text}
 use Rattle.rehearse_states.specs.EndingLines.{endings_text, failing}
-use Rattle.rehearse_endings.specs.States.{ComesToStates, HasStates}
+use Rattle.rehearse_endings.specs.States.{ComesToStates, ComesToSteps, HasStates}
 use Rattle.rehearse_endings.specs.declared.telling.EndingsAsk.{EndingsAsk}
 use Rattle.rehearse_rules.specs.declared.rehearse_error.RehearseError.{RehearseError}
-use Rattle.rehearse_rules.specs.declared.rehearse_error.RehearseError.TheVariants.{NoSuchVariable, States, Write, Memory}
+use Rattle.rehearse_rules.specs.declared.rehearse_error.RehearseError.TheVariants.{NoSuchVariable, States, Steps, Write, Memory}
 
 -- the variables whose values are asked for
 abbrev pub names_of : EndingsAsk → List Text
@@ -41,12 +41,17 @@ AreLines names flow most found text = (task : Task) × (states : ℕ) × (found 
 abbrev pub HasMoreStates : (names : List Text) → (most : ℕ) → Option Task → Type 0
 HasMoreStates names most found = (task : Task) × (found ≡ Some task) × ComesToStates names task (most + 1)
 
+-- the runs of the task come to so many states, no two of them alike, that their stretches may begin more steps than allowed
+abbrev pub HasMoreSteps : (names : List Text) → (work : ℕ) → Option Task → Type 0
+HasMoreSteps names work found = (task : Task) × (found ≡ Some task) × ComesToSteps names task work
+
 -- why there are no lines
-abbrev pub IsUntold : (names : List Text) → (most : ℕ) → Option Task → RehearseError → Type 0
-IsUntold names most found NoSuchVariable = found ≡ None
-IsUntold names most found States = HasMoreStates names most found
-IsUntold names most found Memory = Unit {0}
-IsUntold names most found _ = ⊥
+abbrev pub IsUntold : (names : List Text) → (most work : ℕ) → Option Task → RehearseError → Type 0
+IsUntold names most work found NoSuchVariable = found ≡ None
+IsUntold names most work found States = HasMoreStates names most found
+IsUntold names most work found Steps = HasMoreSteps names work found
+IsUntold names most work found Memory = Unit {0}
+IsUntold names most work found _ = ⊥
 
 -- the lines were written
 abbrev pub TellsEndings : (found : Option Task) → EndingsAsk → (old new : Sink) → Type 0
@@ -61,6 +66,7 @@ BreaksOff found ask old new =
 abbrev pub RefusesEndings : (found : Option Task) → EndingsAsk → (old new : Sink) → RehearseError → Type 0
 RefusesEndings found ask old new NoSuchVariable = (found ≡ None) × (new ≡ old)
 RefusesEndings found ask old new States = HasMoreStates (names_of ask) ask.states found × (new ≡ old)
+RefusesEndings found ask old new Steps = HasMoreSteps (names_of ask) ask.work found × (new ≡ old)
 RefusesEndings found ask old new Write = BreaksOff found ask old new
 RefusesEndings found ask old new Memory = new ≡ old
 RefusesEndings found ask old new _ = ⊥

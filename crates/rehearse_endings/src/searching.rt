@@ -1,20 +1,22 @@
 //! The search through the states in which device commands ask.
-ghost use Rattle.std.specs.Prelude.{◌≡◌, ◌+◌, ◌*◌, ◌≤◌, ◌<◌, ◌^◌, List, length, map, IfOk, IfErr, OnOk};
+ghost use Rattle.std.specs.Prelude.{◌≡◌, ◌≢◌, ◌+◌, ◌*◌, ◌≤◌, ◌<◌, ◌^◌, true, false, List, [], ◌∷◌, length, map, IfOk, IfErr, OnOk};
 ghost use Rattle.rehearse_terms.specs.Bounds.{most_steps};
 ghost use Rattle.rehearse_terms.specs.Outcomes.{OutcomeWord};
+ghost use Rattle.rehearse_machine.specs.Machine.{IsAsking, Stops, asked_at, outcome_when};
 ghost use Rattle.rehearse_machine.specs.Tasks.{task_in};
 ghost use Rattle.rehearse_machine.specs.StoppedTexts.{StoppedAt};
 ghost use Rattle.rehearse_states.specs.RowsShown.{rows_shown, saturated, summary_shown};
 ghost use Rattle.rehearse_states.specs.Endings.{endings};
-ghost use Rattle.rehearse_reports.specs.ReportsShown.{keys_shown};
+ghost use Rattle.rehearse_reports.specs.Following.{IsReportedFor};
+ghost use Rattle.rehearse_reports.specs.ReportsShown.{accesses_shown, keys_shown};
 ghost use Rattle.rehearse_states.specs.Flow.{IsFlow};
 ghost use Rattle.rehearse_states.specs.Drawing.{asks_in, nodes_shown};
 ghost use Rattle.rehearse_endings.specs.Searching.{IsReached, AreEntries, IsKeptAt};
 ghost use Rattle.rehearse_endings.specs.Indexed.{AreNoted};
-ghost use Rattle.rehearse_endings.specs.States.{Asked, ComesBy, ComesToStates, HasEntered, HasStates};
+ghost use Rattle.rehearse_endings.specs.States.{Asked, ComesBy, ComesToStates, ComesToSteps, HasEntered, HasStates};
 ghost use Rattle.rehearse_states.specs.PlaceNumbers.{place_number};
-ghost use Rattle.rehearse_endings.specs.Searched.{IsSearched};
-ghost use Rattle.rehearse_endings.specs.declared.sum_error.SumError.TheVariants.{Memory, States};
+ghost use Rattle.rehearse_endings.specs.Searched.{IsSearched, IsSpent};
+ghost use Rattle.rehearse_endings.specs.declared.sum_error.SumError.TheVariants.{Memory, States, Steps};
 
 use crate::keys::{keys_at_end, keys_of_both};
 use crate::sum_error::SumError;
@@ -75,13 +77,59 @@ fn keep<S: Store>(
     Ok(keys)
 }
 
+/// Whether more steps were begun than allowed, in all stretches together.
+fn is_spent<S: Store>(store: &S, most_work: u32) -> bool
+    ensures spent { result ≡ true → most_work < (S.record_of store.now).begun }
+    ensures within { result ≡ false → (S.record_of store.now).begun ≤ most_work }
+{
+    store.begun() > u64::from(most_work)
+}
+
+/// Gives the device command that asks an outcome, and goes on until the text stops again. Errors: `Memory`; `Steps`,
+/// behind the stretch with which more steps were begun than allowed.
+fn resumed<S: Store>(
+    rehearsal: &Rehearsal<'_>,
+    reported: &mut Reported,
+    store: &mut S,
+    most_work: u32,
+    success: bool,
+) -> Result<Stop, SumError>
+    requires asks { IsAsking (task_in rehearsal.now).limits (S.record_of store.old).present }
+    requires begun { (S.record_of store.old).begun + most_steps + 1 < 2 ^ 64 }
+    requires fresh { accesses_shown reported.old ≡ [] }
+    ensures stops { IfOk result
+        (λ stop. Stops (task_in rehearsal.now).limits stop
+        (λ w. asked_at (task_in rehearsal.now).limits (S.record_of store.old).present
+        (outcome_when success ∷ w)) (S.record_of store.new).present) }
+    ensures marks { OnOk result ((S.record_of store.new).marked ≡ (S.record_of store.old).marked) }
+    ensures begun { OnOk result
+        ((S.record_of store.new).begun + (S.record_of store.old).present.steps
+        ≡ (S.record_of store.old).begun + (S.record_of store.new).present.steps) }
+    ensures within { OnOk result ((S.record_of store.new).present.steps ≤ most_steps) }
+    ensures keys { IfOk result (λ stop. IsReportedFor (task_in rehearsal.now).limits
+        (outcome_when success) (S.record_of store.old).present stop
+        (S.record_of store.new).present (accesses_shown reported.new)) }
+    ensures worked { OnOk result ((S.record_of store.new).begun ≤ most_work) }
+    ensures err { IfErr result (λ e. e ≢ States) }
+    ensures spent { IfErr result (λ e. e ≡ Steps → most_work < (S.record_of store.new).begun) }
+    ensures soon { IfErr result
+        (λ e. e ≡ Steps → (S.record_of store.new).begun ≤ (S.record_of store.old).begun + most_steps) }
+{
+    let stop = resume_reported(rehearsal, reported, store, success)?;
+    if is_spent(store, most_work) {
+        return Err(SumError::Steps);
+    }
+    Ok(stop)
+}
+
 /// What is to come of a text that has stopped: the summary, and keys that are enough for it. States that
-/// are in the table are not searched again. Errors: `Memory`, `States`.
+/// are in the table are not searched again. Errors: `Memory`, `States`, `Steps`.
 fn summed<S: Store>(
     rehearsal: &Rehearsal<'_>,
     store: &mut S,
     table: &mut Table,
     names: &[&[u8]],
+    most_work: u32,
     depth: u32,
     stop: Stop,
 ) -> Result<Future, SumError>
@@ -94,12 +142,19 @@ fn summed<S: Store>(
     requires bound { (task_in rehearsal.now).limits.device_bound < 2 ^ 32 }
     requires begun { (S.record_of store.old).begun ≤ (2 * table.old.visited + 1) * most_steps }
     requires room { table.old.visited ≤ table.old.most }
+    requires worked { (S.record_of store.old).begun ≤ most_work }
     ensures searched { IfOk result (λ f. IsSearched (map (λ n. n.now) names.now) (task_in rehearsal.now) stop
         (S.record_of store.old) (S.record_of store.new) table.old table.new f) }
     ensures refused { (p : OutcomeWord) (begun : List Asked)
         → StoppedAt (task_in rehearsal.now) p stop (S.record_of store.old).present → ComesBy p begun
         → HasEntered (map (λ n. n.now) names.now) (task_in rehearsal.now) begun table.old
         → IfErr result (λ e. e ≡ States → ComesToStates (map (λ n. n.now) names.now) (task_in rehearsal.now) (table.old.most + 1)) }
+    ensures worked { OnOk result ((S.record_of store.new).begun ≤ most_work) }
+    ensures spent { IfErr result (λ e. e ≡ Steps → IsSpent most_work (S.record_of store.new)) }
+    ensures costly { (p : OutcomeWord) (begun : List Asked)
+        → StoppedAt (task_in rehearsal.now) p stop (S.record_of store.old).present → ComesBy p begun
+        → HasEntered (map (λ n. n.now) names.now) (task_in rehearsal.now) begun table.old
+        → IfErr result (λ e. e ≡ Steps → ComesToSteps (map (λ n. n.now) names.now) (task_in rehearsal.now) most_work) }
 {
     let devices = logged(store);
     match stop {
@@ -127,13 +182,29 @@ fn summed<S: Store>(
             store.mark()?;
             store.mark()?;
             let mut won_way = Reported::new(rehearsal.alloc);
-            let won_stop = resume_reported(rehearsal, &mut won_way, store, true)?;
+            let won_stop = resumed(rehearsal, &mut won_way, store, most_work, true)?;
             let words = words_at(rehearsal.alloc, store, devices)?;
-            let won = summed(rehearsal, store, table, names, depth + 1, won_stop)?;
+            let won = summed(
+                rehearsal,
+                store,
+                table,
+                names,
+                most_work,
+                depth + 1,
+                won_stop,
+            )?;
             store.back();
             let mut lost_way = Reported::new(rehearsal.alloc);
-            let lost_stop = resume_reported(rehearsal, &mut lost_way, store, false)?;
-            let lost = summed(rehearsal, store, table, names, depth + 1, lost_stop)?;
+            let lost_stop = resumed(rehearsal, &mut lost_way, store, most_work, false)?;
+            let lost = summed(
+                rehearsal,
+                store,
+                table,
+                names,
+                most_work,
+                depth + 1,
+                lost_stop,
+            )?;
             store.back();
             let both = keys_of_both(
                 rehearsal.alloc,
@@ -169,12 +240,14 @@ fn summed<S: Store>(
 /// the order of their first runs. Enters no more states than allowed,
 /// and searches each once, so at most two stretches of steps start at a state. Returns `States` if
 /// the runs come to more states than allowed, no two of them alike: at the same place, with the same at the keys
-/// that were found to be enough, and with room for the same runs. Errors: `Memory`, `States`.
+/// that were found to be enough, and with room for the same runs. Returns `Steps` behind the first stretch with which
+/// more steps were begun than allowed, in all stretches together. Errors: `Memory`, `States`, `Steps`.
 pub fn sum_endings<S: Store>(
     rehearsal: &Rehearsal<'_>,
     store: &mut S,
     names: &[&[u8]],
     most_states: u32,
+    most_work: u32,
 ) -> Result<Endings, SumError>
     requires begun { (S.record_of store.old).begun ≡ 0 }
     requires bound { (task_in rehearsal.now).limits.device_bound < 2 ^ 32 }
@@ -190,10 +263,18 @@ pub fn sum_endings<S: Store>(
         → ComesToStates (map (λ n. n.now) names.now) (task_in rehearsal.now) (most_states + 1)) }
     ensures once { IfOk result
         (λ e. (S.record_of store.new).begun ≤ (2 * e.states + 1) * most_steps) }
+    ensures worked { OnOk result ((S.record_of store.new).begun ≤ most_work) }
+    ensures spent { IfErr result (λ e. e ≡ Steps → most_work < (S.record_of store.new).begun) }
+    ensures soon { IfErr result (λ e. e ≡ Steps → (S.record_of store.new).begun ≤ most_work + most_steps) }
+    ensures costly { IfErr result (λ e. e ≡ Steps
+        → ComesToSteps (map (λ n. n.now) names.now) (task_in rehearsal.now) most_work) }
 {
     let stop = begin(rehearsal, store)?;
+    if is_spent(store, most_work) {
+        return Err(SumError::Steps);
+    }
     let mut table = Table::new(rehearsal.alloc, most_states);
-    let future = summed(rehearsal, store, &mut table, names, 0, stop)?;
+    let future = summed(rehearsal, store, &mut table, names, most_work, 0, stop)?;
     let states = table.visited;
     let nodes = table.flow.into_lines(rehearsal.alloc)?;
     Ok(Endings {

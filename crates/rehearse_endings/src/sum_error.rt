@@ -15,6 +15,9 @@ pub enum SumError {
     /// There are more states than allowed.
     #[error("more states than allowed")]
     States,
+    /// More steps are begun than allowed.
+    #[error("more steps than allowed")]
+    Steps,
 }
 
 impl From<StoreError> for SumError {

@@ -97,6 +97,7 @@ impl Table {
         ensures most { self.new.most ≡ self.old.most }
         ensures visited { OnOk result (self.new.visited ≡ self.old.visited + 1) }
         ensures within { OnOk result (self.new.visited ≤ self.new.most) }
+        ensures err { IfErr result (λ e. e ≡ States) }
         ensures full { IfErr result (λ e. e ≡ States → self.old.most ≤ self.old.visited) }
         ensures limit { self.old.most ≤ self.old.visited → result ≡ Err States }
     {

@@ -21,6 +21,9 @@ pub enum RehearseError {
     /// Device commands ask in more states than the endings may go through.
     #[error("more states than allowed")]
     States,
+    /// More steps are begun than the endings may take.
+    #[error("more steps than allowed")]
+    Steps,
     /// The output failed.
     #[error("output failed")]
     Write,

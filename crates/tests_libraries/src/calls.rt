@@ -156,6 +156,7 @@ pub(crate) fn endings<S: Store>(
         text: source.text,
         bounds: bounds.in_shell(case.bounds.shell()),
         states,
+        work: u32::MAX,
         names: &names,
         flow,
     };

@@ -124,6 +124,11 @@ states_of_causes : IsRefused (codes "causes" ∷ codes "-d" ∷ codes "d" ∷ co
 unfolding clap_on_literals ubtool
 states_of_causes = refl
 
+-- causes -d d --work 1
+work_of_causes : IsRefused (codes "causes" ∷ codes "-d" ∷ codes "d" ∷ codes "--work" ∷ codes "1" ∷ [])
+unfolding clap_on_literals ubtool
+work_of_causes = refl
+
 -- causes -d d --flow
 flow_of_causes : IsRefused (codes "causes" ∷ codes "-d" ∷ codes "d" ∷ codes "--flow" ∷ [])
 unfolding clap_on_literals ubtool

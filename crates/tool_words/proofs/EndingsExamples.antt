@@ -20,6 +20,7 @@ pair_ended : AsksFor (codes "endings" ∷ codes "-i" ∷ codes "f" ∷ codes "--
       variable = codes "bootcmd";
       bounds = record { devices = 1000; steps = 1000000; failures = None; shell = Profile };
       states = 1000000;
+      work = 1000000000;
       names = [];
       flow = false;
     }) Little)
@@ -32,6 +33,7 @@ all_endings : AsksFor (codes "endings" ∷ codes "-d" ∷ codes "d" ∷ [])
       variable = codes "bootcmd";
       bounds = record { devices = 1000; steps = 1000000; failures = None; shell = Profile };
       states = 1000000;
+      work = 1000000000;
       names = [];
       flow = false;
     }) Little)
@@ -45,6 +47,7 @@ few_endings : AsksFor
       variable = codes "q";
       bounds = record { devices = 0; steps = 7; failures = None; shell = Profile };
       states = 0;
+      work = 1000000000;
       names = [];
       flow = true;
     }) Big)
@@ -57,6 +60,7 @@ endings_of_names : AsksFor (codes "endings" ∷ codes "bootargs" ∷ codes "-d" 
       variable = codes "bootcmd";
       bounds = record { devices = 1000; steps = 1000000; failures = None; shell = Profile };
       states = 1000000;
+      work = 1000000000;
       names = codes "bootargs" ∷ codes "fdtfile" ∷ [];
       flow = false;
     }) Little)
@@ -73,6 +77,38 @@ too_many_states : IsRefused (codes "endings" ∷ codes "-d" ∷ codes "d" ∷ co
 unfolding clap_on_literals ubtool
 too_many_states = refl
 
+-- endings -d d --work 4294967295
+most_steps_in_all : AsksFor (codes "endings" ∷ codes "-d" ∷ codes "d" ∷ codes "--work" ∷ codes "4294967295" ∷ [])
+    (ending usual_list (record {
+      variable = codes "bootcmd";
+      bounds = record { devices = 1000; steps = 1000000; failures = None; shell = Profile };
+      states = 1000000;
+      work = 4294967295;
+      names = [];
+      flow = false;
+    }) Little)
+unfolding clap_on_literals ubtool
+most_steps_in_all = (refl, refl)
+
+-- endings -d d --states 7 --work 0
+no_steps_in_all : AsksFor
+    (codes "endings" ∷ codes "-d" ∷ codes "d" ∷ codes "--states" ∷ codes "7" ∷ codes "--work" ∷ codes "0" ∷ [])
+    (ending usual_list (record {
+      variable = codes "bootcmd";
+      bounds = record { devices = 1000; steps = 1000000; failures = None; shell = Profile };
+      states = 7;
+      work = 0;
+      names = [];
+      flow = false;
+    }) Little)
+unfolding clap_on_literals ubtool
+no_steps_in_all = (refl, refl)
+
+-- endings -d d --work 4294967296
+too_many_steps_in_all : IsRefused (codes "endings" ∷ codes "-d" ∷ codes "d" ∷ codes "--work" ∷ codes "4294967296" ∷ [])
+unfolding clap_on_literals ubtool
+too_many_steps_in_all = refl
+
 -- endings
 endings_without_list : IsRefused (codes "endings" ∷ [])
 unfolding clap_on_literals ubtool
@@ -82,6 +118,11 @@ endings_without_list = refl
 signed_states : IsUnread (codes "endings" ∷ codes "-d" ∷ codes "d" ∷ codes "--states" ∷ codes "+1" ∷ [])
 unfolding clap_on_literals ubtool
 signed_states = (refl, refl)
+
+-- endings -d d --work +1
+signed_work : IsUnread (codes "endings" ∷ codes "-d" ∷ codes "d" ∷ codes "--work" ∷ codes "+1" ∷ [])
+unfolding clap_on_literals ubtool
+signed_work = (refl, refl)
 
 -- endings -d d --steps=+0
 signed_steps : IsUnread (codes "endings" ∷ codes "-d" ∷ codes "d" ∷ codes "--steps=+0" ∷ [])
@@ -94,6 +135,7 @@ flow_in_old_2023 : AsksFor (codes "endings" ∷ codes "-d" ∷ codes "d" ∷ cod
       variable = codes "bootcmd";
       bounds = record { devices = 1000; steps = 1000000; failures = None; shell = Old2023 };
       states = 1000000;
+      work = 1000000000;
       names = [];
       flow = true;
     }) Little)
@@ -106,6 +148,7 @@ endings_in_newest_old : AsksFor (codes "endings" ∷ codes "-d" ∷ codes "d" �
       variable = codes "bootcmd";
       bounds = record { devices = 1000; steps = 1000000; failures = None; shell = Old2025 };
       states = 1000000;
+      work = 1000000000;
       names = [];
       flow = false;
     }) Little)
@@ -118,6 +161,7 @@ endings_in_modern_2025 : AsksFor (codes "endings" ∷ codes "-d" ∷ codes "d" �
       variable = codes "bootcmd";
       bounds = record { devices = 1000; steps = 1000000; failures = None; shell = Modern2025 };
       states = 1000000;
+      work = 1000000000;
       names = [];
       flow = false;
     }) Little)

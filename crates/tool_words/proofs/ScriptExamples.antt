@@ -109,6 +109,7 @@ script_ended : AsksFor (codes "endings" ∷ codes "--script" ∷ codes "f" ∷ c
       variable = codes "f";
       bounds = record { devices = 1000; steps = 1000000; failures = None; shell = Profile };
       states = 1000000;
+      work = 1000000000;
       names = [];
       flow = false;
     }) Little)

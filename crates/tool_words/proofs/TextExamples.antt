@@ -85,6 +85,7 @@ text_ended : AsksFor (codes "endings" ∷ codes "--text" ∷ codes "f" ∷ codes
       variable = codes "bootcmd";
       bounds = record { devices = 1000; steps = 1000000; failures = None; shell = Profile };
       states = 1000000;
+      work = 1000000000;
       names = [];
       flow = false;
     }) Little)

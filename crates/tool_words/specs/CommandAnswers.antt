@@ -40,6 +40,7 @@ endings_of e = record {
   variable = string_bytes e.name;
   bounds = e.bounds;
   states = e.states;
+  work = e.work;
   names = map string_bytes e.names.items;
   flow = e.flow;
 }

@@ -140,13 +140,20 @@ most_states = 4294967295
 abbrev pub states : Rule
 states = number_option (codes "states") 0 most_states
 
+-- how many steps may be begun in all, and the greatest number of them that can be allowed
+abbrev pub most_work : ℕ
+most_work = 4294967295
+
+abbrev pub work : Rule
+work = number_option (codes "work") 0 most_work
+
 -- to write the flow
 abbrev pub flow : Rule
 flow = long_flag (codes "flow")
 
 abbrev pub endings : App
 endings = command (codes "endings")
-    (config ∷ image ∷ second ∷ text_file ∷ big_endian ∷ device_list ∷ steady ∷ given ∷ variable ∷ script_file ∷ devices ∷ steps ∷ shell ∷ states ∷ flow ∷ names ∷ [])
+    (config ∷ image ∷ second ∷ text_file ∷ big_endian ∷ device_list ∷ steady ∷ given ∷ variable ∷ script_file ∷ devices ∷ steps ∷ shell ∷ states ∷ work ∷ flow ∷ names ∷ [])
 
 -- how many device commands may fail in a run that `causes` looks at, and the greatest number of them that can be allowed
 abbrev pub most_cause_failures : ℕ

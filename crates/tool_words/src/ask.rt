@@ -30,6 +30,9 @@ pub const DEFAULT_RUN_STEPS: u32 = 1_000_000;
 /// The states that `endings` may search if a call sets no bound.
 pub const DEFAULT_STATES: u32 = 1_000_000;
 
+/// The steps that `endings` may begin in all if a call sets no bound.
+pub const DEFAULT_WORK: u32 = 1_000_000_000;
+
 /// The device commands that may fail in a run that `causes` looks at if a call sets no bound.
 pub const DEFAULT_CAUSE_FAILURES: u32 = 2;
 
@@ -229,6 +232,8 @@ pub struct EndingsAsk {
     pub bounds: RunBounds,
     /// The most states to search.
     pub states: u32,
+    /// The most steps to begin in all.
+    pub work: u32,
     /// The variables by whose values runs are told apart, in this order.
     pub names: Vec<String>,
     /// Whether to write the flow, not the endings.

@@ -13,7 +13,7 @@ use crate::answer::{Answer, parse};
 use crate::ask::{
     Ask, CausesAsk, Change, DEFAULT_CAUSE_FAILURES, DEFAULT_CONFIG, DEFAULT_DEVICES,
     DEFAULT_RUN_DEVICES, DEFAULT_RUN_STEPS, DEFAULT_STATES, DEFAULT_STEPS, DEFAULT_VARIABLE,
-    EndingsAsk, ImageAsk, PrintAsk, RehearseAsk, Taking, UseError,
+    DEFAULT_WORK, EndingsAsk, ImageAsk, PrintAsk, RehearseAsk, Taking, UseError,
 };
 use crate::called::CalledAs;
 use crate::command::ubtool_for;
@@ -399,7 +399,10 @@ fn endings_ask(alloc: Global, matches: &ArgMatches<'_>) -> Result<Ask, UseError>
     let list = list_asked(alloc, matches)?;
     let bounds = bounds_or(matches, DEFAULT_RUN_DEVICES, DEFAULT_RUN_STEPS);
     let states = number_within(matches, "states", 0, u32::MAX);
-    let (Some((path, taking)), Some(bounds), Some(states)) = (list, bounds, states) else {
+    let work = number_within(matches, "work", 0, u32::MAX);
+    let (Some((path, taking)), Some(bounds), Some(states), Some(work)) = (
+        list, bounds, states, work,
+    ) else {
         return Err(unread(alloc));
     };
     Ok(Ask::Endings {
@@ -408,6 +411,7 @@ fn endings_ask(alloc: Global, matches: &ArgMatches<'_>) -> Result<Ask, UseError>
             name: variable_of(alloc, matches)?,
             bounds: bounds.in_shell(shell),
             states: states.unwrap_or(DEFAULT_STATES),
+            work: work.unwrap_or(DEFAULT_WORK),
             names: texts_of(alloc, matches, "names")?,
             flow: is_set(matches, "flow"),
         },

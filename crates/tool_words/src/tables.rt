@@ -273,6 +273,16 @@ const STATES: Argument<'static> = Argument {
     help: "At most N states in all, 0 to 4294967295 [default: 1000000]",
 };
 
+const WORK: Argument<'static> = Argument {
+    id: "work",
+    form: Form::Number(0, u32::MAX),
+    letter: None,
+    alias: None,
+    required: false,
+    value: "N",
+    help: "At most N steps (commands begun) in all, 0 to 4294967295 [default: 1000000000]",
+};
+
 const FLOW: Argument<'static> = Argument {
     id: "flow",
     form: Form::Flag,
@@ -283,7 +293,7 @@ const FLOW: Argument<'static> = Argument {
     help: "Write the states as a graph, a line each",
 };
 
-const ENDINGS: [Argument<'static>; 16] = [
+const ENDINGS: [Argument<'static>; 17] = [
     CONFIG,
     IMAGE,
     SECOND,
@@ -304,6 +314,7 @@ const ENDINGS: [Argument<'static>; 16] = [
     },
     SHELL,
     STATES,
+    WORK,
     FLOW,
     Argument {
         help: "Variables whose values to tell apart and write, in this order",

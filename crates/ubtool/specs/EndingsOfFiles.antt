@@ -32,10 +32,10 @@ endings_refusal what (refused.Rehearsal rehearsal.NoSuchVariable) = NoSuchVariab
 endings_refusal what error = reported error
 
 -- each answer to the endings of copies
-abbrev pub TellsCopies : Given → (flow : Bool) → (states : ℕ) → (old new : Sink) → Result (Unit {0}) RehearsalError → Type 0
-TellsCopies g flow states old new (Ok done) = TellsEndings g flow states old new
-TellsCopies g flow states old new (Err refused.Memory) = new ≡ old
-TellsCopies g flow states old new (Err error) = RefusesEndings g flow states old new error
+abbrev pub TellsCopies : Given → (flow : Bool) → (states work : ℕ) → (old new : Sink) → Result (Unit {0}) RehearsalError → Type 0
+TellsCopies g flow states work old new (Ok done) = TellsEndings g flow states old new
+TellsCopies g flow states work old new (Err refused.Memory) = new ≡ old
+TellsCopies g flow states work old new (Err error) = RefusesEndings g flow states work old new error
 
 -- What is asked for was read, and the lines were written; or the endings are refused; or a read is
 -- refused, and files were only read. If memory runs out, nothing is written.
@@ -47,18 +47,18 @@ TellsFrom order inputs what out out' old new (Ok all) =
 TellsFrom order inputs what out out' old new (Err (Shared Memory)) = OnlyReads old new × (out' ≡ out)
 TellsFrom order inputs what out out' old new (Err (Shared (Tool (tool.Image error)))) =
     FromFiles order inputs (all_asked what) old new (λ g.
-    RefusesEndings g what.flow what.states out out' (refused.Image error))
+    RefusesEndings g what.flow what.states what.work out out' (refused.Image error))
 TellsFrom order inputs what out out' old new (Err (Shared (Tool tool.Write))) =
     FromFiles order inputs (all_asked what) old new (λ g.
-    RefusesEndings g what.flow what.states out out' refused.Write)
+    RefusesEndings g what.flow what.states what.work out out' refused.Write)
 TellsFrom order inputs what out out' old new (Err (Shared (Tool error))) = ⊥
 TellsFrom order inputs what out out' old new (Err (Shared fault)) = IsUnread inputs old new fault
 TellsFrom order inputs what out out' old new (Err (NoSuchVariable name)) =
     (name ≡ path_form what.name) × FromFiles order inputs (all_asked what) old new (λ g.
-    RefusesEndings g what.flow what.states out out' (refused.Rehearsal rehearsal.NoSuchVariable))
+    RefusesEndings g what.flow what.states what.work out out' (refused.Rehearsal rehearsal.NoSuchVariable))
 TellsFrom order inputs what out out' old new (Err (program.NotARun word)) = ⊥
 TellsFrom order inputs what out out' old new (Err (program.Start error)) =
-    FromFiles order inputs (all_asked what) old new (λ g. RefusesEndings g what.flow what.states out out' (refused.Start error))
+    FromFiles order inputs (all_asked what) old new (λ g. RefusesEndings g what.flow what.states what.work out out' (refused.Start error))
 TellsFrom order inputs what out out' old new (Err (program.Rehearsal error)) =
     FromFiles order inputs (all_asked what) old new (λ g.
-    RefusesEndings g what.flow what.states out out' (refused.Rehearsal error))
+    RefusesEndings g what.flow what.states what.work out out' (refused.Rehearsal error))

@@ -44,7 +44,7 @@ fn endings_of_sources<O: Out>(
     out: &mut O,
 ) -> Result<(), RehearsalError>
     ensures { TellsCopies (given_by order (copies sources.now.images)
-        sources.now.device_list.items taking (script_of sources.now) (all_asked what.now)) what.now.flow what.now.states
+        sources.now.device_list.items taking (script_of sources.now) (all_asked what.now)) what.now.flow what.now.states what.now.work
         (O.sink out.old) (O.sink out.new) result }
 {
     let Ok(names) = slices_of(alloc, &what.names) else {
@@ -60,6 +60,7 @@ fn endings_of_sources<O: Out>(
         text: bytes.script,
         bounds: what.bounds,
         states: what.states,
+        work: what.work,
         names: &names,
         flow: what.flow,
     };

@@ -36,7 +36,7 @@ fn endings_of_one<O: Out>(
         ask.now.flow ask.now.states (O.sink out.old) (O.sink out.new)) }
     ensures err { IfErr result
         (λ e. RefusesOne (endings_given order first.now (option_copied second.entry)
-        list.entry.text.now list.entry.taking ask.now) ask.now.flow ask.now.states (O.sink out.old) (O.sink out.new) e) }
+        list.entry.text.now list.entry.taking ask.now) ask.now.flow ask.now.states ask.now.work (O.sink out.old) (O.sink out.new) e) }
 {
     let shell = ask.bounds.shell();
     let beginning = begin(alloc, first, second, order, shell, list, ask.name, ask.text)?;
@@ -46,6 +46,7 @@ fn endings_of_one<O: Out>(
         text,
         bounds: ask.bounds,
         states: ask.states,
+        work: ask.work,
         names: ask.names,
         flow: ask.flow,
     };
@@ -64,7 +65,7 @@ fn lines_of_one(
 ) -> Result<Vec<u8>, RehearsalError>
     ensures ok { IfOk result (λ v. AreLinesOf ask.now.flow ask.now.states
         (endings_given order first.now (option_copied second.entry) list.entry.text.now list.entry.taking ask.now) v.items) }
-    ensures err { IfErr result (λ e. LacksLines ask.now.states
+    ensures err { IfErr result (λ e. LacksLines ask.now.states ask.now.work
         (endings_given order first.now (option_copied second.entry) list.entry.text.now list.entry.taking ask.now) e) }
 {
     let mut lines = Over::new(Vec::new(alloc));
@@ -90,7 +91,7 @@ fn lines_in_turn(
         ask.now.flow ask.now.states count v.items) }
     ensures err { IfErr result (λ e. RefusesTurn
         (endings_given order first.now (option_copied second.entry) list.entry.text.now list.entry.taking ask.now)
-        ask.now.flow ask.now.states count e) }
+        ask.now.flow ask.now.states ask.now.work count e) }
 {
     let start = start_of(alloc, list)?;
     let mut text = Vec::new(alloc);
@@ -114,7 +115,7 @@ fn lines_in_turn(
 /// and none is named, writes the lines of each, in order, each behind a line that tells it.
 ///
 /// Refusals in order: the image; `Start` with `TooMany`; the first fault of the device list; `Start` for
-/// another reason; `NoSuchVariable`, `States` and `Memory`, with nothing written; then `Write` if the
+/// another reason; `NoSuchVariable`; `States`, `Steps` and `Memory`, with nothing written; then `Write` if the
 /// output fails, with a prefix of the lines written. What refuses one alternative refuses all. `Memory`
 /// comes wherever a growth is made.
 pub fn endings_bytes<O: Out>(
@@ -131,7 +132,7 @@ pub fn endings_bytes<O: Out>(
         ask.now.flow ask.now.states (O.sink out.old) (O.sink out.new)) }
     ensures err { IfErr result
         (λ e. RefusesEndings (endings_given order first.now (option_copied second.entry)
-        list.entry.text.now list.entry.taking ask.now) ask.now.flow ask.now.states (O.sink out.old) (O.sink out.new) e) }
+        list.entry.text.now list.entry.taking ask.now) ask.now.flow ask.now.states ask.now.work (O.sink out.old) (O.sink out.new) e) }
 {
     let error = match endings_of_one(alloc, first, second, order, list, ask, out) {
         Ok(()) => return Ok(()),

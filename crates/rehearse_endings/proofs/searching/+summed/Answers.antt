@@ -17,16 +17,19 @@ use Rattle.rehearse_frames.specs.KeysToCome.{AreEnoughAt}
 use Rattle.rehearse_reports.specs.Following.{AreEnoughAtStop}
 use Rattle.rehearse_reports.specs.ReportsShown.{accesses_shown, keys_shown}
 use Rattle.rehearse_endings.specs.Searching.{future, seen_from, IsFound, IsKeptAt, SummedFrom}
-use Rattle.rehearse_endings.specs.States.{ComesToStates}
+use Rattle.rehearse_endings.specs.Searched.{IsSpent}
+use Rattle.rehearse_endings.specs.States.{ComesToStates, ComesToSteps}
 use Rattle.rehearse_endings.specs.Indexed.{NoneFits}
 use Rattle.rehearse_machine.specs.StoppedTexts.{StoppedAt}
 use Rattle.rehearse_machine.proofs.StoppedTextLemmas.{stopped_on}
 use Rattle.std.proofs.Common.{Err}
 use Rattle.std.proofs.lemmas.Result.{err_from_is_err_and}
 use Rattle.rehearse_endings.proofs.IndexLemmas.{noted_same, nothing}
-use Rattle.rehearse_endings.proofs.EnteredStateLemmas.{refused_as, met_as, enters, too_many, comes_by, gone_through, none_entered, something}
+use Rattle.rehearse_endings.proofs.EnteredStateLemmas.{refused_as, passed_on, met_as, enters, too_many, too_costly, comes_by, gone_through, none_entered, something}
 use Rattle.rehearse_endings.proofs.WrittenFlowLemmas.{state_drawn, kept_drawn, last_made, ended_drawn, more_on, more_nodes, no_more, entered_as}
-use Rattle.rehearse_endings.proofs.SearchLemmas.{marked_present, reached_marked, reached_asks, last_there, keys_of_sides, searched_behind, Room, begun_marked, begun_on, begun_lost, begun_sides, reached_within, reached_as, reached_below, reached_on, won_on, back_there, marks_back, room_kept, lost_on, sides_of, summed_end, summed_sides, all_wider, entries_more}
+use Rattle.rehearse_endings.proofs.SearchLemmas.{marked_present, reached_marked, reached_asks, last_there, keys_of_sides, searched_behind, Room, begun_back, begun_marked, begun_on, begun_won, begun_behind, begun_lost, spent_by, begun_sides, reached_within, reached_as, reached_below, reached_on, won_on, back_there, marks_back, room_kept, lost_on, sides_of, summed_end, summed_sides, all_wider, entries_more}
+use Rattle.rehearse_endings.specs.declared.sum_error.SumError.{SumError}
+use Rattle.rehearse_endings.specs.declared.sum_error.SumError.TheVariants.{States, Steps}
 use Rattle.rehearse_endings.proofs.searching.+summed.Goals as goal
 
 pub find-requires-clause-depth : goal.find-requires-clause-depth
@@ -56,7 +59,7 @@ summed-requires g t c κs within =
     let first = begun_marked r₀ r c.in_ok-mark-in-Asks.ensures.ok in
     let l = reached_below task c.args.depth r.present reached in
     let b = c.requires.bound in
-    let r₁ = g.S.Store.record_of c.resume_reported.new.store in
+    let r₁ = g.S.Store.record_of c.resumed.new.store in
     let stops = won_on task r (g.S.Store.record_of c.mark-in-Asks.new.self) r₁ c.in_ok-won_stop-in-Asks.won_stop c.in_ok-mark-in-Asks-2.ensures.ok c.in_ok-won_stop-in-Asks.ensures.stops in
     let entered = entered_as (map (λ n. n.now) c.args.names.now) task.limits c.args.table.now c.enter.new.self c.enter.ensures.entries c.enter.ensures.flow c.requires.table in
     let marked = begun_marked r (g.S.Store.record_of c.mark-in-Asks.new.self) c.in_ok-mark-in-Asks-2.ensures.ok in
@@ -64,7 +67,7 @@ summed-requires g t c κs within =
     let room = c.requires.begun in
     let visited = c.in_ok-enter-in-Asks.ensures.visited in
     let begun : Room r₁.begun c.enter.new.self.visited = omega (arith, first, marked, on, room, visited) in
-    (omega (arith, c.decreases), (within, (reached_on task c.args.depth r.present r₁.present Success c.in_ok-won_stop-in-Asks.won_stop reached stops, (entered, (c.enter.ensures.noted c.requires.noted, (c.in_ok-won_stop-in-Asks.ensures.within, (b, (begun, c.in_ok-enter-in-Asks.ensures.within))))))))
+    (omega (arith, c.decreases), (within, (reached_on task c.args.depth r.present r₁.present Success c.in_ok-won_stop-in-Asks.won_stop reached stops, (entered, (c.enter.ensures.noted c.requires.noted, (c.in_ok-won_stop-in-Asks.ensures.within, (b, (begun, (c.in_ok-enter-in-Asks.ensures.within, c.in_ok-won_stop-in-Asks.ensures.worked)))))))))
 
 pub overflow_add-depth-in-Asks : goal.overflow_add-depth-in-Asks
 overflow_add-depth-in-Asks g t c =
@@ -85,23 +88,23 @@ summed-requires-in-Asks g t c κs within =
     let l = reached_below task c.args.depth r.present reached in
     let b = c.requires.bound in
     let back = g.S.Store.record_of c.back.new.self in
-    let there = back_there r (g.S.Store.record_of c.mark-in-Asks.new.self) (g.S.Store.record_of c.resume_reported.new.store) (g.S.Store.record_of c.summed.new.store) back c.in_ok-mark-in-Asks-2.ensures.ok c.in_ok-won_stop-in-Asks.ensures.marks c.in_ok-won-in-Asks.ensures.searched.marks c.back.ensures in
-    let r₁ = g.S.Store.record_of c.resume_reported-in-Asks.new.store in
+    let there = back_there r (g.S.Store.record_of c.mark-in-Asks.new.self) (g.S.Store.record_of c.resumed.new.store) (g.S.Store.record_of c.summed.new.store) back c.in_ok-mark-in-Asks-2.ensures.ok c.in_ok-won_stop-in-Asks.ensures.marks c.in_ok-won-in-Asks.ensures.searched.marks c.back.ensures in
+    let r₁ = g.S.Store.record_of c.resumed-in-Asks.new.store in
     let stops = lost_on task r.present back r₁ c.in_ok-lost_stop-in-Asks.lost_stop there c.in_ok-lost_stop-in-Asks.ensures.stops in
     let begun_before = c.requires.begun in
     let room : Room r.begun c.args.table.now.visited = omega (arith, first, begun_before) in
-    let begun : Room r₁.begun c.summed.new.table.visited = begun_lost r (g.S.Store.record_of c.mark-in-Asks.new.self) (g.S.Store.record_of c.resume_reported.new.store) (g.S.Store.record_of c.summed.new.store) back r₁ c.args.table.now.visited c.enter.new.self.visited c.summed.new.table.visited c.in_ok-mark-in-Asks-2.ensures.ok c.in_ok-won_stop-in-Asks.ensures.begun c.in_ok-won_stop-in-Asks.ensures.within room c.in_ok-enter-in-Asks.ensures.visited c.in_ok-won-in-Asks.ensures.searched.begun c.back.ensures c.in_ok-lost_stop-in-Asks.ensures.begun c.in_ok-lost_stop-in-Asks.ensures.within in
-    (omega (arith, c.decreases), (within, (reached_on task c.args.depth r.present r₁.present Failure c.in_ok-lost_stop-in-Asks.lost_stop reached stops, (c.in_ok-won-in-Asks.ensures.searched.table, (c.in_ok-won-in-Asks.ensures.searched.noted, (c.in_ok-lost_stop-in-Asks.ensures.within, (b, (begun, c.in_ok-won-in-Asks.ensures.searched.room))))))))
+    let begun : Room r₁.begun c.summed.new.table.visited = begun_lost r (g.S.Store.record_of c.mark-in-Asks.new.self) (g.S.Store.record_of c.resumed.new.store) (g.S.Store.record_of c.summed.new.store) back r₁ c.args.table.now.visited c.enter.new.self.visited c.summed.new.table.visited c.in_ok-mark-in-Asks-2.ensures.ok c.in_ok-won_stop-in-Asks.ensures.begun c.in_ok-won_stop-in-Asks.ensures.within room c.in_ok-enter-in-Asks.ensures.visited c.in_ok-won-in-Asks.ensures.searched.begun c.back.ensures c.in_ok-lost_stop-in-Asks.ensures.begun c.in_ok-lost_stop-in-Asks.ensures.within in
+    (omega (arith, c.decreases), (within, (reached_on task c.args.depth r.present r₁.present Failure c.in_ok-lost_stop-in-Asks.lost_stop reached stops, (c.in_ok-won-in-Asks.ensures.searched.table, (c.in_ok-won-in-Asks.ensures.searched.noted, (c.in_ok-lost_stop-in-Asks.ensures.within, (b, (begun, (c.in_ok-won-in-Asks.ensures.searched.room, c.in_ok-lost_stop-in-Asks.ensures.worked)))))))))
 
 pub keep-requires : goal.keep-requires
 keep-requires g t c =
     let r₀ = g.S.Store.record_of c.args.store.now in
     let r = g.S.Store.record_of c.mark.new.self in
     let marked = g.S.Store.record_of c.mark-in-Asks.new.self in
-    let tried = g.S.Store.record_of c.resume_reported.new.store in
+    let tried = g.S.Store.record_of c.resumed.new.store in
     let behind = g.S.Store.record_of c.summed.new.store in
     let back = g.S.Store.record_of c.back.new.self in
-    let failed = g.S.Store.record_of c.resume_reported-in-Asks.new.store in
+    let failed = g.S.Store.record_of c.resumed-in-Asks.new.store in
     let done = g.S.Store.record_of c.summed-in-Asks.new.store in
     let last = g.S.Store.record_of c.back-in-Asks.new.self in
     let first = c.in_ok-mark-in-Asks.ensures.ok in
@@ -164,10 +167,10 @@ returns-in_ok-keys-in-Asks-clause-searched g t c =
     let r₀ = g.S.Store.record_of c.args.store.now in
     let r = g.S.Store.record_of c.mark.new.self in
     let marked = g.S.Store.record_of c.mark-in-Asks.new.self in
-    let tried = g.S.Store.record_of c.resume_reported.new.store in
+    let tried = g.S.Store.record_of c.resumed.new.store in
     let behind = g.S.Store.record_of c.summed.new.store in
     let back = g.S.Store.record_of c.back.new.self in
-    let failed = g.S.Store.record_of c.resume_reported-in-Asks.new.store in
+    let failed = g.S.Store.record_of c.resumed-in-Asks.new.store in
     let done = g.S.Store.record_of c.summed-in-Asks.new.store in
     let last = g.S.Store.record_of c.back-in-Asks.new.self in
     let won = c.in_ok-won-in-Asks.won in
@@ -189,7 +192,7 @@ returns-in_ok-keys-in-Asks-clause-searched g t c =
     (marks_back r marked tried behind back failed done second c.in_ok-won_stop-in-Asks.ensures.marks c.in_ok-won-in-Asks.ensures.searched.marks c.back.ensures c.in_ok-lost_stop-in-Asks.ensures.marks c.in_ok-lost-in-Asks.ensures.searched.marks) in
     let log = c.logged-devices.ensures ∙ ap (λ (m : Moment). length m.log) (sym (marked_present r₀ r first)) in
     let steps = c.steps-steps.ensures ∙ ap (λ (m : Moment). m.steps) at_last in
-    let keys_at = keys_of_sides names task r.present marked.present back.present c.in_ok-won_stop-in-Asks.won_stop c.in_ok-lost_stop-in-Asks.lost_stop won_at lost_at (accesses_shown c.resume_reported.new.reported) (accesses_shown c.resume_reported-in-Asks.new.reported) (keys_shown won.keys.items) (keys_shown lost.keys.items) (keys_shown c.in_ok-both-in-Asks.both.items) (reached_asks task c.args.depth r.present sides.reached) at_mark at_back
+    let keys_at = keys_of_sides names task r.present marked.present back.present c.in_ok-won_stop-in-Asks.won_stop c.in_ok-lost_stop-in-Asks.lost_stop won_at lost_at (accesses_shown c.resumed.new.reported) (accesses_shown c.resumed-in-Asks.new.reported) (keys_shown won.keys.items) (keys_shown lost.keys.items) (keys_shown c.in_ok-both-in-Asks.both.items) (reached_asks task c.args.depth r.present sides.reached) at_mark at_back
     c.in_ok-won_stop-in-Asks.ensures.keys c.in_ok-won-in-Asks.ensures.searched.keys c.in_ok-lost_stop-in-Asks.ensures.keys c.in_ok-lost-in-Asks.ensures.searched.keys c.in_ok-both-in-Asks.ensures.both in
     let keys_kept = subst (AreEnoughAt task.limits names r.present) (sym c.in_ok-keys-in-Asks.ensures.keys) keys_at in
     let words_are : c.deref.result.now ≡ c.in_ok-words-in-Asks.words.items = search rules in
@@ -266,8 +269,8 @@ returns-in_err-won-in-Asks-clause-refused g t c = λ p begun at by entered.
     let present = marked_present r₀ r c.in_ok-mark-in-Asks.ensures.ok in
     let none_here = subst (NoneFits task.limits.step_bound task.limits.device_bound c.args.table.now.entries.items) (sym present) (nothing _ _ c.in_ok-found-in-Asks.field-0 c.in_default.is c.in_ok-found-in-Asks.ensures) in
     let met = met_as task p c.args.stop Asks r.present c.in-Asks.is (subst (λ (m : Moment). StoppedAt task p c.args.stop m) (sym present) at) in
-    let won_at = (g.S.Store.record_of c.resume_reported.new.store).present in
-    let won_stops = won_on task r (g.S.Store.record_of c.mark-in-Asks.new.self) (g.S.Store.record_of c.resume_reported.new.store) c.in_ok-won_stop-in-Asks.won_stop c.in_ok-mark-in-Asks-2.ensures.ok c.in_ok-won_stop-in-Asks.ensures.stops in
+    let won_at = (g.S.Store.record_of c.resumed.new.store).present in
+    let won_stops = won_on task r (g.S.Store.record_of c.mark-in-Asks.new.self) (g.S.Store.record_of c.resumed.new.store) c.in_ok-won_stop-in-Asks.won_stop c.in_ok-mark-in-Asks-2.ensures.ok c.in_ok-won_stop-in-Asks.ensures.stops in
     let error = err_from_is_err_and c.from_residual-in_err-won-in-Asks.result c.from_residual-in_err-won-in-Asks.ensures.1 in
     refused_as names task (c.args.table.now.most + 1) c.from_residual-in_err-won-in-Asks.result c.in_err-won-in-Asks.field-0.0 (error.1 ∙ ap Err error.2)
     (λ is. subst (λ (n : ℕ). ComesToStates names task (n + 1)) c.enter.ensures.most
@@ -283,9 +286,9 @@ returns-in_err-lost-in-Asks-clause-refused g t c = λ p begun at by entered.
     let present = marked_present r₀ r c.in_ok-mark-in-Asks.ensures.ok in
     let none_here = subst (NoneFits task.limits.step_bound task.limits.device_bound c.args.table.now.entries.items) (sym present) (nothing _ _ c.in_ok-found-in-Asks.field-0 c.in_default.is c.in_ok-found-in-Asks.ensures) in
     let met = met_as task p c.args.stop Asks r.present c.in-Asks.is (subst (λ (m : Moment). StoppedAt task p c.args.stop m) (sym present) at) in
-    let won_at = (g.S.Store.record_of c.resume_reported.new.store).present in
-    let lost_at = (g.S.Store.record_of c.resume_reported-in-Asks.new.store).present in
-    let sides = sides_of task c.args.depth c.args.stop c.in_ok-won_stop-in-Asks.won_stop c.in_ok-lost_stop-in-Asks.lost_stop r (g.S.Store.record_of c.mark-in-Asks.new.self) (g.S.Store.record_of c.resume_reported.new.store) (g.S.Store.record_of c.summed.new.store) (g.S.Store.record_of c.back.new.self) (g.S.Store.record_of c.resume_reported-in-Asks.new.store)
+    let won_at = (g.S.Store.record_of c.resumed.new.store).present in
+    let lost_at = (g.S.Store.record_of c.resumed-in-Asks.new.store).present in
+    let sides = sides_of task c.args.depth c.args.stop c.in_ok-won_stop-in-Asks.won_stop c.in_ok-lost_stop-in-Asks.lost_stop r (g.S.Store.record_of c.mark-in-Asks.new.self) (g.S.Store.record_of c.resumed.new.store) (g.S.Store.record_of c.summed.new.store) (g.S.Store.record_of c.back.new.self) (g.S.Store.record_of c.resumed-in-Asks.new.store)
     c.in-Asks.is (reached_marked task c.args.depth c.args.stop r₀ r c.in_ok-mark-in-Asks.ensures.ok c.requires.reached) c.in_ok-mark-in-Asks-2.ensures.ok c.in_ok-won_stop-in-Asks.ensures.stops c.in_ok-won_stop-in-Asks.ensures.marks c.in_ok-won-in-Asks.ensures.searched.marks c.back.ensures c.in_ok-lost_stop-in-Asks.ensures.stops in
     let won =
     c.in_ok-won-in-Asks.ensures.searched.entered (p ++ Success ∷ []) ((p, r.present) ∷ begun) (stopped_on task p r.present won_at Success c.in_ok-won_stop-in-Asks.won_stop met sides.won) (comes_by p Success r.present begun by)
@@ -295,3 +298,167 @@ returns-in_err-lost-in-Asks-clause-refused g t c = λ p begun at by entered.
     (λ is. subst (λ (n : ℕ). ComesToStates names task (n + 1)) (c.in_ok-won-in-Asks.ensures.searched.most ∙ c.enter.ensures.most)
     (c.in_err-lost-in-Asks.ensures.refused (p ++ Failure ∷ []) ((p, r.present) ∷ begun) (stopped_on task p r.present lost_at Failure c.in_ok-lost_stop-in-Asks.lost_stop met sides.lost)
     (comes_by p Failure r.present begun by) won is))
+
+-- ---- the steps that are refused
+
+-- nothing was begun behind the last stretch
+pub returns-in_ok-keys-in-Asks-clause-worked : goal.returns-in_ok-keys-in-Asks-clause-worked
+returns-in_ok-keys-in-Asks-clause-worked g t c =
+    let done = g.S.Store.record_of c.summed-in-Asks.new.store in
+    let last = begun_back done (g.S.Store.record_of c.back-in-Asks.new.self) c.back-in-Asks.ensures in
+    let within = c.in_ok-lost-in-Asks.ensures.worked in
+    omega (arith, last, within)
+
+pub returns-in_err-enter-in-Asks-clause-spent : goal.returns-in_err-enter-in-Asks-clause-spent
+returns-in_err-enter-in-Asks-clause-spent g t c =
+    let error = err_from_is_err_and c.from_residual-in_err-enter-in-Asks.result c.from_residual-in_err-enter-in-Asks.ensures.1 in
+    passed_on (λ (x : SumError). x ≡ Steps → IsSpent c.args.most_work (g.S.Store.record_of c.args.store.now)) c.from_residual-in_err-enter-in-Asks.result c.in_err-enter-in-Asks.field-0.0 (error.1 ∙ ap Err error.2)
+    (λ is. absurd (let other : States ≡ Steps = sym c.in_err-enter-in-Asks.ensures.err ∙ is in cc))
+
+pub returns-in_err-enter-in-Asks-clause-costly : goal.returns-in_err-enter-in-Asks-clause-costly
+returns-in_err-enter-in-Asks-clause-costly g t c = λ p begun at by entered.
+    let names = map (λ n. n.now) c.args.names.now in
+    let task = task_in c.args.rehearsal.now in
+    let error = err_from_is_err_and c.from_residual-in_err-enter-in-Asks.result c.from_residual-in_err-enter-in-Asks.ensures.1 in
+    passed_on (λ (x : SumError). x ≡ Steps → ComesToSteps names task c.args.most_work) c.from_residual-in_err-enter-in-Asks.result c.in_err-enter-in-Asks.field-0.0 (error.1 ∙ ap Err error.2)
+    (λ is. absurd (let other : States ≡ Steps = sym c.in_err-enter-in-Asks.ensures.err ∙ is in cc))
+
+pub returns-in_err-won_stop-in-Asks-clause-refused : goal.returns-in_err-won_stop-in-Asks-clause-refused
+returns-in_err-won_stop-in-Asks-clause-refused g t c = λ p begun at by entered.
+    let names = map (λ n. n.now) c.args.names.now in
+    let task = task_in c.args.rehearsal.now in
+    let error = err_from_is_err_and c.from_residual-in_err-won_stop-in-Asks.result c.from_residual-in_err-won_stop-in-Asks.ensures.1 in
+    passed_on (λ (x : SumError). x ≡ States → ComesToStates names task (c.args.table.now.most + 1)) c.from_residual-in_err-won_stop-in-Asks.result c.in_err-won_stop-in-Asks.field-0.0 (error.1 ∙ ap Err error.2)
+    (λ is. absurd (c.in_err-won_stop-in-Asks.ensures.err is))
+
+pub returns-in_err-won_stop-in-Asks-clause-spent : goal.returns-in_err-won_stop-in-Asks-clause-spent
+returns-in_err-won_stop-in-Asks-clause-spent g t c =
+    let r₀ = g.S.Store.record_of c.args.store.now in
+    let r = g.S.Store.record_of c.mark.new.self in
+    let marked = g.S.Store.record_of c.mark-in-Asks.new.self in
+    let tried = g.S.Store.record_of c.resumed.new.store in
+    let first = begun_marked r₀ r c.in_ok-mark-in-Asks.ensures.ok in
+    let second = begun_marked r marked c.in_ok-mark-in-Asks-2.ensures.ok in
+    let allowed = c.requires.worked in
+    let error = err_from_is_err_and c.from_residual-in_err-won_stop-in-Asks.result c.from_residual-in_err-won_stop-in-Asks.ensures.1 in
+    passed_on (λ (x : SumError). x ≡ Steps → IsSpent c.args.most_work (g.S.Store.record_of c.resumed.new.store)) c.from_residual-in_err-won_stop-in-Asks.result c.in_err-won_stop-in-Asks.field-0.0 (error.1 ∙ ap Err error.2)
+    (λ is. spent_by c.args.most_work marked tried (omega (arith, first, second, allowed)) (c.in_err-won_stop-in-Asks.ensures.spent is) (c.in_err-won_stop-in-Asks.ensures.soon is))
+
+pub returns-in_err-won_stop-in-Asks-clause-costly : goal.returns-in_err-won_stop-in-Asks-clause-costly
+returns-in_err-won_stop-in-Asks-clause-costly g t c = λ p begun at by entered.
+    let names = map (λ n. n.now) c.args.names.now in
+    let task = task_in c.args.rehearsal.now in
+    let r₀ = g.S.Store.record_of c.args.store.now in
+    let r = g.S.Store.record_of c.mark.new.self in
+    let present = marked_present r₀ r c.in_ok-mark-in-Asks.ensures.ok in
+    let none_here = subst (NoneFits task.limits.step_bound task.limits.device_bound c.args.table.now.entries.items) (sym present) (nothing _ _ c.in_ok-found-in-Asks.field-0 c.in_default.is c.in_ok-found-in-Asks.ensures) in
+    let met = met_as task p c.args.stop Asks r.present c.in-Asks.is (subst (λ (m : Moment). StoppedAt task p c.args.stop m) (sym present) at) in
+    let marked = g.S.Store.record_of c.mark-in-Asks.new.self in
+    let tried = g.S.Store.record_of c.resumed.new.store in
+    let first = begun_marked r₀ r c.in_ok-mark-in-Asks.ensures.ok in
+    let begun_before = c.requires.begun in
+    let room : Room r.begun c.args.table.now.visited = omega (arith, first, begun_before) in
+    let error = err_from_is_err_and c.from_residual-in_err-won_stop-in-Asks.result c.from_residual-in_err-won_stop-in-Asks.ensures.1 in
+    passed_on (λ (x : SumError). x ≡ Steps → ComesToSteps names task c.args.most_work) c.from_residual-in_err-won_stop-in-Asks.result c.in_err-won_stop-in-Asks.field-0.0 (error.1 ∙ ap Err error.2)
+    (λ is. too_costly names task ((p, r.present) ∷ begun) c.enter.new.self c.args.most_work tried.begun
+    (enters names task p r.present begun met by c.args.table.now entered none_here c.enter.new.self c.enter.ensures.entries c.enter.ensures.flow c.in_ok-enter-in-Asks.ensures.visited)
+    (c.in_err-won_stop-in-Asks.ensures.spent is)
+    (begun_won r marked tried c.args.table.now.visited c.enter.new.self.visited c.in_ok-mark-in-Asks-2.ensures.ok (c.in_err-won_stop-in-Asks.ensures.soon is) room c.in_ok-enter-in-Asks.ensures.visited))
+
+pub returns-in_err-won-in-Asks-clause-spent : goal.returns-in_err-won-in-Asks-clause-spent
+returns-in_err-won-in-Asks-clause-spent g t c =
+    let error = err_from_is_err_and c.from_residual-in_err-won-in-Asks.result c.from_residual-in_err-won-in-Asks.ensures.1 in
+    passed_on (λ (x : SumError). x ≡ Steps → IsSpent c.args.most_work (g.S.Store.record_of c.summed.new.store)) c.from_residual-in_err-won-in-Asks.result c.in_err-won-in-Asks.field-0.0 (error.1 ∙ ap Err error.2)
+    (λ is. c.in_err-won-in-Asks.ensures.spent is)
+
+pub returns-in_err-won-in-Asks-clause-costly : goal.returns-in_err-won-in-Asks-clause-costly
+returns-in_err-won-in-Asks-clause-costly g t c = λ p begun at by entered.
+    let names = map (λ n. n.now) c.args.names.now in
+    let task = task_in c.args.rehearsal.now in
+    let r₀ = g.S.Store.record_of c.args.store.now in
+    let r = g.S.Store.record_of c.mark.new.self in
+    let present = marked_present r₀ r c.in_ok-mark-in-Asks.ensures.ok in
+    let none_here = subst (NoneFits task.limits.step_bound task.limits.device_bound c.args.table.now.entries.items) (sym present) (nothing _ _ c.in_ok-found-in-Asks.field-0 c.in_default.is c.in_ok-found-in-Asks.ensures) in
+    let met = met_as task p c.args.stop Asks r.present c.in-Asks.is (subst (λ (m : Moment). StoppedAt task p c.args.stop m) (sym present) at) in
+    let won_at = (g.S.Store.record_of c.resumed.new.store).present in
+    let won_stops = won_on task r (g.S.Store.record_of c.mark-in-Asks.new.self) (g.S.Store.record_of c.resumed.new.store) c.in_ok-won_stop-in-Asks.won_stop c.in_ok-mark-in-Asks-2.ensures.ok c.in_ok-won_stop-in-Asks.ensures.stops in
+    let error = err_from_is_err_and c.from_residual-in_err-won-in-Asks.result c.from_residual-in_err-won-in-Asks.ensures.1 in
+    passed_on (λ (x : SumError). x ≡ Steps → ComesToSteps names task c.args.most_work) c.from_residual-in_err-won-in-Asks.result c.in_err-won-in-Asks.field-0.0 (error.1 ∙ ap Err error.2)
+    (λ is. c.in_err-won-in-Asks.ensures.costly (p ++ Success ∷ []) ((p, r.present) ∷ begun) (stopped_on task p r.present won_at Success c.in_ok-won_stop-in-Asks.won_stop met won_stops) (comes_by p Success r.present begun by)
+    (enters names task p r.present begun met by c.args.table.now entered none_here c.enter.new.self c.enter.ensures.entries c.enter.ensures.flow c.in_ok-enter-in-Asks.ensures.visited) is)
+
+pub returns-in_err-lost_stop-in-Asks-clause-refused : goal.returns-in_err-lost_stop-in-Asks-clause-refused
+returns-in_err-lost_stop-in-Asks-clause-refused g t c = λ p begun at by entered.
+    let names = map (λ n. n.now) c.args.names.now in
+    let task = task_in c.args.rehearsal.now in
+    let error = err_from_is_err_and c.from_residual-in_err-lost_stop-in-Asks.result c.from_residual-in_err-lost_stop-in-Asks.ensures.1 in
+    passed_on (λ (x : SumError). x ≡ States → ComesToStates names task (c.args.table.now.most + 1)) c.from_residual-in_err-lost_stop-in-Asks.result c.in_err-lost_stop-in-Asks.field-0.0 (error.1 ∙ ap Err error.2)
+    (λ is. absurd (c.in_err-lost_stop-in-Asks.ensures.err is))
+
+pub returns-in_err-lost_stop-in-Asks-clause-spent : goal.returns-in_err-lost_stop-in-Asks-clause-spent
+returns-in_err-lost_stop-in-Asks-clause-spent g t c =
+    let behind = g.S.Store.record_of c.summed.new.store in
+    let back = g.S.Store.record_of c.back.new.self in
+    let failed = g.S.Store.record_of c.resumed-in-Asks.new.store in
+    let there = begun_back behind back c.back.ensures in
+    let allowed = c.in_ok-won-in-Asks.ensures.worked in
+    let error = err_from_is_err_and c.from_residual-in_err-lost_stop-in-Asks.result c.from_residual-in_err-lost_stop-in-Asks.ensures.1 in
+    passed_on (λ (x : SumError). x ≡ Steps → IsSpent c.args.most_work (g.S.Store.record_of c.resumed-in-Asks.new.store)) c.from_residual-in_err-lost_stop-in-Asks.result c.in_err-lost_stop-in-Asks.field-0.0 (error.1 ∙ ap Err error.2)
+    (λ is. spent_by c.args.most_work back failed (omega (arith, there, allowed)) (c.in_err-lost_stop-in-Asks.ensures.spent is) (c.in_err-lost_stop-in-Asks.ensures.soon is))
+
+pub returns-in_err-lost_stop-in-Asks-clause-costly : goal.returns-in_err-lost_stop-in-Asks-clause-costly
+returns-in_err-lost_stop-in-Asks-clause-costly g t c = λ p begun at by entered.
+    let names = map (λ n. n.now) c.args.names.now in
+    let task = task_in c.args.rehearsal.now in
+    let r₀ = g.S.Store.record_of c.args.store.now in
+    let r = g.S.Store.record_of c.mark.new.self in
+    let present = marked_present r₀ r c.in_ok-mark-in-Asks.ensures.ok in
+    let none_here = subst (NoneFits task.limits.step_bound task.limits.device_bound c.args.table.now.entries.items) (sym present) (nothing _ _ c.in_ok-found-in-Asks.field-0 c.in_default.is c.in_ok-found-in-Asks.ensures) in
+    let met = met_as task p c.args.stop Asks r.present c.in-Asks.is (subst (λ (m : Moment). StoppedAt task p c.args.stop m) (sym present) at) in
+    let won_at = (g.S.Store.record_of c.resumed.new.store).present in
+    let won_stops = won_on task r (g.S.Store.record_of c.mark-in-Asks.new.self) (g.S.Store.record_of c.resumed.new.store) c.in_ok-won_stop-in-Asks.won_stop c.in_ok-mark-in-Asks-2.ensures.ok c.in_ok-won_stop-in-Asks.ensures.stops in
+    let won =
+    c.in_ok-won-in-Asks.ensures.searched.entered (p ++ Success ∷ []) ((p, r.present) ∷ begun) (stopped_on task p r.present won_at Success c.in_ok-won_stop-in-Asks.won_stop met won_stops) (comes_by p Success r.present begun by)
+    (enters names task p r.present begun met by c.args.table.now entered none_here c.enter.new.self c.enter.ensures.entries c.enter.ensures.flow c.in_ok-enter-in-Asks.ensures.visited) in
+    let marked = g.S.Store.record_of c.mark-in-Asks.new.self in
+    let tried = g.S.Store.record_of c.resumed.new.store in
+    let behind = g.S.Store.record_of c.summed.new.store in
+    let back = g.S.Store.record_of c.back.new.self in
+    let failed = g.S.Store.record_of c.resumed-in-Asks.new.store in
+    let first = begun_marked r₀ r c.in_ok-mark-in-Asks.ensures.ok in
+    let begun_before = c.requires.begun in
+    let room : Room r.begun c.args.table.now.visited = omega (arith, first, begun_before) in
+    let error = err_from_is_err_and c.from_residual-in_err-lost_stop-in-Asks.result c.from_residual-in_err-lost_stop-in-Asks.ensures.1 in
+    passed_on (λ (x : SumError). x ≡ Steps → ComesToSteps names task c.args.most_work) c.from_residual-in_err-lost_stop-in-Asks.result c.in_err-lost_stop-in-Asks.field-0.0 (error.1 ∙ ap Err error.2)
+    (λ is. too_costly names task ((p, r.present) ∷ begun) c.summed.new.table c.args.most_work failed.begun won
+    (c.in_err-lost_stop-in-Asks.ensures.spent is)
+    (begun_behind r marked tried behind back failed c.args.table.now.visited c.enter.new.self.visited c.summed.new.table.visited c.in_ok-mark-in-Asks-2.ensures.ok c.in_ok-won_stop-in-Asks.ensures.begun c.in_ok-won_stop-in-Asks.ensures.within room c.in_ok-enter-in-Asks.ensures.visited c.in_ok-won-in-Asks.ensures.searched.begun c.back.ensures
+    (c.in_err-lost_stop-in-Asks.ensures.soon is)))
+
+pub returns-in_err-lost-in-Asks-clause-spent : goal.returns-in_err-lost-in-Asks-clause-spent
+returns-in_err-lost-in-Asks-clause-spent g t c =
+    let error = err_from_is_err_and c.from_residual-in_err-lost-in-Asks.result c.from_residual-in_err-lost-in-Asks.ensures.1 in
+    passed_on (λ (x : SumError). x ≡ Steps → IsSpent c.args.most_work (g.S.Store.record_of c.summed-in-Asks.new.store)) c.from_residual-in_err-lost-in-Asks.result c.in_err-lost-in-Asks.field-0.0 (error.1 ∙ ap Err error.2)
+    (λ is. c.in_err-lost-in-Asks.ensures.spent is)
+
+pub returns-in_err-lost-in-Asks-clause-costly : goal.returns-in_err-lost-in-Asks-clause-costly
+returns-in_err-lost-in-Asks-clause-costly g t c = λ p begun at by entered.
+    let names = map (λ n. n.now) c.args.names.now in
+    let task = task_in c.args.rehearsal.now in
+    let r₀ = g.S.Store.record_of c.args.store.now in
+    let r = g.S.Store.record_of c.mark.new.self in
+    let present = marked_present r₀ r c.in_ok-mark-in-Asks.ensures.ok in
+    let none_here = subst (NoneFits task.limits.step_bound task.limits.device_bound c.args.table.now.entries.items) (sym present) (nothing _ _ c.in_ok-found-in-Asks.field-0 c.in_default.is c.in_ok-found-in-Asks.ensures) in
+    let met = met_as task p c.args.stop Asks r.present c.in-Asks.is (subst (λ (m : Moment). StoppedAt task p c.args.stop m) (sym present) at) in
+    let won_at = (g.S.Store.record_of c.resumed.new.store).present in
+    let won_stops = won_on task r (g.S.Store.record_of c.mark-in-Asks.new.self) (g.S.Store.record_of c.resumed.new.store) c.in_ok-won_stop-in-Asks.won_stop c.in_ok-mark-in-Asks-2.ensures.ok c.in_ok-won_stop-in-Asks.ensures.stops in
+    let lost_at = (g.S.Store.record_of c.resumed-in-Asks.new.store).present in
+    let sides = sides_of task c.args.depth c.args.stop c.in_ok-won_stop-in-Asks.won_stop c.in_ok-lost_stop-in-Asks.lost_stop r (g.S.Store.record_of c.mark-in-Asks.new.self) (g.S.Store.record_of c.resumed.new.store) (g.S.Store.record_of c.summed.new.store) (g.S.Store.record_of c.back.new.self) (g.S.Store.record_of c.resumed-in-Asks.new.store)
+    c.in-Asks.is (reached_marked task c.args.depth c.args.stop r₀ r c.in_ok-mark-in-Asks.ensures.ok c.requires.reached) c.in_ok-mark-in-Asks-2.ensures.ok c.in_ok-won_stop-in-Asks.ensures.stops c.in_ok-won_stop-in-Asks.ensures.marks c.in_ok-won-in-Asks.ensures.searched.marks c.back.ensures c.in_ok-lost_stop-in-Asks.ensures.stops in
+    let won =
+    c.in_ok-won-in-Asks.ensures.searched.entered (p ++ Success ∷ []) ((p, r.present) ∷ begun) (stopped_on task p r.present won_at Success c.in_ok-won_stop-in-Asks.won_stop met won_stops) (comes_by p Success r.present begun by)
+    (enters names task p r.present begun met by c.args.table.now entered none_here c.enter.new.self c.enter.ensures.entries c.enter.ensures.flow c.in_ok-enter-in-Asks.ensures.visited) in
+    let error = err_from_is_err_and c.from_residual-in_err-lost-in-Asks.result c.from_residual-in_err-lost-in-Asks.ensures.1 in
+    passed_on (λ (x : SumError). x ≡ Steps → ComesToSteps names task c.args.most_work) c.from_residual-in_err-lost-in-Asks.result c.in_err-lost-in-Asks.field-0.0 (error.1 ∙ ap Err error.2)
+    (λ is. c.in_err-lost-in-Asks.ensures.costly (p ++ Failure ∷ []) ((p, r.present) ∷ begun) (stopped_on task p r.present lost_at Failure c.in_ok-lost_stop-in-Asks.lost_stop met sides.lost)
+    (comes_by p Failure r.present begun by) won is)

@@ -1,14 +1,17 @@
-use Rattle.std.proofs.Common.{ℕ, ◌+◌, [], length, map, ap, sym, subst, ◌∙◌, Err}
+use Rattle.std.proofs.Common.{ℕ, ◌+◌, ◌<◌, ◌≤◌, ◌≡◌, arith, rules, [], length, map, ap, sym, subst, ◌∙◌, Err}
 use Rattle.std.proofs.lemmas.List.{length-map}
 use Rattle.rehearse_states.specs.Drawing.{asks_in, node_shown, nodes_shown}
 use Rattle.rehearse_states.proofs.NodeLemmas.{asks_in_lines}
 use Rattle.rehearse_endings.proofs.WrittenFlowLemmas.{whole_flow}
 use Rattle.std.proofs.lemmas.Result.{err_from_is_err_and}
-use Rattle.rehearse_endings.specs.States.{ComesToStates}
-use Rattle.rehearse_endings.proofs.EnteredStateLemmas.{first_entered, whole_asks, whole_states, refused_as}
+use Rattle.rehearse_endings.specs.States.{ComesToStates, ComesToSteps}
+use Rattle.rehearse_endings.proofs.EnteredStateLemmas.{first_entered, whole_asks, whole_states, refused_as, passed_on, costly_at_once}
 use Rattle.rehearse_machine.specs.Tasks.{task_in}
+use Rattle.rehearse_terms.specs.Bounds.{most_steps}
 use Rattle.rehearse_states.specs.RowsShown.{summary_shown}
 use Rattle.rehearse_endings.proofs.SearchLemmas.{reached_first, whole_rows}
+use Rattle.rehearse_endings.specs.declared.sum_error.SumError.{SumError}
+use Rattle.rehearse_endings.specs.declared.sum_error.SumError.TheVariants.{Steps}
 use Rattle.rehearse_endings.proofs.searching.sum_endings.Goals as goal
 
 pub summed-requires-clause-reached : goal.summed-requires-clause-reached
@@ -42,6 +45,27 @@ returns-in_err-future-clause-refused g c =
     refused_as names task (c.args.most_states + 1) c.from_residual-in_err-future.result c.in_err-future.field-0.0 (error.1 ∙ ap Err error.2)
     (λ is. subst (λ (n : ℕ). ComesToStates names task (n + 1)) c.new-table.ensures.most (c.in_err-future.ensures.refused [] [] c.in_ok-stop.ensures.stops tt first is))
 
+pub returns-in_err-future-clause-costly : goal.returns-in_err-future-clause-costly
+returns-in_err-future-clause-costly g c =
+    let names = map (λ n. n.now) c.args.names.now in
+    let task = task_in c.args.rehearsal.now in
+    let first = first_entered names task c.new-table.result c.new-table.ensures.entries c.new-table.ensures.flow c.new-table.ensures.visited in
+    let error = err_from_is_err_and c.from_residual-in_err-future.result c.from_residual-in_err-future.ensures.1 in
+    passed_on (λ (x : SumError). x ≡ Steps → ComesToSteps names task c.args.most_work) c.from_residual-in_err-future.result c.in_err-future.field-0.0 (error.1 ∙ ap Err error.2)
+    (λ is. c.in_err-future.ensures.costly [] [] c.in_ok-stop.ensures.stops tt first is)
+
+pub returns-in_err-future-clause-spent : goal.returns-in_err-future-clause-spent
+returns-in_err-future-clause-spent g c =
+    let error = err_from_is_err_and c.from_residual-in_err-future.result c.from_residual-in_err-future.ensures.1 in
+    passed_on (λ (x : SumError). x ≡ Steps → c.args.most_work < (g.S.Store.record_of c.summed.new.store).begun) c.from_residual-in_err-future.result c.in_err-future.field-0.0 (error.1 ∙ ap Err error.2)
+    (λ is. (c.in_err-future.ensures.spent is).0)
+
+pub returns-in_err-future-clause-soon : goal.returns-in_err-future-clause-soon
+returns-in_err-future-clause-soon g c =
+    let error = err_from_is_err_and c.from_residual-in_err-future.result c.from_residual-in_err-future.ensures.1 in
+    passed_on (λ (x : SumError). x ≡ Steps → (g.S.Store.record_of c.summed.new.store).begun ≤ c.args.most_work + most_steps) c.from_residual-in_err-future.result c.in_err-future.field-0.0 (error.1 ∙ ap Err error.2)
+    (λ is. (c.in_err-future.ensures.spent is).1)
+
 pub returns-clause-flow : goal.returns-clause-flow
 returns-clause-flow g c =
     let task = task_in c.args.rehearsal.now in
@@ -49,3 +73,11 @@ returns-clause-flow g c =
     let nodes = c.summed.new.table.flow.nodes in
     whole_flow task c.in_ok-stop.stop m (nodes_shown nodes) (nodes_shown c.in_ok-nodes.nodes) c.in_ok-future.future.summary.place (length nodes.items) c.in_ok-stop.ensures.stops c.in_ok-future.ensures.searched.draws
     (c.in_ok-future.ensures.searched.last c.new-table.ensures.entries c.new-table.ensures.flow) (sym (length-map nodes.items node_shown)) c.in_ok-nodes.ensures
+
+pub returns-then-is_spent-clause-costly : goal.returns-then-is_spent-clause-costly
+returns-then-is_spent-clause-costly g c = λ is.
+    let names = map (λ n. n.now) c.args.names.now in
+    let none = c.requires.begun in
+    let begun = c.in_ok-stop.ensures.begun in
+    let within = c.in_ok-stop.ensures.within in
+    costly_at_once names (task_in c.args.rehearsal.now) c.args.most_work (g.S.Store.record_of c.begin.new.store).begun (c.is_spent.ensures.spent (search rules)) (omega (arith, none, begun, within))

@@ -20,4 +20,4 @@ returns g c =
     let asking = same-runs _ _ what.bounds _ _ c.as_bytes.ensures.value names in
     let same = given-same c.args.order read.first.now _ (option_copied read.second) _ read.device_list.now _ c.args.taking _ _ _ _ c.bytes_of-bytes.ensures.first c.bytes_of-bytes.ensures.second c.bytes_of-bytes.ensures.device_list c.bytes_of-bytes.ensures.script asking in
     let all : Given = given c.args.order read.first.now (option_copied read.second) read.device_list.now c.args.taking (option_bytes read.script) (all_runs c.as_bytes.result.now what.bounds shown) in
-    subst (λ (x : Given). TellsCopies x what.flow what.states out out' c.endings_bytes.result) same (copies-told all what.flow what.states out out' c.endings_bytes.result c.endings_bytes.ensures.ok c.endings_bytes.ensures.err)
+    subst (λ (x : Given). TellsCopies x what.flow what.states what.work out out' c.endings_bytes.result) same (copies-told all what.flow what.states what.work out out' c.endings_bytes.result c.endings_bytes.ensures.ok c.endings_bytes.ensures.err)

@@ -22,7 +22,7 @@ returns-in_err-endings_env-clause-err g c =
     ap (λ (shell : Shell). with_image image shell (board_of c.args.list.text.now) c.args.list.taking c.args.ask.now.name.now (option_bytes c.args.ask.now.text)) (sym c.shell-shell.ensures) ∙ c.in_ok-beginning.ensures in
     let p = err_from_is_err_and c.from_residual-in_err-endings_env.result c.from_residual-in_err-endings_env.ensures.1 in
     let answer : c.from_residual-in_err-endings_env.result ≡ Err (rehearse_error c.in_err-endings_env.field-0.0) = p.1 ∙ ap Err p.2 in
-    let P : Result (Unit {0}) RehearsalError → Type 0 = λ r. IfErr r (λ e. RefusesOne given c.args.ask.now.flow c.args.ask.now.states out out' e) in
+    let P : Result (Unit {0}) RehearsalError → Type 0 = λ r. IfErr r (λ e. RefusesOne given c.args.ask.now.flow c.args.ask.now.states c.args.ask.now.work out out' e) in
     subst P (sym answer) (refused-endings c.args.order c.args.first.now (option_copied c.args.second) c.args.list.text.now c.args.list.taking c.args.ask.now (beginning_shown c.in_ok-beginning.beginning) _ out out' found c.text_of-text.ensures c.in_err-endings_env.field-0.0 c.in_err-endings_env.ensures.err)
 
 pub returns-clause-ok : goal.returns-clause-ok
