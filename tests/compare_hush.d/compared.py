@@ -219,12 +219,14 @@ def beside(ours, their):
 
 
 def with_shell(shell, folder, count):
-    """How ubtool's listings with --shell are beside those of the shell's sandbox, without messages: a verdict for each number."""
+    """How ubtool's listings with --shell are beside those of the shell's sandbox, without messages: a verdict for each number. After
+    `exit` in `bootcmd` the modern shell lists `prompt` for `end`."""
     images = folder if folder.startswith("random.") else "."
     verdicts = []
     for number in range(1, count + 1):
         image = f"{images}/{number}.stored"
-        verdicts.append(beside(rehearsed(image, "--shell", shell), theirs(folder, number, "echoed")))
+        their = re.sub("^prompt ", "end ", theirs(folder, number, "echoed"), flags=re.M)
+        verdicts.append(beside(rehearsed(image, "--shell", shell), their))
         if verdicts[-1] not in ("same", "stops"):
             entries = Path(image).read_bytes()[4:].replace(b"\0", b"\n").decode("latin-1")
             same(f"with --shell {shell}: {entries}", verdicts[-1], "")

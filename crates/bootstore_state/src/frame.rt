@@ -30,7 +30,7 @@ pub struct At {
     pub command: usize,
     /// Which turn of that command.
     pub turn: usize,
-    /// The status of the last body of a loop, or 0.
+    /// The status of the last body of a loop, or 0; and 1 in turn 2 if the command is over.
     pub last: u8,
 }
 

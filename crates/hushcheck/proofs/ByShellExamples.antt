@@ -31,7 +31,7 @@ unread_newer : is_unread (Some Old2025) (codes "a & b") ≡ true
 unfolding old_tree_of
 unread_newer = refl
 
-unread_modern : is_unread (Some Modern2025) (codes "a & b") ≡ true
+unread_modern : is_unread (Some Modern2025) (codes "a | b") ≡ true
 unfolding modern_text
 unread_modern = refl
 
@@ -67,5 +67,5 @@ told_2023 = refl
 told_2025 : told_by (Some Old2025) ((0, Warns MixedList) ∷ (1, Warns Exit) ∷ (2, Warns ManyWords) ∷ (3, Warns ReservedName) ∷ (4, Warns StraightBehind) ∷ []) ≡ (2, Warns ManyWords) ∷ (3, Warns ReservedName) ∷ (4, Warns StraightBehind) ∷ []
 told_2025 = refl
 
-told_modern : told_by (Some Modern2025) ((0, Warns MixedList) ∷ (1, Warns Exit) ∷ (2, Warns ManyWords) ∷ (3, Warns OptionOfSetenv) ∷ (4, Warns Parenthesis) ∷ []) ≡ (1, Warns Exit) ∷ (3, Warns OptionOfSetenv) ∷ (4, Warns Parenthesis) ∷ []
+told_modern : told_by (Some Modern2025) ((0, Warns MixedList) ∷ (1, Warns Exit) ∷ (2, Warns ManyWords) ∷ (3, Warns OptionOfSetenv) ∷ (4, Warns Parenthesis) ∷ []) ≡ (3, Warns OptionOfSetenv) ∷ (4, Warns Parenthesis) ∷ []
 told_modern = refl

@@ -4,7 +4,7 @@ use Rattle.hushcheck.specs.Calls.{Remark, NotFollowed, Lacks, SetsMore, Unset, W
 use Rattle.hushcheck.specs.Names.{Text, uboot_script}
 use Rattle.hushcheck.specs.Warnings.{warnings_of}
 use Rattle.hushcheck.specs.declared.warning.Warning.{Warning}
-use Rattle.hushcheck.specs.declared.warning.Warning.TheVariants.{Exit, ManyWords, NotFollowedText, OptionOfSetenv, Parenthesis, ReservedName, SpecialParameter, StraightBehind}
+use Rattle.hushcheck.specs.declared.warning.Warning.TheVariants.{ManyWords, NotFollowedText, OptionOfSetenv, Parenthesis, ReservedName, SpecialParameter, StraightBehind}
 use Rattle.rehearse_terms.specs.declared.shell.Shell.{Shell}
 use Rattle.rehearse_terms.specs.declared.shell.Shell.TheVariants.{Profile, Old2023, Old2025, Modern2025}
 
@@ -19,7 +19,6 @@ stops_old warning = false
 -- what a rehearsal by U-Boot's modern shell does not follow
 abbrev pub stops_modern : Warning → Bool
 stops_modern StraightBehind = true
-stops_modern Exit = true
 stops_modern OptionOfSetenv = true
 stops_modern SpecialParameter = true
 stops_modern Parenthesis = true

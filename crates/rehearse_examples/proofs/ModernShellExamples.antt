@@ -80,8 +80,32 @@ filled_blocks : by_modern (codes "for i in aaaaaaaaaaaaaaaaaaaaa; do echo b; don
 unfolding told_of
 filled_blocks = refl
 
--- calls that are not followed: `exit`, an option of `setenv`, and one that changes the text that the board runs
-calls : by_modern (codes "echo a; exit 3" ∷ codes "echo a; setenv -f b c" ∷ codes "setenv b c; echo $b; setenv bootcmd d" ∷ codes "echo 1 2 3 4 5 6 7 8 9 a b c d e f g" ∷ [])
+-- `exit` in no compound command ends the text that is running
+exits : by_modern (codes "echo a; exit 3; echo b" ∷ codes "true && exit 3 || echo b" ∷ codes "false || exit; echo b" ∷ codes "exit 1 2; echo $?" ∷ [])
+    ≡ (codes "a\n", End 3) ∷ ([], End 3) ∷ ([], End 0) ∷ (codes "1\n", End 0) ∷ []
+unfolding told_of
+exits = refl
+
+-- `exit` in an `if`, also in a condition of it, leaves the innermost `if` alone, with another status
+left_ifs : by_modern (codes "if true; then exit 3; echo b; fi; echo $?" ∷ codes "if true; then exit; fi; echo $?" ∷ codes "if true; then exit 254; fi && echo a" ∷ codes "if true; then exit 255; fi; echo $?" ∷ codes "if false; then true; else exit 1; fi; echo $?" ∷ codes "if exit 3; then echo b; else echo c; fi; echo $?" ∷ codes "if false; then true; elif exit 3; then echo b; fi; echo $?" ∷ codes "if true; then if true; then exit 3; fi; echo $?; exit 4; fi; echo $?" ∷ codes "if if true; then exit 254; fi; then echo b; fi; echo $?" ∷ codes "if true; then true && exit 3 || echo b; fi || echo $?" ∷ codes "x=7; if true; then exit $x; fi; echo $?" ∷ [])
+    ≡ (codes "251\n", End 0) ∷ (codes "254\n", End 0) ∷ (codes "a\n", End 0) ∷ (codes "255\n", End 0) ∷ (codes "253\n", End 0) ∷ (codes "251\n", End 0) ∷ (codes "251\n", End 0) ∷ (codes "251\n250\n", End 0) ∷ (codes "b\n0\n", End 0) ∷ (codes "251\n", End 0) ∷ (codes "247\n", End 0) ∷ []
+unfolding told_of
+left_ifs = refl
+
+-- and a loop, which is over then
+left_loops : by_modern (codes "while true; do exit 3; echo b; done; echo $?" ∷ codes "while exit 3; do echo b; done; echo $?" ∷ codes "until false; do exit 254; done; echo $?" ∷ codes "until exit; do echo b; done; echo $?" ∷ codes "for i in a b; do echo $i; exit 3; done; echo $?" ∷ codes "for i in a b; do if true; then exit 3; fi; echo $i$?; done; echo $?" ∷ codes "while true; do if true; then exit 3; fi; echo $?; exit 5; done; echo $?" ∷ [])
+    ≡ (codes "251\n", End 0) ∷ (codes "251\n", End 0) ∷ (codes "0\n", End 0) ∷ (codes "254\n", End 0) ∷ (codes "a\n251\n", End 0) ∷ (codes "a251\nb251\n0\n", End 0) ∷ (codes "251\n249\n", End 0) ∷ []
+unfolding told_of
+left_loops = refl
+
+-- `exit` in a text of `run` leaves that text, also if the `run` is in a compound command
+left_texts : started (codes "exit 3") (codes "run t; echo $?") ∷ started (codes "exit") (codes "run t t && echo a") ∷ started (codes "if true; then exit 3; fi; echo b; exit 4") (codes "run t; echo $?") ∷ started (codes "echo b; exit 3; echo c") (codes "if true; then run t; echo $?; fi; echo $?") ∷ started (codes "exit") (codes "if run t; then echo a; exit 2; fi; echo $?") ∷ started (codes "for i in 1 2; do exit 3; done") (codes "run t || echo $?") ∷ []
+    ≡ (codes "3\n", End 0) ∷ (codes "a\n", End 0) ∷ (codes "b\n4\n", End 0) ∷ (codes "b\n3\n0\n", End 0) ∷ (codes "a\n252\n", End 0) ∷ (codes "251\n", End 0) ∷ []
+unfolding told_of
+left_texts = refl
+
+-- calls that are not followed: `exit` with a number above 255, an option of `setenv`, and one that changes the text that the board runs
+calls : by_modern (codes "echo a; exit 256" ∷ codes "echo a; setenv -f b c" ∷ codes "setenv b c; echo $b; setenv bootcmd d" ∷ codes "echo 1 2 3 4 5 6 7 8 9 a b c d e f g" ∷ [])
     ≡ (codes "a\n", Unsupported (codes "exit")) ∷ (codes "a\n", Unsupported (codes "setenv")) ∷ (codes "c\n", Unsupported (codes "setenv")) ∷ (codes "1 2 3 4 5 6 7 8 9 a b c d e f g\n", End 0) ∷ []
 unfolding told_of
 calls = refl

@@ -3,14 +3,14 @@ use Rattle.std.proofs.Common.{◌≡◌, ◌∙◌, refl, sym, ap, subst, ℕ, s
 use Rattle.hushlang.specs.Tree.{Script, Joined, Arms}
 use Rattle.rehearse_terms.specs.Outcomes.{OutcomeWord, WordKind, Run, Long}
 use Rattle.rehearse_terms.specs.State.{Text, State, LoggedCommand, get}
-use Rattle.rehearse_rules.specs.Execution.{Limits, Answer, Normal, Exit, Ended, Dry, Ending, End, take_outcome, run_all, turns, for_each, block_skipped}
+use Rattle.rehearse_rules.specs.Execution.{Limits, Answer, Normal, Exit, Ended, Dry, Ending, End, take_outcome, run_all, turns, for_each, block_skipped, go_on}
 use Rattle.rehearse_rules.specs.Runs.{taken_kind}
 use Rattle.rehearse_rules.proofs.TakenOutcomes.{KeepsAll, Keeps-script, Keeps-joined, Keeps-arms, Keeps-exec, Keeps-run, Keeps-turns, Keeps-for, Keeps-if, Keeps-stays, after_condition, Keeps-after_condition, Keeps-skip}
 use Rattle.rehearse_machine.specs.Came.{Over, settled}
-use Rattle.rehearse_machine.specs.Frames.{Frame, Lists, Linked, IfCondition, LoopCondition, LoopBody, ForBody, RunNames, RunText}
+use Rattle.rehearse_machine.specs.Frames.{Frame, Lists, Linked, IfCondition, LoopCondition, LoopBody, ForBody, RunNames, RunText, CommandEnd}
 use Rattle.rehearse_machine.specs.Meaning.{with, first_or_next, full, script, joined_of, arms_of, again, resume, continue}
 use Rattle.rehearse_reads.specs.Keys.{Key, Environment, Status, Access, AgreeOn, ReadsWithin, known_after}
-use Rattle.rehearse_reads.specs.Accesses.{turns_accesses, each_accesses, taken_accesses, modern_accesses}
+use Rattle.rehearse_reads.specs.Accesses.{turns_accesses, each_accesses, taken_accesses, modern_accesses, behind}
 use Rattle.rehearse_reads.specs.Alike as alike
 use Rattle.rehearse_reads.specs.Alike.{AreAbreast, IsAlike}
 use Rattle.rehearse_reads.proofs.AccessLemmas.{within_first, within_then}
@@ -18,10 +18,10 @@ use Rattle.rehearse_reads.proofs.KeysRead.{reads_within}
 use Rattle.rehearse_reads.proofs.AbreastLemmas.{moved_at, near_moved}
 use Rattle.rehearse_reads.proofs.AlikeParts.{further_apart, normal_later, if_later, normal_alike, ended_alike, dry_alike, if_alike, go_on_alike, text_end_alike, Alike-read}
 use Rattle.rehearse_reads.proofs.AlikeDevices.{take_alike}
-use Rattle.rehearse_reads.proofs.AlikeLoops.{Alike-turns, Alike-each, Alike-skip, after_alike}
+use Rattle.rehearse_reads.proofs.AlikeLoops.{Alike-turns, Alike-each, Alike-skip, after_alike, compound_then, compound_alike}
 use Rattle.rehearse_reads.proofs.AlikeScripts.{Alike-run, Alike-script, Alike-joined, Alike-arms, Alike-exec}
 use Rattle.rehearse_reads.proofs.AlikeRuns.{from_the_start}
-use Rattle.rehearse_frames.specs.ToCome.{names_read, first_behind, of_full, of_script, of_joined, of_arms, of_again, of_condition, of_choice, of_names, of_frame, of_end, of_frames}
+use Rattle.rehearse_frames.specs.ToCome.{names_read, first_behind, of_full, of_script, of_joined, of_arms, of_again, of_condition, of_choice, of_names, of_frame, of_end, of_frames, choice, condition, turns_left}
 use Rattle.rehearse_frames.specs.AlikeFutures.{CameAlike, same, cut_here, beyond}
 use Rattle.rehearse_frames.specs.Laws.{FramesGoAlike, AskedAlike}
 
@@ -95,19 +95,30 @@ module _ (limits : Limits) (i j : ℕ) (k l : List LoggedCommand) where
   resume_alike (Lists lists) known a b w h = go_on_alike limits i j k l known a b (script limits lists) (of_script limits lists) (script_does lists) (kept_script lists) w h
   resume_alike (Linked links) known a b w h = go_on_alike limits i j k l known a b (joined_of limits links) (of_joined limits links) (joined_does links) (Keeps-joined limits limits.step_bound (full limits) kept_full links) w h
   resume_alike (IfCondition c arms) known a b w h =
-      go_on_alike limits i j k l known a b (λ t. elim (nat_eq t.memory.status 0) [ true ↦ script limits c t | false ↦ arms_of limits arms (block_skipped limits.shell c t) ]) (of_choice limits c arms) (choice_does c arms)
-      (λ t. Keeps-if limits.device_bound t (nat_eq t.memory.status 0) (script limits c) (λ u. arms_of limits arms (block_skipped limits.shell c u)) (kept_script c t) (Keeps-skip limits c (arms_of limits arms) (Keeps-arms limits limits.step_bound (full limits) kept_full arms) t)) w h
+      let next : State → Answer = choice limits c arms in
+      compound_then limits i j k l known (behind a (of_choice limits c arms)) (go_on a next) (go_on b next)
+      (λ v. go_on_alike limits i j k l known a b next (of_choice limits c arms) (choice_does c arms)
+      (λ t. Keeps-if limits.device_bound t (nat_eq t.memory.status 0) (script limits c) (λ u. arms_of limits arms (block_skipped limits.shell c u)) (kept_script c t) (Keeps-skip limits c (arms_of limits arms) (Keeps-arms limits limits.step_bound (full limits) kept_full arms) t)) v h) w
   resume_alike (LoopCondition until c d last) known a b w h =
-      go_on_alike limits i j k l known a b (after_condition limits until (script limits d) (again limits until c d) last) (of_condition limits until c d)
+      let next : State → Answer = condition limits until c d last in
+      compound_then limits i j k l known (behind a (of_condition limits until c d)) (go_on a next) (go_on b next)
+      (λ v. go_on_alike limits i j k l known a b (after_condition limits until (script limits d) (again limits until c d) last) (of_condition limits until c d)
       (after_alike limits i j k l until (script limits d) (again limits until c d) (of_script limits d) (of_again limits until c d) (script_does d) (again_does until c d) (kept_again until c d) last)
-      (Keeps-after_condition limits until (script limits d) (again limits until c d) (kept_script d) (kept_again until c d) last) w h
-  resume_alike (LoopBody until c d) known a b w h = go_on_alike limits i j k l known a b (again limits until c d) (of_again limits until c d) (again_does until c d) (kept_again until c d) w h
+      (Keeps-after_condition limits until (script limits d) (again limits until c d) (kept_script d) (kept_again until c d) last) v h) w
+  resume_alike (LoopBody until c d) known a b w h =
+      let next : State → Answer = again limits until c d in
+      compound_then limits i j k l known (behind a (of_again limits until c d)) (go_on a next) (go_on b next)
+      (λ v. go_on_alike limits i j k l known a b next (of_again limits until c d) (again_does until c d) (kept_again until c d) v h) w
   resume_alike (ForBody name values body) known a b w h =
-      go_on_alike limits i j k l known a b (λ t. for_each limits.shell name (script limits body) t.memory.status values t) (each_accesses limits.shell name (script limits body) (of_script limits body) values)
+      let next : State → Answer = turns_left limits name values body in
+      let of_next : State → List Access = each_accesses limits.shell name (script limits body) (of_script limits body) values in
+      compound_then limits i j k l known (behind a of_next) (go_on a next) (go_on b next)
+      (λ v. go_on_alike limits i j k l known a b next of_next
       (Alike-each limits i j k l name (script limits body) (of_script limits body) (script_does body) (kept_script body) values)
-      (λ t. Keeps-for limits name (script limits body) (kept_script body) t.memory.status values t) w h
+      (λ t. Keeps-for limits name (script limits body) (kept_script body) t.memory.status values t) v h) w
   resume_alike (RunNames names) known a b w h = first_alike known a b (run_all limits (full limits) names) (of_names limits names) (names_does names) (kept_names names) w h
   resume_alike (RunText names) known a b w h = text_end_alike limits i j k l known a b (run_all limits (full limits) names) (of_names limits names) (names_does names) (kept_names names) w h
+  resume_alike CommandEnd known a b w h = compound_alike limits i j k l limits.shell known a b w h
 
   module _ (wanted : List Text) where
     abbrev Came : Answer → Answer → Type 0

@@ -13,21 +13,24 @@ use Rattle.device_list.specs.Called.{BuiltIn, Device, NoCommand, called_by, sets
 use Rattle.device_list.specs.DeviceList.{Effect, effect_of, computed_by}
 use Rattle.rehearse_terms.specs.Outcomes.{OutcomeWord, Outcome, Success, Failure}
 use Rattle.rehearse_terms.specs.State.{Text, get, State}
+use Rattle.rehearse_terms.specs.declared.shell.Shell.{Shell}
+use Rattle.rehearse_terms.specs.declared.shell.Shell.TheVariants.{Profile, Old2023, Old2025, Modern2025}
 use Rattle.rehearse_rules.specs.Parameters.{parameters_in}
-use Rattle.rehearse_rules.specs.ByShell.{unread, leaves_in, status_of_exit, asks_in, truth_in, fields_in, turns_in, skips_rest, status_of_loop, follows, assigned_in, reads_again, follows_turns}
+use Rattle.rehearse_rules.specs.ByShell.{unread, leaves_in, status_of_exit, asks_in, truth_in, fields_in, turns_in, skips_rest, status_of_loop, follows, assigned_in, reads_again, follows_turns, status_of_no_block}
 use Rattle.rehearse_rules.specs.Needs.{effect_now}
-use Rattle.rehearse_rules.specs.Execution.{Limits, Answer, Normal, Exit, Ended, Ending, CutDevices, CutSteps, Unknown, Size, Finished, Unsupported, Request, go_on, set_status, status_when, goes, holds, begin, finish, tell_or_take, told, told_again, logged, set_environment, device, text_end, run_all, command, simple, sized, assign, assign_local, turns, for_each, begin_turn, run_text, started_text, request_of, test_request, text_failed, turns_of, for_words, for_begun, block_skipped}
+use Rattle.rehearse_rules.specs.Execution.{Limits, Answer, Normal, Exit, Ended, Ending, CutDevices, CutSteps, Unknown, Size, Finished, Unsupported, Request, go_on, set_status, status_when, goes, holds, begin, finish, tell_or_take, told, told_again, logged, set_environment, device, text_end, run_all, command, simple, sized, assign, assign_local, turns, for_each, begin_turn, run_text, started_text, request_of, test_request, text_failed, turns_of, for_words, for_begun, block_skipped, compound, compound_left, Dry}
+use Rattle.rehearse_rules.proofs.CompoundLemmas.{compound_normal, compound_ended}
 use Rattle.rehearse_rules.proofs.GrowingSteps.{Grew, AtLeast-track, Grew-block}
 use Rattle.rehearse_rules.proofs.TakenOutcomes.{KeepsAll, Keeps-script, Keeps-exec}
-use Rattle.rehearse_machine.specs.Frames.{Frame, Lists, Linked, IfCondition, LoopCondition, LoopBody, ForBody, RunNames, RunText, Next, Go, Ask, Stop, tell_or_ask, finish_next, leave, begin_assign, begin_for, begin_arms, begin_tree, begin_text, begin_names, begin_exit, fitting, ask, begin_called, begin_fields, counted, begin_command, answered, move, begin_turns, begin_words}
+use Rattle.rehearse_machine.specs.Frames.{Frame, Lists, Linked, IfCondition, LoopCondition, LoopBody, ForBody, RunNames, RunText, Next, Go, Ask, Stop, tell_or_ask, finish_next, leave, begin_assign, begin_for, begin_arms, begin_tree, begin_text, begin_names, begin_exit, fitting, ask, begin_called, begin_fields, counted, begin_command, answered, move, begin_turns, begin_words, CommandEnd, leave_compound, behind_block}
 use Rattle.rehearse_machine.specs.Meaning.{with, full, script, one, joined_of, arms_of, again, resume, AreProperFrames}
 use Rattle.rehearse_machine.proofs.MoveMeaning.{failed_with_1, turn_more}
 use Rattle.rehearse_machine.proofs.StepBoundLemmas.{closed_exec}
 use Rattle.rehearse_machine.proofs.BoundLemmas.{Cut-block}
 use Rattle.rehearse_reads.specs.Keys.{Access, Reads, Writes, Environment, Status, all_read}
-use Rattle.rehearse_reads.specs.Accesses.{needs_reads, listed_accesses, behind, behind_text, status_written, word_reads, words_reads, sized_accesses, local_accesses, assign_accesses, turns_accesses, turn_accesses, each_accesses, for_accesses, begun_accesses, told_reads, answer_accesses, outcome_accesses, device_accesses, computed_accesses, tree_accesses, text_accesses, started_accesses, builtin_accesses, call_accesses, simple_accesses, modern_accesses, turns_of_accesses, for_words_accesses}
-use Rattle.rehearse_frames.specs.ToCome.{names_read, of_full, of_script, of_one, of_joined, of_arms, of_again, of_condition, of_choice, of_names, of_frames, of_next}
-use Rattle.rehearse_frames.specs.MoveAccesses.{of_listed, of_leaving, of_exit, of_telling, of_beginning_for, of_beginning_arms, of_beginning_tree, of_beginning_text, of_beginning_names, of_asking, of_builtin, of_call, of_fields, of_command, of_move, of_beginning_turns, of_beginning_words}
+use Rattle.rehearse_reads.specs.Accesses.{needs_reads, listed_accesses, behind, behind_text, status_written, word_reads, words_reads, sized_accesses, local_accesses, assign_accesses, turns_accesses, turn_accesses, each_accesses, for_accesses, begun_accesses, told_reads, answer_accesses, outcome_accesses, device_accesses, computed_accesses, tree_accesses, text_accesses, started_accesses, builtin_accesses, call_accesses, simple_accesses, modern_accesses, turns_of_accesses, for_words_accesses, left_accesses, compound_accesses, nothing_accesses}
+use Rattle.rehearse_frames.specs.ToCome.{names_read, of_full, of_script, of_one, of_joined, of_arms, of_again, of_condition, of_choice, of_names, of_frames, of_next, choice, condition, turns_left, of_compound}
+use Rattle.rehearse_frames.specs.MoveAccesses.{of_listed, of_leaving, of_exit, of_telling, of_beginning_for, of_beginning_arms, of_beginning_tree, of_beginning_text, of_beginning_names, of_asking, of_builtin, of_call, of_fields, of_command, of_move, of_beginning_turns, of_beginning_words, of_leaving_compound}
 use Rattle.rehearse_frames.specs.Laws.{MovesComeFirst, OutcomesComeFirst}
 use Rattle.rehearse_frames.proofs.NoneBegun.{nothing_behind, None-block}
 use Rattle.rehearse_frames.proofs.SameAccesses.{either, same_behind, turns_same, closed_accesses}
@@ -47,12 +50,13 @@ module _ (limits : Limits) (wanted : List Text) (w : OutcomeWord) where
   frames_ended [] ending s = refl
   frames_ended (Lists lists ∷ fs) ending s = frames_ended fs ending s
   frames_ended (Linked links ∷ fs) ending s = frames_ended fs ending s
-  frames_ended (IfCondition b arms ∷ fs) ending s = frames_ended fs ending s
-  frames_ended (LoopCondition until c b last ∷ fs) ending s = frames_ended fs ending s
-  frames_ended (LoopBody until c b ∷ fs) ending s = frames_ended fs ending s
-  frames_ended (ForBody name values body ∷ fs) ending s = frames_ended fs ending s
+  frames_ended (IfCondition b arms ∷ fs) ending s = ap (Rest fs) (compound_ended limits.shell ending s) ∙ frames_ended fs ending s
+  frames_ended (LoopCondition until c b last ∷ fs) ending s = ap (Rest fs) (compound_ended limits.shell ending s) ∙ frames_ended fs ending s
+  frames_ended (LoopBody until c b ∷ fs) ending s = ap (Rest fs) (compound_ended limits.shell ending s) ∙ frames_ended fs ending s
+  frames_ended (ForBody name values body ∷ fs) ending s = ap (Rest fs) (compound_ended limits.shell ending s) ∙ frames_ended fs ending s
   frames_ended (RunNames names ∷ fs) ending s = frames_ended fs ending s
   frames_ended (RunText names ∷ fs) ending s = frames_ended fs ending s
+  frames_ended (CommandEnd ∷ fs) ending s = ap (Rest fs) (compound_ended limits.shell ending s) ∙ frames_ended fs ending s
 
   if_so : (b : Bool) (xs ys : List Access) (x y : Next) (fs : List Frame) (zs ws : List Access) (u v : Answer) → xs ++ After x ≡ zs ++ Rest fs u → ys ++ After y ≡ ws ++ Rest fs v
       → (elim b [ true ↦ xs | false ↦ ys ]) ++ After (elim b [ true ↦ x | false ↦ y ]) ≡ (elim b [ true ↦ zs | false ↦ ws ]) ++ Rest fs (elim b [ true ↦ u | false ↦ v ])
@@ -72,16 +76,48 @@ module _ (limits : Limits) (wanted : List Text) (w : OutcomeWord) where
   names_left true names fs s = refl
   names_left false names fs s = refl
 
-  leave_so : (fs : List Frame) (s : State) → of_leaving s.memory.status fs ++ After (leave fs s) ≡ Rest fs (Exit (with w s))
+  -- ---- compound commands
+
+  -- one that has ended
+  over_so : (fs : List Frame) (t : State) → Rest fs (Normal t) ≡ Rest (CommandEnd ∷ fs) (Normal t)
+  over_so fs t = ap (Rest fs) (sym (compound_normal limits.shell t))
+
+  nothing_of : (shell : Shell) (a : Answer) → left_accesses shell ≡ [] → compound_accesses shell a ≡ []
+  nothing_of shell (Normal t) e = refl
+  nothing_of shell (Exit t) e = e
+  nothing_of shell (Ended ending t) e = refl
+  nothing_of shell (Dry t) e = refl
+
+  -- behind a block of an `if`
+  passed_so : (shell : Shell) → limits.shell ≡ shell → left_accesses shell ≡ [] → (fs : List Frame) (a : Answer) → compound shell a ≡ a → Rest fs a ≡ Rest (CommandEnd ∷ fs) a
+  passed_so shell own none fs a same =
+      sym (ap (λ (x : Shell). compound_accesses x a ++ Rest fs (compound x a)) own ∙ ap (λ (xs : List Access). xs ++ Rest fs (compound shell a)) (nothing_of shell a none) ∙ ap (Rest fs) same)
+
+  block_so : (shell : Shell) → limits.shell ≡ shell → (fs : List Frame) (a : Answer) → Rest (behind_block shell fs) a ≡ Rest (CommandEnd ∷ fs) a
+  block_so Profile own fs a = passed_so Profile own refl fs a refl
+  block_so Old2023 own fs a = passed_so Old2023 own refl fs a refl
+  block_so Old2025 own fs a = passed_so Old2025 own refl fs a refl
+  block_so Modern2025 own fs a = refl
+
+  -- `exit` in one
+  left_compound_so : (shell : Shell) → limits.shell ≡ shell → (ps fs : List Frame) (s : State) (xs : List Access) (outwards : Next) → ((t : State) → Rest ps (Normal t) ≡ Rest fs (Normal t)) → xs ++ After outwards ≡ Rest fs (Exit (with w s))
+      → of_leaving_compound shell xs ++ After (leave_compound shell ps outwards s) ≡ left_accesses shell ++ Rest fs (compound shell (Exit (with w s)))
+  left_compound_so Profile own ps fs s xs outwards same e = e
+  left_compound_so Old2023 own ps fs s xs outwards same e = e
+  left_compound_so Old2025 own ps fs s xs outwards same e = e
+  left_compound_so Modern2025 own ps fs s xs outwards same e = ap (λ (l : List Access). Reads Status ∷ Writes Status ∷ l) (same (with w (compound_left s)))
+
+  leave_so : (fs : List Frame) (s : State) → of_leaving limits.shell s.memory.status fs ++ After (leave limits.shell fs s) ≡ Rest fs (Exit (with w s))
   leave_so [] s = refl
   leave_so (RunNames names ∷ fs) s = ap (λ (xs : List Access). Reads Status ∷ xs) (names_left (nat_eq s.memory.status 0) names fs s)
   leave_so (RunText names ∷ fs) s = left_so (nat_eq s.memory.status 0) names fs s refl
   leave_so (Lists ls ∷ fs) s = leave_so fs s
   leave_so (Linked ls ∷ fs) s = leave_so fs s
-  leave_so (IfCondition b arms ∷ fs) s = leave_so fs s
-  leave_so (LoopCondition until c b last ∷ fs) s = leave_so fs s
-  leave_so (LoopBody until c b ∷ fs) s = leave_so fs s
-  leave_so (ForBody name fields body ∷ fs) s = leave_so fs s
+  leave_so (IfCondition b arms ∷ fs) s = left_compound_so limits.shell refl (CommandEnd ∷ fs) fs s (of_leaving limits.shell s.memory.status fs) (leave limits.shell fs s) (λ t. sym (over_so fs t)) (leave_so fs s)
+  leave_so (LoopCondition until c b last ∷ fs) s = left_compound_so limits.shell refl (CommandEnd ∷ fs) fs s (of_leaving limits.shell s.memory.status fs) (leave limits.shell fs s) (λ t. sym (over_so fs t)) (leave_so fs s)
+  leave_so (LoopBody until c b ∷ fs) s = left_compound_so limits.shell refl (CommandEnd ∷ fs) fs s (of_leaving limits.shell s.memory.status fs) (leave limits.shell fs s) (λ t. sym (over_so fs t)) (leave_so fs s)
+  leave_so (ForBody name fields body ∷ fs) s = left_compound_so limits.shell refl fs fs s (of_leaving limits.shell s.memory.status fs) (leave limits.shell fs s) (λ t. refl) (leave_so fs s)
+  leave_so (CommandEnd ∷ fs) s = left_compound_so limits.shell refl (CommandEnd ∷ fs) fs s (of_leaving limits.shell s.memory.status fs) (leave limits.shell fs s) (λ t. sym (over_so fs t)) (leave_so fs s)
 
   stops_so : (fs : List Frame) (ending : Ending) (s : State) → names_read wanted ≡ Rest fs (Ended ending (with w s))
   stops_so fs ending s = sym (frames_ended fs ending (with w s))
@@ -157,7 +193,7 @@ module _ (limits : Limits) (wanted : List Text) (w : OutcomeWord) where
       if_so (nat_lt (length s.log) limits.device_bound) (keys ++ of_telling o request) [] (tell_or_ask o request fs s) (Stop CutDevices s) fs (keys ++ answer_accesses o request (with w s)) [] (tell_or_take o request (with w s)) (Ended CutDevices (with w s))
       (in_front keys (of_telling o request) (After (tell_or_ask o request fs s)) (answer_accesses o request (with w s)) (Rest fs (tell_or_take o request (with w s))) (tell_so o request fs s)) (stops_so fs CutDevices s)
 
-  exit_so : (o : Option ℕ) (other : ℕ) (fs : List Frame) (s : State) → of_exit o fs ++ After (begin_exit o other fs s) ≡ status_written ++ Rest fs (elim o [ Some status ↦ Exit (set_status status (with w s)) | None ↦ Normal (set_status other (with w s)) ])
+  exit_so : (o : Option ℕ) (other : ℕ) (fs : List Frame) (s : State) → of_exit limits.shell o fs ++ After (begin_exit limits.shell o other fs s) ≡ status_written ++ Rest fs (elim o [ Some status ↦ Exit (set_status status (with w s)) | None ↦ Normal (set_status other (with w s)) ])
   exit_so (Some status) other fs s = ap (λ (xs : List Access). Writes Status ∷ xs) (leave_so fs (set_status status s))
   exit_so None other fs s = refl
 
@@ -210,15 +246,20 @@ module _ (limits : Limits) (wanted : List Text) (w : OutcomeWord) where
       (if_so (nat_le (size ws) most_bytes) (f ws s) [] (next ws s) (Stop Size s) fs (g ws (with w s)) [] (h ws (with w s)) (Ended Size (with w s)) e (stops_so fs Size s))
 
   for_so : (name : Text) (values : List Text) (body : Script) (fs : List Frame) (s : State) → of_beginning_for values ++ After (begin_for name values body fs s)
-      ≡ for_accesses limits.shell name (script limits body) (of_script limits body) values (with w s) ++ Rest fs (for_each limits.shell name (script limits body) 0 values (with w s))
-  for_so name [] body fs s = refl
-  for_so name (f ∷ values) body fs s = refl
+      ≡ for_accesses limits.shell name (script limits body) (of_script limits body) values (with w s) ++ Rest (CommandEnd ∷ fs) (for_each limits.shell name (script limits body) 0 values (with w s))
+  for_so name [] body fs s = ap (λ (xs : List Access). Writes Status ∷ xs) (over_so fs (with w (set_status 0 s)))
+  for_so name (f ∷ values) body fs s =
+      let t : State = with w s in
+      let a : Answer = turns_left limits name (f ∷ values) body t in
+      append_assoc (each_accesses limits.shell name (script limits body) (of_script limits body) (f ∷ values) t) (of_compound limits a) (Rest fs (compound limits.shell a))
 
   turns_so : (name : Text) (values : List Text) (body : Script) (fs : List Frame) (s : State) → of_beginning_turns limits.shell name values ++ After (begin_turns limits.shell name values body fs s)
       ≡ turns_of_accesses limits.shell name (script limits body) (of_script limits body) values (with w s) ++ Rest fs (turns_of limits.shell name (script limits body) values (with w s))
   turns_so name values body fs s =
-      if_so (follows_turns limits.shell name values) (of_beginning_for values) [] (begin_for name values body fs s) (Stop (Unsupported name) s) fs (for_accesses limits.shell name (script limits body) (of_script limits body) values (with w s)) [] (for_each limits.shell name (script limits body) 0 values (with w s)) (Ended (Unsupported name) (with w s))
-      (for_so name values body fs s) (stops_so fs (Unsupported name) s)
+      let xs : List Access = for_accesses limits.shell name (script limits body) (of_script limits body) values (with w s) in
+      let a : Answer = for_each limits.shell name (script limits body) 0 values (with w s) in
+      if_so (follows_turns limits.shell name values) (of_beginning_for values) [] (begin_for name values body fs s) (Stop (Unsupported name) s) fs (xs ++ of_compound limits a) [] (compound limits.shell a) (Ended (Unsupported name) (with w s))
+      (for_so name values body fs s ∙ sym (append_assoc xs (of_compound limits a) (Rest fs (compound limits.shell a)))) (stops_so fs (Unsupported name) s)
 
   words_so : (name : Text) (words : List tree.Word) (body : Script) (fs : List Frame) (s : State) → of_beginning_words limits.shell name words s ++ After (begin_words limits.shell name words body fs s)
       ≡ for_words_accesses limits.shell name words (script limits body) (of_script limits body) (with w s) ++ Rest fs (for_words limits.shell name words (script limits body) (with w s))
@@ -227,12 +268,15 @@ module _ (limits : Limits) (wanted : List Text) (w : OutcomeWord) where
       fitting_so (all_read (words_reads s.memory words)) found (λ values u. of_beginning_turns limits.shell name values) (λ values. begin_turns limits.shell name values body fs) (turns_of_accesses limits.shell name (script limits body) (of_script limits body)) (turns_of limits.shell name (script limits body)) fs s
       (turns_so name found body fs s)
 
-  arms_so : (arms : Arms) (fs : List Frame) (s : State) → of_beginning_arms limits.shell arms ++ After (begin_arms limits.shell arms fs s) ≡ of_arms limits arms (with w s) ++ Rest fs (arms_of limits arms (with w s))
+  arms_so : (arms : Arms) (fs : List Frame) (s : State) → of_beginning_arms limits.shell arms ++ After (begin_arms limits.shell arms fs s) ≡ of_arms limits arms (with w s) ++ Rest (CommandEnd ∷ fs) (arms_of limits arms (with w s))
   arms_so (tree.Arm c b arms) fs s =
       let t : State = with w s in
-      sym (append_assoc (of_script limits c t) (behind (script limits c t) (of_choice limits b arms)) (Rest fs (resume limits (IfCondition b arms) (script limits c t))))
-  arms_so (tree.Else b) fs s = refl
-  arms_so tree.NoElse fs s = refl
+      let xs : List Access = behind (script limits c t) (of_choice limits b arms) in
+      let a : Answer = go_on (script limits c t) (choice limits b arms) in
+      ap (λ (ys : List Access). of_script limits c t ++ ys) (append_assoc xs (of_compound limits a) (Rest fs (compound limits.shell a)))
+      ∙ sym (append_assoc (of_script limits c t) xs (Rest (CommandEnd ∷ fs) a))
+  arms_so (tree.Else b) fs s = ap (λ (xs : List Access). of_script limits b (with w s) ++ xs) (block_so limits.shell refl fs (script limits b (with w s)))
+  arms_so tree.NoElse fs s = ap (λ (xs : List Access). nothing_accesses limits.shell ++ xs) (over_so fs (with w (set_status (status_of_no_block limits.shell s.memory.status) s)))
 
   -- ---- a turn of a loop, with all the steps for the turns after it
 
@@ -275,11 +319,18 @@ module _ (limits : Limits) (wanted : List Text) (w : OutcomeWord) where
   -- the frames of a loop whose condition comes next
   loop_so : (until : Bool) (c b : Script) → HoldsCommand c → HoldsCommand b → (last : ℕ) (fs : List Frame) (t : State)
       → Rest (Lists c ∷ LoopCondition until c b last ∷ fs) (Normal t)
-      ≡ turns_accesses limits.shell limits.step_bound until (script limits c) (script limits b) (of_script limits c) (of_script limits b) t ++ Rest fs (turns limits.shell limits.step_bound until (script limits c) (script limits b) last t)
+      ≡ turns_accesses limits.shell limits.step_bound until (script limits c) (script limits b) (of_script limits c) (of_script limits b) t ++ Rest (CommandEnd ∷ fs) (turns limits.shell limits.step_bound until (script limits c) (script limits b) last t)
   loop_so until c b p q last fs t =
-      sym (ap (λ (xs : List Access). xs ++ Rest fs (turns limits.shell limits.step_bound until (script limits c) (script limits b) last t)) (turn_so until c b p q t)
-      ∙ ap (λ (a : Answer). (of_script limits c t ++ behind (script limits c t) (of_condition limits until c b)) ++ Rest fs a) (turn_more limits w until c b p q last t)
-      ∙ append_assoc (of_script limits c t) (behind (script limits c t) (of_condition limits until c b)) (Rest fs (resume limits (LoopCondition until c b last) (script limits c t))))
+      let xs : List Access = behind (script limits c t) (of_condition limits until c b) in
+      let a : Answer = go_on (script limits c t) (condition limits until c b last) in
+      ap (λ (ys : List Access). of_script limits c t ++ ys) (append_assoc xs (of_compound limits a) (Rest fs (compound limits.shell a)))
+      ∙ sym (ap (λ (ys : List Access). ys ++ Rest (CommandEnd ∷ fs) (turns limits.shell limits.step_bound until (script limits c) (script limits b) last t)) (turn_so until c b p q t)
+      ∙ ap (λ (x : Answer). (of_script limits c t ++ xs) ++ Rest (CommandEnd ∷ fs) x) (turn_more limits w until c b p q last t)
+      ∙ append_assoc (of_script limits c t) xs (Rest (CommandEnd ∷ fs) a))
+
+  -- the end of a compound command with what is in it
+  joined_so : (xs : List Access) (fs : List Frame) (a : Answer) → xs ++ Rest (CommandEnd ∷ fs) a ≡ (xs ++ of_compound limits a) ++ Rest fs (compound limits.shell a)
+  joined_so xs fs a = sym (append_assoc xs (of_compound limits a) (Rest fs (compound limits.shell a)))
 
   -- ---- a command, and a move
 
@@ -292,8 +343,10 @@ module _ (limits : Limits) (wanted : List Text) (w : OutcomeWord) where
       (λ t. fitting_so (all_read (words_reads t.memory words)) (fields_in limits.shell (parameters_in t.memory) words) (of_fields limits (reads_again words) fs) (λ f. begin_fields limits (reads_again words) f fs) (simple_accesses limits (full limits) (of_full limits)) (simple limits (reads_again words) (full limits)) fs t
       (fields_so (reads_again words) (fields_in limits.shell (parameters_in t.memory) words) fs t))
   command_so (tree.Assign pairs) p fs s = counted_so (assign_accesses limits.shell pairs) (begin_assign limits.shell pairs fs) (assign_accesses limits.shell pairs) (assign limits.shell pairs) fs s (λ t. assign_so pairs fs t)
-  command_so (tree.If arms) p fs s = arms_so arms fs s
-  command_so (tree.Loop until c b) p fs s = loop_so until c b p.0 p.1 0 fs (with w s)
+  command_so (tree.If arms) p fs s = arms_so arms fs s ∙ joined_so (of_arms limits arms (with w s)) fs (arms_of limits arms (with w s))
+  command_so (tree.Loop until c b) p fs s =
+      loop_so until c b p.0 p.1 0 fs (with w s)
+      ∙ joined_so (turns_accesses limits.shell limits.step_bound until (script limits c) (script limits b) (of_script limits c) (of_script limits b) (with w s)) fs (turns limits.shell limits.step_bound until (script limits c) (script limits b) 0 (with w s))
   command_so (tree.For name words body) p fs s =
       counted_so (λ t. modern_accesses limits.shell ++ of_beginning_words limits.shell name words (for_begun limits.shell t))
       (λ t. begin_words limits.shell name words body fs (for_begun limits.shell t))
@@ -330,29 +383,45 @@ module _ (limits : Limits) (wanted : List Text) (w : OutcomeWord) where
       (skipped_so (skips_rest limits.shell) links fs s))
   move_so (IfCondition b arms ∷ fs) p s =
       let t : State = with w s in
-      ap (λ (xs : List Access). Reads Status ∷ xs)
-      (let u : State = block_skipped limits.shell b s in
-      if_so (nat_eq s.memory.status 0) [] (modern_accesses limits.shell ++ of_beginning_arms limits.shell arms) (Go (Lists b ∷ fs) s) (begin_arms limits.shell arms fs u) fs (of_script limits b t) (modern_accesses limits.shell ++ of_arms limits arms (with w u)) (script limits b t) (arms_of limits arms (with w u)) refl
-      (in_front (modern_accesses limits.shell) (of_beginning_arms limits.shell arms) (After (begin_arms limits.shell arms fs u)) (of_arms limits arms (with w u)) (Rest fs (arms_of limits arms (with w u))) (arms_so arms fs u)))
+      let u : State = block_skipped limits.shell b s in
+      let xs : List Access = elim (nat_eq s.memory.status 0) [ true ↦ of_script limits b t | false ↦ modern_accesses limits.shell ++ of_arms limits arms (with w u) ] in
+      ap (λ (ys : List Access). Reads Status ∷ ys)
+      (if_so (nat_eq s.memory.status 0) [] (modern_accesses limits.shell ++ of_beginning_arms limits.shell arms) (Go (Lists b ∷ behind_block limits.shell fs) s) (begin_arms limits.shell arms fs u) (CommandEnd ∷ fs) (of_script limits b t) (modern_accesses limits.shell ++ of_arms limits arms (with w u)) (script limits b t) (arms_of limits arms (with w u))
+      (ap (λ (ys : List Access). of_script limits b t ++ ys) (block_so limits.shell refl fs (script limits b t)))
+      (in_front (modern_accesses limits.shell) (of_beginning_arms limits.shell arms) (After (begin_arms limits.shell arms fs u)) (of_arms limits arms (with w u)) (Rest (CommandEnd ∷ fs) (arms_of limits arms (with w u))) (arms_so arms fs u))
+      ∙ joined_so xs fs (choice limits b arms t))
   move_so (LoopCondition until c b last ∷ fs) p s =
       let t : State = with w s in
       let a : Answer = script limits b t in
+      let next : List Access = behind a (of_again limits until c b) in
+      let end : Answer = go_on a (again limits until c b) in
+      let over : State = set_status (status_of_loop limits.shell last s.memory.status) t in
+      let xs : List Access = elim (holds until s.memory.status) [ true ↦ of_script limits b t ++ next | false ↦ status_written ] in
+      ap (λ (ys : List Access). Reads Status ∷ ys)
+      (if_so (holds until s.memory.status) [] status_written (Go (Lists b ∷ LoopBody until c b ∷ fs) s) (Go fs (set_status (status_of_loop limits.shell last s.memory.status) s)) (CommandEnd ∷ fs) (of_script limits b t ++ next) status_written end (Normal over)
+      (ap (λ (ys : List Access). of_script limits b t ++ ys) (append_assoc next (of_compound limits end) (Rest fs (compound limits.shell end))) ∙ sym (append_assoc (of_script limits b t) next (Rest (CommandEnd ∷ fs) end)))
+      (ap (λ (ys : List Access). Writes Status ∷ ys) (over_so fs over))
+      ∙ joined_so xs fs (condition limits until c b last t))
+  move_so (LoopBody until c b ∷ fs) p s =
       ap (λ (xs : List Access). Reads Status ∷ xs)
-      (if_so (holds until s.memory.status) [] status_written (Go (Lists b ∷ LoopBody until c b ∷ fs) s) (Go fs (set_status (status_of_loop limits.shell last s.memory.status) s)) fs (of_script limits b t ++ behind a (of_again limits until c b)) status_written (go_on a (again limits until c b)) (Normal (set_status (status_of_loop limits.shell last s.memory.status) t))
-      (sym (append_assoc (of_script limits b t) (behind a (of_again limits until c b)) (Rest fs (go_on a (again limits until c b))))) refl)
-  move_so (LoopBody until c b ∷ fs) p s = ap (λ (xs : List Access). Reads Status ∷ xs) (loop_so until c b p.0.0 p.0.1 s.memory.status fs (with w s))
-  move_so (ForBody name [] body ∷ fs) p s = refl
+      (loop_so until c b p.0.0 p.0.1 s.memory.status fs (with w s)
+      ∙ joined_so (turns_accesses limits.shell limits.step_bound until (script limits c) (script limits b) (of_script limits c) (of_script limits b) (with w s)) fs (again limits until c b (with w s)))
+  move_so (ForBody name [] body ∷ fs) p s = over_so fs (with w s)
   move_so (ForBody name (f ∷ values) body ∷ fs) p s =
       let t : State = begin_turn limits.shell name f (with w s) in
       let a : Answer = script limits body t in
-      let next : State → List Access = each_accesses limits.shell name (script limits body) (of_script limits body) values in
-      let rest : List Access = Rest fs (resume limits (ForBody name values body) a) in
-      ap (λ (xs : List Access). turn_accesses limits.shell name ++ xs) (sym (append_assoc (of_script limits body t) (behind a next) rest))
-      ∙ sym (append_assoc (turn_accesses limits.shell name) (of_script limits body t ++ behind a next) rest)
+      let first : List Access = turn_accesses limits.shell name in
+      let next : List Access = behind a (each_accesses limits.shell name (script limits body) (of_script limits body) values) in
+      let end : Answer = go_on a (turns_left limits name values body) in
+      let rest : List Access = Rest (CommandEnd ∷ fs) end in
+      ap (λ (xs : List Access). first ++ xs)
+      (ap (λ (xs : List Access). of_script limits body t ++ xs) (append_assoc next (of_compound limits end) (Rest fs (compound limits.shell end))) ∙ sym (append_assoc (of_script limits body t) next rest))
+      ∙ sym (append_assoc first (of_script limits body t ++ next) rest) ∙ joined_so (first ++ (of_script limits body t ++ next)) fs end
   move_so (RunNames names ∷ fs) p s = names_so names fs s
   move_so (RunText names ∷ fs) p s =
       ap (λ (xs : List Access). Reads Status ∷ xs)
       (if_so (nat_eq s.memory.status 0) (of_beginning_names limits.shell names s) [] (begin_names limits.shell names fs s) (Go fs (text_failed limits.shell s)) fs (of_names limits names (with w s)) [] (run_all limits (full limits) names (with w s)) (Normal (text_failed limits.shell (with w s))) (names_so names fs s) refl)
+  move_so (CommandEnd ∷ fs) p s = over_so fs (with w s)
 
   -- an outcome is taken
   outcome_so : (outcome : Outcome) (request : Request) (fs : List Frame) (s : State) → of_next limits wanted (outcome ∷ w) (Ask request fs s) ≡ outcome_accesses outcome request ++ After (answered outcome request fs s)

@@ -17,9 +17,9 @@ use Rattle.rehearse_terms.specs.declared.shell.Shell.TheVariants.{Profile, Old20
 use Rattle.rehearse_rules.specs.Needs.{effect_now}
 use Rattle.rehearse_rules.proofs.NeedsLemmas.{now_same}
 use Rattle.rehearse_rules.specs.Parameters.{parameters_in}
-use Rattle.rehearse_rules.specs.ByShell.{unread, reads_again, leaves_in, status_of_exit, asks_in, truth_in, fields_in, turns_in, skips_rest, status_of_nothing, status_of_no_block, status_of_loop, status_in_turn, follows, assigned_in, follows_turns}
-use Rattle.rehearse_rules.specs.Execution.{Limits, Ending, End, CutDevices, CutSteps, Unknown, Size, Finished, Unsupported, Request, remember, set_status, set_local, begin_turn, status_when, goes, holds, outcome_when, told, told_again, logged, set_environment, assign_local, text_failed, request_of, test_request, for_begun, block_skipped}
-use Rattle.rehearse_machine.specs.Frames.{Frame, Lists, Linked, IfCondition, LoopCondition, LoopBody, ForBody, RunNames, RunText, Next, Go, Ask, Stop, tell_or_ask, finish_next, leave, leave_run, begin_assign, begin_for, begin_arms, begin_tree, begin_text, begin_names, begin_exit, begun_text, fitting, ask, begin_called, begin_fields, counted, begin_command, answered, move, begin_turns, begin_words}
+use Rattle.rehearse_rules.specs.ByShell.{unread, reads_again, leaves_in, status_of_exit, asks_in, truth_in, fields_in, turns_in, skips_rest, status_of_nothing, status_of_no_block, status_of_loop, status_in_turn, follows, assigned_in, follows_turns, left_status}
+use Rattle.rehearse_rules.specs.Execution.{Limits, Ending, End, CutDevices, CutSteps, Unknown, Size, Finished, Unsupported, Request, remember, set_status, set_local, begin_turn, status_when, goes, holds, outcome_when, told, told_again, logged, set_environment, assign_local, text_failed, request_of, test_request, for_begun, block_skipped, compound_left}
+use Rattle.rehearse_machine.specs.Frames.{Frame, Lists, Linked, IfCondition, LoopCondition, LoopBody, ForBody, RunNames, RunText, Next, Go, Ask, Stop, tell_or_ask, finish_next, leave, leave_run, begin_assign, begin_for, begin_arms, begin_tree, begin_text, begin_names, begin_exit, begun_text, fitting, ask, begin_called, begin_fields, counted, begin_command, answered, move, begin_turns, begin_words, CommandEnd, leave_compound, behind_block}
 use Rattle.rehearse_reads.specs.Keys.{Key, Environment, Local, Status, Access, Reads, Writes, AgreeOn, AreAmong, all_read, ReadsWithin, known_after}
 use Rattle.rehearse_reads.specs.Accesses.{status_written, word_reads, words_reads, setenv_accesses, computed_accesses, needs_reads, told_reads, outcome_accesses, names_written, sized_accesses, local_accesses, assign_accesses, turn_accesses, nothing_accesses, begun_accesses, modern_accesses}
 use Rattle.rehearse_reads.specs.Alike.{AreAbreast, IsCutBy}
@@ -30,7 +30,7 @@ use Rattle.rehearse_reads.proofs.AlikeParts.{further_apart}
 use Rattle.rehearse_reads.proofs.AlikeDevices.{told_alike, met_alike}
 use Rattle.rehearse_reads.proofs.AlikeLoops.{near_turn, near_for, near_skipped}
 use Rattle.rehearse_machine.proofs.ProgressLemmas.{IsQuiet, either-quiet, assign-quiet, fields-quiet, for-quiet, words-quiet}
-use Rattle.rehearse_frames.specs.MoveAccesses.{of_leaving, of_exit, of_telling, of_beginning_for, of_beginning_arms, of_beginning_tree, of_beginning_text, of_beginning_names, of_asking, of_listed, of_builtin, of_call, of_fields, of_command, of_move, of_beginning_turns, of_beginning_words}
+use Rattle.rehearse_frames.specs.MoveAccesses.{of_leaving, of_exit, of_telling, of_beginning_for, of_beginning_arms, of_beginning_tree, of_beginning_text, of_beginning_names, of_asking, of_listed, of_builtin, of_call, of_fields, of_command, of_move, of_beginning_turns, of_beginning_words, of_leaving_compound}
 
 -- the steps that were begun before what is next, and the room that it needs for device commands
 abbrev pub next_steps : Next → ℕ
@@ -108,22 +108,37 @@ module _ (limits : Limits) (i j : ℕ) (k l : List LoggedCommand) where
   only_read true known x y h = h
   only_read false known x y h = h
 
-  -- `exit` has set the status in both
-  leaves : (status : ℕ) (fs : List Frame) (known : List Key) (s t : State) → s.memory.status ≡ status → t.memory.status ≡ status → Near known s t → NextAlike (known_after known (of_leaving status fs)) (leave fs s) (leave fs t)
-  leaves status [] known s t e f near =
-      subst (λ (n : ℕ). NextAlike known (Stop (End s.memory.status) s) (Stop (End n) t)) (e ∙ sym f) (stops_alike near)
-  leaves status (RunNames names ∷ fs) known s t e f near = leaves_run (RunNames names) fs known s t (f ∙ sym e) near
-  leaves status (RunText names ∷ fs) known s t e f near =
-      only_read (nat_eq status 0) known (leave_run (RunText names) fs s) (leave_run (RunText names) fs t) (leaves_run (RunText names) fs known s t (f ∙ sym e) near)
-  leaves status (Lists ls ∷ fs) known s t e f near = leaves status fs known s t e f near
-  leaves status (Linked ls ∷ fs) known s t e f near = leaves status fs known s t e f near
-  leaves status (IfCondition b arms ∷ fs) known s t e f near = leaves status fs known s t e f near
-  leaves status (LoopCondition until c b last ∷ fs) known s t e f near = leaves status fs known s t e f near
-  leaves status (LoopBody until c b ∷ fs) known s t e f near = leaves status fs known s t e f near
-  leaves status (ForBody name fields body ∷ fs) known s t e f near = leaves status fs known s t e f near
+  -- `exit` in a compound command
+  leaves_compound : (shell : Shell) (ps : List Frame) (known : List Key) (s t : State) (xs : List Access) (a b : Next) → t.memory.status ≡ s.memory.status → Near known s t → NextAlike (known_after known xs) a b
+      → NextAlike (known_after known (of_leaving_compound shell xs)) (leave_compound shell ps a s) (leave_compound shell ps b t)
+  leaves_compound Profile ps known s t xs a b same near h = h
+  leaves_compound Old2023 ps known s t xs a b same near h = h
+  leaves_compound Old2025 ps known s t xs a b same near h = h
+  leaves_compound Modern2025 ps known s t xs a b same near h =
+      goes_alike (near_statuses limits i j k l known s t (left_status s.memory.status) (left_status t.memory.status) (ap left_status same) near)
 
-  exits : (o : Option ℕ) (other : ℕ) (fs : List Frame) → Moves (begin_exit o other fs) (λ s. of_exit o fs)
-  exits (Some n) other fs known s t near w = leaves n fs (Status ∷ known) (set_status n s) (set_status n t) refl refl (near_status limits i j k l known s t n near)
+  -- `exit` has set the status in both
+  leaves : (shell : Shell) (status : ℕ) (fs : List Frame) (known : List Key) (s t : State) → s.memory.status ≡ status → t.memory.status ≡ status → Near known s t → NextAlike (known_after known (of_leaving shell status fs)) (leave shell fs s) (leave shell fs t)
+  leaves shell status [] known s t e f near =
+      subst (λ (n : ℕ). NextAlike known (Stop (End s.memory.status) s) (Stop (End n) t)) (e ∙ sym f) (stops_alike near)
+  leaves shell status (RunNames names ∷ fs) known s t e f near = leaves_run (RunNames names) fs known s t (f ∙ sym e) near
+  leaves shell status (RunText names ∷ fs) known s t e f near =
+      only_read (nat_eq status 0) known (leave_run (RunText names) fs s) (leave_run (RunText names) fs t) (leaves_run (RunText names) fs known s t (f ∙ sym e) near)
+  leaves shell status (Lists ls ∷ fs) known s t e f near = leaves shell status fs known s t e f near
+  leaves shell status (Linked ls ∷ fs) known s t e f near = leaves shell status fs known s t e f near
+  leaves shell status (IfCondition b arms ∷ fs) known s t e f near =
+      leaves_compound shell (CommandEnd ∷ fs) known s t (of_leaving shell status fs) (leave shell fs s) (leave shell fs t) (f ∙ sym e) near (leaves shell status fs known s t e f near)
+  leaves shell status (LoopCondition until c b last ∷ fs) known s t e f near =
+      leaves_compound shell (CommandEnd ∷ fs) known s t (of_leaving shell status fs) (leave shell fs s) (leave shell fs t) (f ∙ sym e) near (leaves shell status fs known s t e f near)
+  leaves shell status (LoopBody until c b ∷ fs) known s t e f near =
+      leaves_compound shell (CommandEnd ∷ fs) known s t (of_leaving shell status fs) (leave shell fs s) (leave shell fs t) (f ∙ sym e) near (leaves shell status fs known s t e f near)
+  leaves shell status (ForBody name fields body ∷ fs) known s t e f near =
+      leaves_compound shell fs known s t (of_leaving shell status fs) (leave shell fs s) (leave shell fs t) (f ∙ sym e) near (leaves shell status fs known s t e f near)
+  leaves shell status (CommandEnd ∷ fs) known s t e f near =
+      leaves_compound shell (CommandEnd ∷ fs) known s t (of_leaving shell status fs) (leave shell fs s) (leave shell fs t) (f ∙ sym e) near (leaves shell status fs known s t e f near)
+
+  exits : (o : Option ℕ) (other : ℕ) (fs : List Frame) → Moves (begin_exit limits.shell o other fs) (λ s. of_exit limits.shell o fs)
+  exits (Some n) other fs known s t near w = leaves limits.shell n fs (Status ∷ known) (set_status n s) (set_status n t) refl refl (near_status limits i j k l known s t n near)
   exits None other fs known s t near w = sets_status other fs known s t near w
 
   -- ---- device commands
@@ -392,7 +407,7 @@ module _ (limits : Limits) (i j : ℕ) (k l : List LoggedCommand) where
       skips false = goes_alike near
   moves_alike (IfCondition b arms ∷ fs) known s t near w =
       if_moves known (nat_eq s.memory.status 0) (nat_eq t.memory.status 0) (ap (λ (n : ℕ). nat_eq n 0) (near.keys Status w.0))
-      (Go (Lists b ∷ fs) s) (begin_arms limits.shell arms fs (block_skipped limits.shell b s)) (Go (Lists b ∷ fs) t) (begin_arms limits.shell arms fs (block_skipped limits.shell b t))
+      (Go (Lists b ∷ behind_block limits.shell fs) s) (begin_arms limits.shell arms fs (block_skipped limits.shell b s)) (Go (Lists b ∷ behind_block limits.shell fs) t) (begin_arms limits.shell arms fs (block_skipped limits.shell b t))
       [] (modern_accesses limits.shell ++ of_beginning_arms limits.shell arms) (λ v. goes_alike near) (skips_block (near.keys Status w.0)) w.1
     where
       skips_block : t.memory.status ≡ s.memory.status → ReadsWithin known (modern_accesses limits.shell ++ of_beginning_arms limits.shell arms)
@@ -416,3 +431,4 @@ module _ (limits : Limits) (i j : ℕ) (k l : List LoggedCommand) where
       if_moves known (nat_eq s.memory.status 0) (nat_eq t.memory.status 0) (ap (λ (n : ℕ). nat_eq n 0) (near.keys Status w.0))
       (begin_names limits.shell names fs s) (Go fs (text_failed limits.shell s)) (begin_names limits.shell names fs t) (Go fs (text_failed limits.shell t))
       (of_beginning_names limits.shell names s) [] (begins_names limits.shell names fs known s t near) (λ v. goes_alike (near_failed limits i j k l known s t limits.shell (near.keys Status w.0) near)) w.1
+  moves_alike (CommandEnd ∷ fs) known s t near w = goes_alike near

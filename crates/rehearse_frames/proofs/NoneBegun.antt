@@ -5,14 +5,19 @@ use Rattle.hushlang.specs.Tree.{Script, AndOr, Command, Arms, IsProperList, IsPr
 use Rattle.rehearse_terms.specs.State.{State}
 use Rattle.rehearse_rules.specs.Parameters.{parameters_in}
 use Rattle.rehearse_rules.specs.ByShell.{fields_in, turns_in}
-use Rattle.rehearse_rules.specs.Execution.{Limits, Answer, Ended, CutSteps, go_on, holds, exec_script, exec_list, exec_joined, exec_command, for_begun, block_skipped}
-use Rattle.rehearse_machine.proofs.BoundLemmas.{Cut-block, Cut-command}
+use Rattle.rehearse_terms.specs.declared.shell.Shell.{Shell}
+use Rattle.rehearse_rules.specs.Execution.{Limits, Answer, Ended, CutSteps, go_on, holds, exec_script, exec_list, exec_joined, exec_command, for_begun, block_skipped, exec_arms, turns}
+use Rattle.rehearse_machine.proofs.BoundLemmas.{Cut-block, Cut-command, Cut-if, Cut-turns}
 use Rattle.rehearse_reads.specs.Keys.{Access, Reads, Status, all_read}
-use Rattle.rehearse_reads.specs.Accesses.{behind, status_written, words_reads, sized_accesses, simple_accesses, assign_accesses, for_accesses, begun_accesses, turns_accesses, script_accesses, list_accesses, joined_accesses, command_accesses, arms_accesses, modern_accesses, for_words_accesses}
+use Rattle.rehearse_reads.specs.Accesses.{behind, status_written, words_reads, sized_accesses, simple_accesses, assign_accesses, for_accesses, begun_accesses, turns_accesses, script_accesses, list_accesses, joined_accesses, command_accesses, arms_accesses, modern_accesses, for_words_accesses, compound_accesses}
 
 -- nothing before a cut, and nothing behind it
 pub nothing_behind : (xs : List Access) (a : Answer) (s : State) (f : State → List Access) → xs ≡ [] → a ≡ Ended CutSteps s → xs ++ behind a f ≡ []
 nothing_behind xs a s f e cut = ap (λ (ys : List Access). ys ++ behind a f) e ∙ ap (λ (b : Answer). behind b f) cut
+
+-- nor behind a compound command that is cut
+nothing_left : (shell : Shell) (xs : List Access) (a : Answer) (s : State) → xs ≡ [] → a ≡ Ended CutSteps s → xs ++ compound_accesses shell a ≡ []
+nothing_left shell xs a s e cut = ap (λ (ys : List Access). ys ++ compound_accesses shell a) e ∙ ap (compound_accesses shell) cut
 
 module _ (limits : Limits) (left : ℕ) (text : Script → State → Answer) (of_text : Script → State → List Access) where
   None-begun : (s : State) (f : State → List Access) → limits.step_bound ≤ s.steps → begun_accesses limits f s ≡ []
@@ -36,8 +41,14 @@ module _ (limits : Limits) (left : ℕ) (text : Script → State → Answer) (of
     None-command : (a : Command) → IsProperCommand a → (s : State) → limits.step_bound ≤ s.steps → command_accesses limits left text of_text a s ≡ []
     None-command (tree.Simple words) p s h = None-begun s (λ t. all_read (words_reads t.memory words) ++ sized_accesses (fields_in limits.shell (parameters_in t.memory) words) (simple_accesses limits text of_text) t) h
     None-command (tree.Assign pairs) p s h = None-begun s (assign_accesses limits.shell pairs) h
-    None-command (tree.If arms) p s h = None-if arms p s h
-    None-command (tree.Loop until c b) p s h = None-turns left until (exec_script limits left text c) (exec_script limits left text b) (script_accesses limits left text of_text c) (script_accesses limits left text of_text b) s (None-block c p.0 s h) (cut_script c p.0 s h)
+    None-command (tree.If arms) p s h = nothing_left limits.shell (arms_accesses limits left text of_text arms s) (exec_arms limits left text arms s) s (None-if arms p s h) (Cut-if limits left text arms p s h)
+    None-command (tree.Loop until c b) p s h =
+        let cond : State → Answer = exec_script limits left text c in
+        let body : State → Answer = exec_script limits left text b in
+        let of_cond : State → List Access = script_accesses limits left text of_text c in
+        let of_body : State → List Access = script_accesses limits left text of_text b in
+        nothing_left limits.shell (turns_accesses limits.shell left until cond body of_cond of_body s) (turns limits.shell left until cond body 0 s) s
+        (None-turns left until cond body of_cond of_body s (None-block c p.0 s h) (cut_script c p.0 s h)) (Cut-turns limits left text left until cond body 0 s (cut_script c p.0 s h))
     None-command (tree.For name words b) p s h = None-begun s (λ t. modern_accesses limits.shell ++ for_words_accesses limits.shell name words (exec_script limits left text b) (script_accesses limits left text of_text b) (for_begun limits.shell t)) h
 
     pub None-block : (a : Script) → HoldsCommand a → (s : State) → limits.step_bound ≤ s.steps → script_accesses limits left text of_text a s ≡ []

@@ -11,13 +11,13 @@ use Rattle.device_list.specs.DeviceList.{Effect, effect_of, computed_by}
 use Rattle.rehearse_terms.specs.State.{Text, get, State}
 use Rattle.rehearse_rules.specs.Parameters.{parameters_in}
 use Rattle.rehearse_rules.specs.ByShell.{fields_in, turns_in, skips_rest, follows, follows_turns}
-use Rattle.rehearse_rules.specs.Execution.{Limits, Answer, Normal, Exit, Ended, Dry, CutSteps, go_on, set_status, goes, holds, begin_turn, started_text, run_text, exec_script, exec_list, exec_command, exec, request_of, for_begun, block_skipped}
+use Rattle.rehearse_rules.specs.Execution.{Limits, Answer, Normal, Exit, Ended, Dry, CutSteps, go_on, set_status, goes, holds, begin_turn, started_text, run_text, exec_script, exec_list, exec_command, exec, request_of, for_begun, block_skipped, exec_arms, turns, for_each}
 use Rattle.rehearse_rules.proofs.GrowingSteps.{AtLeast, Grew, AtLeast-track, Grew-block}
 use Rattle.rehearse_rules.proofs.TakenOutcomes.{KeepsAll, Keeps-script, Keeps-list, Keeps-one, Keeps-exec, Keeps-started}
-use Rattle.rehearse_machine.proofs.StepBoundLemmas.{same_if, tree_answer, block_proper, same_script, same_exec}
+use Rattle.rehearse_machine.proofs.StepBoundLemmas.{same_if, tree_answer, block_proper, same_script, same_exec, same_turns, same_for, same_if_arms}
 use Rattle.rehearse_machine.proofs.BoundLemmas.{Cut-block}
 use Rattle.rehearse_reads.specs.Keys.{Access, Reads, Writes, Environment, Status, all_read}
-use Rattle.rehearse_reads.specs.Accesses.{listed_accesses, behind, behind_text, status_written, words_reads, sized_accesses, turns_accesses, turn_accesses, each_accesses, for_accesses, begun_accesses, device_accesses, computed_accesses, tree_accesses, text_accesses, started_accesses, run_accesses, builtin_accesses, call_accesses, simple_accesses, script_accesses, list_accesses, joined_accesses, command_accesses, arms_accesses, accesses, modern_accesses, turns_of_accesses, for_words_accesses}
+use Rattle.rehearse_reads.specs.Accesses.{listed_accesses, behind, behind_text, status_written, words_reads, sized_accesses, turns_accesses, turn_accesses, each_accesses, for_accesses, begun_accesses, device_accesses, computed_accesses, tree_accesses, text_accesses, started_accesses, run_accesses, builtin_accesses, call_accesses, simple_accesses, script_accesses, list_accesses, joined_accesses, command_accesses, arms_accesses, accesses, modern_accesses, turns_of_accesses, for_words_accesses, compound_accesses}
 use Rattle.rehearse_frames.proofs.NoneBegun.{None-block, None-turns}
 
 pub same_both : (xs ys zs ws : List Access) → xs ≡ ys → zs ≡ ws → xs ++ zs ≡ ys ++ ws
@@ -168,7 +168,9 @@ module _ (limits : Limits) where
         let fs : List Text = turns_in limits.shell (parameters_in s.memory) words in
         ap (λ (xs : List Access). all_read (words_reads s.memory words) ++ xs)
         (sized_same fs (turns_of_accesses limits.shell name b x) (turns_of_accesses limits.shell name b' x') s
-        (either (follows_turns limits.shell name fs) (for_accesses limits.shell name b x fs s) [] (for_accesses limits.shell name b' x' fs s) [] (for_same name b b' x x' eb ex kb fs s l) refl))
+        (either (follows_turns limits.shell name fs) (for_accesses limits.shell name b x fs s ++ compound_accesses limits.shell (for_each limits.shell name b 0 fs s)) [] (for_accesses limits.shell name b' x' fs s ++ compound_accesses limits.shell (for_each limits.shell name b' 0 fs s)) []
+        (same_both (for_accesses limits.shell name b x fs s) (for_accesses limits.shell name b' x' fs s) (compound_accesses limits.shell (for_each limits.shell name b 0 fs s)) (compound_accesses limits.shell (for_each limits.shell name b' 0 fs s)) (for_same name b b' x x' eb ex kb fs s l)
+        (ap (compound_accesses limits.shell) (same_for limits n m below text text' kept same name b b' eb kb 0 fs s l))) refl))
 
     -- ---- the tree
 
@@ -217,12 +219,23 @@ module _ (limits : Limits) where
           (λ t. all_read (words_reads t.memory words) ++ sized_accesses (fields_in limits.shell (parameters_in t.memory) words) (simple_accesses limits text' u') t) s h
           (λ t r. ap (λ (xs : List Access). all_read (words_reads t.memory words) ++ xs) (sized_same (fields_in limits.shell (parameters_in t.memory) words) (simple_accesses limits text u) (simple_accesses limits text' u') t (simple_same (fields_in limits.shell (parameters_in t.memory) words) t r)))
       command_same (tree.Assign pairs) p s h = refl
-      command_same (tree.If arms) p s h = if_same arms p s h
+      command_same (tree.If arms) p s h =
+          same_both (arms_accesses limits n text u arms s) (arms_accesses limits m text' u' arms s) (compound_accesses limits.shell (exec_arms limits n text arms s)) (compound_accesses limits.shell (exec_arms limits m text' arms s)) (if_same arms p s h)
+          (ap (compound_accesses limits.shell) (same_if_arms limits n m below text text' kept same arms p s h))
       command_same (tree.Loop until c b) p s h =
-          turns_same n m below until (exec_script limits n text c) (exec_script limits m text' c) (exec_script limits n text b) (exec_script limits m text' b)
-          (script_accesses limits n text u c) (script_accesses limits m text' u' c) (script_accesses limits n text u b) (script_accesses limits m text' u' b)
+          let cond : State → Answer = exec_script limits n text c in
+          let cond' : State → Answer = exec_script limits m text' c in
+          let body : State → Answer = exec_script limits n text b in
+          let body' : State → Answer = exec_script limits m text' b in
+          let x : List Access = turns_accesses limits.shell n until cond body (script_accesses limits n text u c) (script_accesses limits n text u b) s in
+          let x' : List Access = turns_accesses limits.shell m until cond' body' (script_accesses limits m text' u' c) (script_accesses limits m text' u' b) s in
+          same_both x x' (compound_accesses limits.shell (turns limits.shell n until cond body 0 s)) (compound_accesses limits.shell (turns limits.shell m until cond' body' 0 s))
+          (turns_same n m below until cond cond' body body' (script_accesses limits n text u c) (script_accesses limits m text' u' c) (script_accesses limits n text u b) (script_accesses limits m text' u' b)
           (script_answers c (block_proper c p.0)) (script_answers b (block_proper b p.1)) (script_same c (block_proper c p.0)) (script_same b (block_proper b p.1))
-          (Grew-block limits n text kept c p.0) (Keeps-script limits n text kept b) (λ t r. (Cut-block limits m text' c p.0 t r, None-block limits m text' u' c p.0 t r)) s h h
+          (Grew-block limits n text kept c p.0) (Keeps-script limits n text kept b) (λ t r. (Cut-block limits m text' c p.0 t r, None-block limits m text' u' c p.0 t r)) s h h)
+          (ap (compound_accesses limits.shell)
+          (same_turns limits n m below text text' kept same n m below until cond cond' body body' (script_answers c (block_proper c p.0)) (script_answers b (block_proper b p.1))
+          (Grew-block limits n text kept c p.0) (Keeps-script limits n text kept b) (Cut-block limits m text' c p.0) 0 s h h))
       command_same (tree.For name words b) p s h =
           begun_same (λ t. modern_accesses limits.shell ++ for_words_accesses limits.shell name words (exec_script limits n text b) (script_accesses limits n text u b) (for_begun limits.shell t))
           (λ t. modern_accesses limits.shell ++ for_words_accesses limits.shell name words (exec_script limits m text' b) (script_accesses limits m text' u' b) (for_begun limits.shell t)) s h

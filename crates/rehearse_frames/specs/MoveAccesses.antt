@@ -8,30 +8,39 @@ use Rattle.builtins.specs.Builtins.{Builtin, SetEnv, Run, Test, Echo, True, Fals
 use Rattle.device_list.specs.DeviceList.{Effect, effect_of, computed_by}
 use Rattle.rehearse_terms.specs.State.{Text, get, State}
 use Rattle.rehearse_terms.specs.declared.shell.Shell.{Shell}
+use Rattle.rehearse_terms.specs.declared.shell.Shell.TheVariants.{Profile, Old2023, Old2025, Modern2025}
 use Rattle.rehearse_rules.specs.Parameters.{parameters_in}
 use Rattle.rehearse_rules.specs.ByShell.{reads_again, leaves_in, asks_in, fields_in, turns_in, follows, follows_turns}
 use Rattle.rehearse_rules.specs.Needs.{effect_now}
 use Rattle.rehearse_rules.specs.Execution.{Limits, goes, holds, outcome_when, Request, told, request_of, test_request, for_begun}
-use Rattle.rehearse_machine.specs.Frames.{Frame, Lists, Linked, IfCondition, LoopCondition, LoopBody, ForBody, RunNames, RunText}
+use Rattle.rehearse_machine.specs.Frames.{Frame, Lists, Linked, IfCondition, LoopCondition, LoopBody, ForBody, RunNames, RunText, CommandEnd}
 use Rattle.rehearse_reads.specs.Keys.{Access, Reads, Writes, Environment, Status, all_read}
 use Rattle.rehearse_reads.specs.Accesses.{status_written, words_reads, setenv_accesses, computed_accesses, needs_reads, told_reads, outcome_accesses, sized_accesses, assign_accesses, turn_accesses, nothing_accesses, begun_accesses, modern_accesses}
 
+-- `exit` in a compound command goes further outwards, but not in the modern shell: the status of the command follows from its own
+abbrev pub of_leaving_compound : Shell → (outwards : List Access) → List Access
+of_leaving_compound Profile outwards = outwards
+of_leaving_compound Old2023 outwards = outwards
+of_leaving_compound Old2025 outwards = outwards
+of_leaving_compound Modern2025 outwards = Reads Status ∷ status_written
+
 -- `exit` passes the frames up to the `run` of its text, which ends with this status if it is not 0. With none it ends the run,
 -- whose status is read
-abbrev pub of_leaving : (status : ℕ) → List Frame → List Access
-of_leaving status [] = Reads Status ∷ []
-of_leaving status (RunNames names ∷ fs) = Reads Status ∷ []
-of_leaving status (RunText names ∷ fs) = elim (nat_eq status 0) [ true ↦ [] | false ↦ Reads Status ∷ [] ]
-of_leaving status (Lists ls ∷ fs) = of_leaving status fs
-of_leaving status (Linked ls ∷ fs) = of_leaving status fs
-of_leaving status (IfCondition b arms ∷ fs) = of_leaving status fs
-of_leaving status (LoopCondition until c b last ∷ fs) = of_leaving status fs
-of_leaving status (LoopBody until c b ∷ fs) = of_leaving status fs
-of_leaving status (ForBody name fields body ∷ fs) = of_leaving status fs
+abbrev pub of_leaving : Shell → (status : ℕ) → List Frame → List Access
+of_leaving shell status [] = Reads Status ∷ []
+of_leaving shell status (RunNames names ∷ fs) = Reads Status ∷ []
+of_leaving shell status (RunText names ∷ fs) = elim (nat_eq status 0) [ true ↦ [] | false ↦ Reads Status ∷ [] ]
+of_leaving shell status (Lists ls ∷ fs) = of_leaving shell status fs
+of_leaving shell status (Linked ls ∷ fs) = of_leaving shell status fs
+of_leaving shell status (IfCondition b arms ∷ fs) = of_leaving_compound shell (of_leaving shell status fs)
+of_leaving shell status (LoopCondition until c b last ∷ fs) = of_leaving_compound shell (of_leaving shell status fs)
+of_leaving shell status (LoopBody until c b ∷ fs) = of_leaving_compound shell (of_leaving shell status fs)
+of_leaving shell status (ForBody name fields body ∷ fs) = of_leaving_compound shell (of_leaving shell status fs)
+of_leaving shell status (CommandEnd ∷ fs) = of_leaving_compound shell (of_leaving shell status fs)
 
-abbrev pub of_exit : Option ℕ → List Frame → List Access
-of_exit (Some status) fs = Writes Status ∷ of_leaving status fs
-of_exit None fs = status_written
+abbrev pub of_exit : Shell → Option ℕ → List Frame → List Access
+of_exit shell (Some status) fs = Writes Status ∷ of_leaving shell status fs
+of_exit shell None fs = status_written
 
 -- a command that is told an answer goes on with it
 abbrev pub of_telling : (told : Option Bool) → Request → List Access
@@ -104,7 +113,7 @@ module _ (limits : Limits) where
   of_builtin again Echo name words fs s = status_written
   of_builtin again True name words fs s = status_written
   of_builtin again False name words fs s = status_written
-  of_builtin again Leave name words fs s = of_exit (leaves_in limits.shell again words) fs
+  of_builtin again Leave name words fs s = of_exit limits.shell (leaves_in limits.shell again words) fs
 
   abbrev pub of_call : (again : Bool) → (name : Text) → (words : List Text) → List Frame → State → List Access
   of_call again name words fs s =
@@ -155,3 +164,4 @@ module _ (limits : Limits) where
   of_move (RunNames names ∷ fs) s = of_beginning_names limits.shell names s
   of_move (RunText names ∷ fs) s =
       Reads Status ∷ elim (nat_eq s.memory.status 0) [ true ↦ of_beginning_names limits.shell names s | false ↦ [] ]
+  of_move (CommandEnd ∷ fs) s = []

@@ -1,13 +1,14 @@
 -- What the frames of the machine still read and write, beside what they do to a run (Meaning.antt of rehearse_machine). Ours.
-use Rattle.std.specs.Prelude.{nat_eq, Bool, true, false, List, [], ◌∷◌, ◌++◌, map}
+use Rattle.std.specs.Prelude.{ℕ, nat_eq, Bool, true, false, List, [], ◌∷◌, ◌++◌, map}
 use Rattle.hushlang.specs.Tree.{Script, Joined, Command, Arms}
 use Rattle.rehearse_terms.specs.Outcomes.{OutcomeWord}
 use Rattle.rehearse_terms.specs.State.{Text, State}
-use Rattle.rehearse_rules.specs.Execution.{Limits, Answer, Normal, Exit, Ended, Dry, holds, take_outcome, block_skipped}
-use Rattle.rehearse_machine.specs.Frames.{Frame, Lists, Linked, IfCondition, LoopCondition, LoopBody, ForBody, RunNames, RunText, Next, Go, Ask, Stop}
-use Rattle.rehearse_machine.specs.Meaning.{with, full, script, resume}
+use Rattle.rehearse_rules.specs.ByShell.{status_of_loop}
+use Rattle.rehearse_rules.specs.Execution.{Limits, Answer, Normal, Exit, Ended, Dry, holds, take_outcome, block_skipped, go_on, for_each, set_status}
+use Rattle.rehearse_machine.specs.Frames.{Frame, Lists, Linked, IfCondition, LoopCondition, LoopBody, ForBody, RunNames, RunText, Next, Go, Ask, Stop, CommandEnd}
+use Rattle.rehearse_machine.specs.Meaning.{with, full, script, resume, arms_of, again}
 use Rattle.rehearse_reads.specs.Keys.{Access, Reads, Environment, Status}
-use Rattle.rehearse_reads.specs.Accesses.{accesses, behind, behind_text, status_written, turns_accesses, each_accesses, run_accesses, taken_accesses, script_accesses, joined_accesses, command_accesses, arms_accesses, modern_accesses}
+use Rattle.rehearse_reads.specs.Accesses.{accesses, behind, behind_text, status_written, turns_accesses, each_accesses, run_accesses, taken_accesses, script_accesses, joined_accesses, command_accesses, arms_accesses, modern_accesses, compound_accesses}
 
 -- the values of these variables are read
 abbrev pub names_read : List Text → List Access
@@ -60,16 +61,40 @@ module _ (limits : Limits) where
   abbrev pub of_names : List Text → State → List Access
   of_names names = run_accesses limits (full limits) of_full names
 
+  -- ---- what compound commands do, behind a part of them
+
+  abbrev pub choice : Script → Arms → State → Answer
+  choice b arms t = elim (nat_eq t.memory.status 0) [
+    | true ↦ script limits b t
+    | false ↦ arms_of limits arms (block_skipped limits.shell b t)
+  ]
+
+  abbrev pub condition : Bool → Script → Script → (last : ℕ) → State → Answer
+  condition until c b last t = elim (holds until t.memory.status) [
+    | true ↦ go_on (script limits b t) (again limits until c b)
+    | false ↦ Normal (set_status (status_of_loop limits.shell last t.memory.status) t)
+  ]
+
+  abbrev pub turns_left : Text → List Text → Script → State → Answer
+  turns_left name values body t = for_each limits.shell name (script limits body) t.memory.status values t
+
+  -- a compound command ends behind this answer
+  abbrev pub of_compound : Answer → List Access
+  of_compound a = compound_accesses limits.shell a
+
   -- a frame, behind the answer of the frames above it
   abbrev pub of_frame : Frame → Answer → List Access
   of_frame (Lists lists) a = behind a (of_script lists)
   of_frame (Linked links) a = behind a (of_joined links)
-  of_frame (IfCondition b arms) a = behind a (of_choice b arms)
-  of_frame (LoopCondition until c b last) a = behind a (of_condition until c b)
-  of_frame (LoopBody until c b) a = behind a (of_again until c b)
-  of_frame (ForBody name values body) a = behind a (each_accesses limits.shell name (script limits body) (of_script body) values)
+  of_frame (IfCondition b arms) a = behind a (of_choice b arms) ++ of_compound (go_on a (choice b arms))
+  of_frame (LoopCondition until c b last) a = behind a (of_condition until c b) ++ of_compound (go_on a (condition until c b last))
+  of_frame (LoopBody until c b) a = behind a (of_again until c b) ++ of_compound (go_on a (again limits until c b))
+  of_frame (ForBody name values body) a =
+      behind a (each_accesses limits.shell name (script limits body) (of_script body) values)
+      ++ of_compound (go_on a (turns_left name values body))
   of_frame (RunNames names) a = first_behind a (of_names names)
   of_frame (RunText names) a = behind_text a (of_names names)
+  of_frame CommandEnd a = of_compound a
 
   -- ---- to the end of the run, where the status and the values of these variables are read
 

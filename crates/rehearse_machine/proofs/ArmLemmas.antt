@@ -13,7 +13,7 @@ use Rattle.bootstore_state.specs.declared.frame.At.{At}
 use Rattle.bootstore_state.specs.Moment.{RunningFrame}
 use Rattle.rehearse_terms.specs.State.{State}
 use Rattle.rehearse_rules.specs.Execution.{set_status, block_skipped}
-use Rattle.rehearse_machine.specs.Places.{GoOn, drop_arms, place, moved_to, behind, block_frame, place_arms, condition_ends}
+use Rattle.rehearse_machine.specs.Places.{GoOn, drop_arms, place, moved_to, block_frame, place_arms, condition_ends, behind, under_block, with_block}
 use Rattle.rehearse_terms.specs.declared.shell.Shell.{Shell}
 use Rattle.rehearse_rules.specs.ByShell.{status_of_no_block}
 
@@ -42,7 +42,7 @@ module _ (shell : Shell) (list : List Arm) (o : Option Script) (a : ℕ) (f : Ru
       ap (λ (x : RunningFrame). GoOn (x ∷ moved_to at f ∷ fs) s) e ∙ ap (λ (x : At). GoOn (block_frame (view.script p.0.value) ∷ moved_to x f ∷ fs) s) k
       ∙ sym (ap (λ (x : Arms). place_arms shell x a f fs s) (some_arm list o a p (slice_get_read list (length list) a p refl l r)))
 
-  pub other_entered : (b : Script) (child : RunningFrame) → o ≡ Some b → length list ≤ a → child ≡ block_frame b → at ≡ place f.place.list (suc f.place.command) 0 0 → GoOn (child ∷ moved_to at f ∷ fs) s ≡ place_arms shell arms a f fs s
+  pub other_entered : (b : Script) (child : RunningFrame) → o ≡ Some b → length list ≤ a → child ≡ block_frame b → at ≡ under_block shell f.place → GoOn (child ∷ moved_to at f ∷ fs) s ≡ place_arms shell arms a f fs s
   other_entered b child p l e k =
       ap (λ (x : RunningFrame). GoOn (x ∷ moved_to at f ∷ fs) s) e ∙ ap (λ (x : At). GoOn (block_frame b ∷ moved_to x f ∷ fs) s) k
       ∙ sym (ap (λ (x : Arms). place_arms shell x a f fs s) (no_arm list o a (slice_get_past list a l) ∙ ap (view.arms []) p))
@@ -53,15 +53,15 @@ module _ (shell : Shell) (list : List Arm) (o : Option Script) (a : ℕ) (f : Ru
       ∙ sym (ap (λ (x : Arms). place_arms shell x a f fs s) (no_arm list o a (slice_get_past list a l) ∙ ap (view.arms []) p))
 
   -- after the condition of an arm has ended
-  condition_true : (b : Bool) (c d : Script) (more : Arms) → b ≡ true → GoOn (block_frame d ∷ behind f ∷ fs) s ≡ elim b [ true ↦ GoOn (block_frame d ∷ behind f ∷ fs) s | false ↦ place_arms shell more (suc a) f fs (block_skipped shell d s) ]
+  condition_true : (b : Bool) (c d : Script) (more : Arms) → b ≡ true → GoOn (block_frame d ∷ with_block shell f ∷ fs) s ≡ elim b [ true ↦ GoOn (block_frame d ∷ with_block shell f ∷ fs) s | false ↦ place_arms shell more (suc a) f fs (block_skipped shell d s) ]
   condition_true true c d more e = refl
   condition_true false c d more e = absurd (let g = e in cc)
 
-  condition_false : (b : Bool) (d : Script) (more : Arms) → b ≡ false → place_arms shell more (suc a) f fs (block_skipped shell d s) ≡ elim b [ true ↦ GoOn (block_frame d ∷ behind f ∷ fs) s | false ↦ place_arms shell more (suc a) f fs (block_skipped shell d s) ]
+  condition_false : (b : Bool) (d : Script) (more : Arms) → b ≡ false → place_arms shell more (suc a) f fs (block_skipped shell d s) ≡ elim b [ true ↦ GoOn (block_frame d ∷ with_block shell f ∷ fs) s | false ↦ place_arms shell more (suc a) f fs (block_skipped shell d s) ]
   condition_false true d more e = absurd (let g = e in cc)
   condition_false false d more e = refl
 
-  pub block_entered : (p : Arm) (child : RunningFrame) → a < length list → p ≡ get_or list a p → nat_eq s.memory.status 0 ≡ true → child ≡ block_frame (view.script p.1.value) → at ≡ place f.place.list (suc f.place.command) 0 0 → GoOn (child ∷ moved_to at f ∷ fs) s ≡ condition_ends shell arms a f fs s
+  pub block_entered : (p : Arm) (child : RunningFrame) → a < length list → p ≡ get_or list a p → nat_eq s.memory.status 0 ≡ true → child ≡ block_frame (view.script p.1.value) → at ≡ under_block shell f.place → GoOn (child ∷ moved_to at f ∷ fs) s ≡ condition_ends shell arms a f fs s
   block_entered p child l r t e k =
       ap (λ (x : RunningFrame). GoOn (x ∷ moved_to at f ∷ fs) s) e ∙ ap (λ (x : At). GoOn (block_frame (view.script p.1.value) ∷ moved_to x f ∷ fs) s) k
       ∙ condition_true (nat_eq s.memory.status 0) (view.script p.0.value) (view.script p.1.value) (drop_arms (suc a) (view.arms (map view.arm list) o)) t

@@ -1,11 +1,13 @@
 -- A command that asks was not told an answer: it takes an outcome of the word.
 use Rattle.device_list.specs.declared.finish.BoardEnd.{BoardEnd}
 use Rattle.rehearse_rules.specs.ByShell.{leaves_in, status_of_exit, asks_in, truth_in, fields_in, follows, reads_again}
-use Rattle.std.proofs.Common.{ℕ, Bool, true, false, List, [], ◌∷◌, length, Option, Some, None, refl, subst, ◌≡◌, nat_lt, nat_le, nat_eq}
+use Rattle.std.proofs.Common.{ℕ, zero, suc, Bool, true, false, List, [], ◌∷◌, length, Option, Some, None, refl, subst, ◌≡◌, nat_lt, nat_le, nat_eq}
 use Rattle.hushlang.specs.Tree as tree
 use Rattle.hushlang.specs.Tree.{Script}
 use Rattle.hushlang.specs.Expansion.{size, most_bytes}
 use Rattle.bootstore_state.specs.Moment.{Moment, RunningFrame}
+use Rattle.bootstore_state.specs.declared.frame.FrameKind.{FrameKind}
+use Rattle.bootstore_state.specs.declared.frame.FrameKind.TheVariants as kinds
 use Rattle.bootstore_state.specs.StoredState.{state_at}
 use Rattle.rehearse_terms.specs.Outcomes.{Success}
 use Rattle.rehearse_terms.specs.State.{Text, State}
@@ -13,8 +15,10 @@ use Rattle.rehearse_rules.specs.Parameters.{parameters_in}
 use Rattle.device_list.specs.Called.{Called, BuiltIn, NoCommand, Device, called_by, sets_in}
 use Rattle.commands.specs.BuiltInCommands.{ChangesVariables, WritesText, RunsTexts, Tests, Exits}
 use Rattle.rehearse_rules.specs.Needs.{effect_now}
+use Rattle.rehearse_terms.specs.declared.shell.Shell.{Shell}
+use Rattle.rehearse_terms.specs.declared.shell.Shell.TheVariants.{Profile, Old2023, Old2025, Modern2025}
 use Rattle.rehearse_rules.specs.Execution.{Limits, CutDevices, Size, Request, told, told_again, logged, set_environment, set_status, status_when, Unsupported, request_of, test_request}
-use Rattle.rehearse_machine.specs.Places.{PlaceNext, GoOn, AskOn, StopOn, left, to_run, place_finish, place_exit, place_tell_or_ask, place_ask, place_called, place_fields}
+use Rattle.rehearse_machine.specs.Places.{PlaceNext, GoOn, AskOn, StopOn, left, place_finish, place_exit, place_tell_or_ask, place_ask, place_called, place_fields, left_compound, left_script, left_by, command_over}
 use Rattle.rehearse_machine.specs.AskingCommand.{words_in_front, fields_again, found_again}
 use Rattle.rehearse_machine.specs.Machine.{Asking}
 
@@ -27,13 +31,29 @@ either_anew : (b : Bool) (x y : PlaceNext) → AsksAnew x → AsksAnew y → Ask
 either_anew true x y h k = h
 either_anew false x y h k = k
 
-left_anew : (ps : List RunningFrame) (s : State) → AsksAnew (left ps s)
-left_anew [] s = tt
-left_anew (p ∷ ps) s = either_anew (nat_eq s.memory.status 0) (GoOn (p ∷ ps) s) (GoOn ps s) tt tt
+compound_anew : (shell : Shell) (ps : List RunningFrame) (outwards : PlaceNext) (s : State) → AsksAnew outwards → AsksAnew (left_compound shell ps outwards s)
+compound_anew Profile ps outwards s h = h
+compound_anew Old2023 ps outwards s h = h
+compound_anew Old2025 ps outwards s h = h
+compound_anew Modern2025 ps outwards s h = tt
 
-exit_anew : (o : Option ℕ) (other : ℕ) (ps : List RunningFrame) (s : State) → AsksAnew (place_exit o other ps s)
-exit_anew None other ps s = tt
-exit_anew (Some status) other ps s = left_anew (to_run ps) (set_status status s)
+script_anew : (shell : Shell) (turn : ℕ) (p : RunningFrame) (ps : List RunningFrame) (outwards : PlaceNext) (s : State) → AsksAnew outwards → AsksAnew (left_script shell turn p ps outwards s)
+script_anew shell zero p ps outwards s h = h
+script_anew shell (suc a) p ps outwards s h = compound_anew shell (command_over p ∷ ps) outwards s h
+
+kind_anew : (shell : Shell) (kind : FrameKind) (p : RunningFrame) (ps : List RunningFrame) (outwards : PlaceNext) (s : State) → AsksAnew outwards → AsksAnew (left_by shell kind p ps outwards s)
+kind_anew shell kinds.Text p ps outwards s h = script_anew shell p.place.turn p ps outwards s h
+kind_anew shell kinds.Block p ps outwards s h = script_anew shell p.place.turn p ps outwards s h
+kind_anew shell kinds.For p ps outwards s h = compound_anew shell ps outwards s h
+kind_anew shell kinds.Run p ps outwards s h = either_anew (nat_eq s.memory.status 0) (GoOn (p ∷ ps) s) (GoOn ps s) tt tt
+
+left_anew : (shell : Shell) (ps : List RunningFrame) (s : State) → AsksAnew (left shell ps s)
+left_anew shell [] s = tt
+left_anew shell (p ∷ ps) s = kind_anew shell p.kind p ps (left shell ps s) s (left_anew shell ps s)
+
+exit_anew : (shell : Shell) (o : Option ℕ) (other : ℕ) (ps : List RunningFrame) (s : State) → AsksAnew (place_exit shell o other ps s)
+exit_anew shell None other ps s = tt
+exit_anew shell (Some status) other ps s = left_anew shell ps (set_status status s)
 
 finish_anew : (ends : Option BoardEnd) (name : Text) (ps : List RunningFrame) (s : State) → AsksAnew (place_finish ends name ps s)
 finish_anew (Some how) name ps s = tt
@@ -56,7 +76,7 @@ module _ (limits : Limits) where
       let r : Request = test_request limits name ws in
       either_anew (asks_in limits.shell ws) (place_ask limits r ps s) (GoOn ps (set_status (status_when (truth_in limits.shell ws)) s)) (ask_anew r ps s refl) tt
   called_anew again (BuiltIn (WritesText written)) name ws script ps s = tt
-  called_anew again (BuiltIn Exits) name ws script ps s = exit_anew (leaves_in limits.shell again ws) (status_of_exit limits.shell ws) ps s
+  called_anew again (BuiltIn Exits) name ws script ps s = exit_anew limits.shell (leaves_in limits.shell again ws) (status_of_exit limits.shell ws) ps s
   called_anew again (Device effect) name ws script ps s = ask_anew (request_of name ws (effect_now s.log effect)) ps s refl
   called_anew again NoCommand name ws script ps s = tt
 

@@ -15,9 +15,11 @@ use Rattle.rehearse_rules.specs.Parameters.{parameters_in}
 use Rattle.device_list.specs.Called.{Called, BuiltIn, NoCommand, Device, called_by, sets_in}
 use Rattle.commands.specs.BuiltInCommands.{ChangesVariables, WritesText, RunsTexts, Tests, Exits}
 use Rattle.rehearse_rules.specs.Needs.{effect_now}
+use Rattle.rehearse_terms.specs.declared.shell.Shell.{Shell}
+use Rattle.rehearse_terms.specs.declared.shell.Shell.TheVariants.{Profile, Old2023, Old2025, Modern2025}
 use Rattle.rehearse_rules.specs.Execution.{Limits, CutDevices, CutSteps, Size, set_status, set_local, status_when, goes, holds, Request, test_effect, told, told_again, logged, set_environment, Unsupported, assign_local, request_of, test_request, text_failed, for_begun, block_skipped}
 use Rattle.rehearse_terms.specs.Outcomes.{Success}
-use Rattle.rehearse_machine.specs.Places.{PlaceNext, GoOn, AskOn, StopOn, list_at, joined_at, second, command_in, command_at, drop_arms, block_frame, behind, in_turn, left, to_run, place_exit, place_finish, place_tell_or_ask, place_assign, place_tree, place_text, place_name, run_move, for_turn, for_move, for_begins, place_arms, condition_ends, phase_move, place_fitting, place_ask, place_called, place_fields, place_counted, place_command, place_joined, place_begins, place_turn, place_list, place_by, place_move, place_skipped, moved_to, place, place_turns, place_for}
+use Rattle.rehearse_machine.specs.Places.{PlaceNext, GoOn, AskOn, StopOn, list_at, joined_at, second, command_in, command_at, drop_arms, block_frame, behind, in_turn, left, place_exit, place_finish, place_tell_or_ask, place_assign, place_tree, place_text, place_name, run_move, for_turn, for_move, for_begins, place_arms, condition_ends, phase_move, place_fitting, place_ask, place_called, place_fields, place_counted, place_command, place_joined, place_begins, place_turn, place_list, place_by, place_move, place_skipped, moved_to, place, place_turns, place_for, left_compound, left_script, left_by, command_over, with_block, if_moves, loop_moves}
 use Rattle.rehearse_machine.specs.AskingCommand.{words_of, fields_again, found_again, AsksAgain}
 use Rattle.rehearse_rules.specs.ByShell.{reads_again, leaves_in, status_of_exit, asks_in, truth_in, fields_in, turns_in, status_of_loop, skips_rest, follows, assigned_in, follows_turns}
 
@@ -58,13 +60,29 @@ module _ (limits : Limits) where
 
   -- ---- the fields of a command
 
-  left_here : (ps qs : List RunningFrame) (s t : State) → AsksHere ps s (left qs t)
-  left_here ps [] s t = tt
-  left_here ps (q ∷ qs) s t = either_here ps s (nat_eq t.memory.status 0) (GoOn (q ∷ qs) t) (GoOn qs t) tt tt
+  compound_here : (shell : Shell) (ps rs : List RunningFrame) (outwards : PlaceNext) (s t : State) → AsksHere ps s outwards → AsksHere ps s (left_compound shell rs outwards t)
+  compound_here Profile ps rs outwards s t h = h
+  compound_here Old2023 ps rs outwards s t h = h
+  compound_here Old2025 ps rs outwards s t h = h
+  compound_here Modern2025 ps rs outwards s t h = tt
 
-  exit_here : (ps : List RunningFrame) (s : State) (o : Option ℕ) (other : ℕ) → AsksHere ps s (place_exit o other ps s)
+  script_here : (turn : ℕ) (ps : List RunningFrame) (q : RunningFrame) (qs : List RunningFrame) (outwards : PlaceNext) (s t : State) → AsksHere ps s outwards → AsksHere ps s (left_script limits.shell turn q qs outwards t)
+  script_here zero ps q qs outwards s t h = h
+  script_here (suc a) ps q qs outwards s t h = compound_here limits.shell ps (command_over q ∷ qs) outwards s t h
+
+  kind_here : (kind : FrameKind) (ps : List RunningFrame) (q : RunningFrame) (qs : List RunningFrame) (outwards : PlaceNext) (s t : State) → AsksHere ps s outwards → AsksHere ps s (left_by limits.shell kind q qs outwards t)
+  kind_here kinds.Text ps q qs outwards s t h = script_here q.place.turn ps q qs outwards s t h
+  kind_here kinds.Block ps q qs outwards s t h = script_here q.place.turn ps q qs outwards s t h
+  kind_here kinds.For ps q qs outwards s t h = compound_here limits.shell ps qs outwards s t h
+  kind_here kinds.Run ps q qs outwards s t h = either_here ps s (nat_eq t.memory.status 0) (GoOn (q ∷ qs) t) (GoOn qs t) tt tt
+
+  left_here : (ps qs : List RunningFrame) (s t : State) → AsksHere ps s (left limits.shell qs t)
+  left_here ps [] s t = tt
+  left_here ps (q ∷ qs) s t = kind_here q.kind ps q qs (left limits.shell qs t) s t (left_here ps qs s t)
+
+  exit_here : (ps : List RunningFrame) (s : State) (o : Option ℕ) (other : ℕ) → AsksHere ps s (place_exit limits.shell o other ps s)
   exit_here ps s None other = tt
-  exit_here ps s (Some status) other = left_here ps (to_run ps) s (set_status status s)
+  exit_here ps s (Some status) other = left_here ps ps s (set_status status s)
 
   finish_here : (ps qs : List RunningFrame) (ends : Option BoardEnd) (name : Text) (s t : State) → AsksHere ps s (place_finish ends name qs t)
   finish_here ps qs (Some finish) name s t = tt
@@ -121,17 +139,25 @@ module _ (limits : Limits) where
   arms_never tree.NoElse a f ps s = tt
 
   condition_never : (arms : Arms) (a : ℕ) (f : RunningFrame) (ps : List RunningFrame) (s : State) → NeverAsks (condition_ends limits.shell arms a f ps s)
-  condition_never (tree.Arm c b more) a f ps s = either_never (nat_eq s.memory.status 0) (GoOn (block_frame b ∷ behind f ∷ ps) s) (place_arms limits.shell more (suc a) f ps (block_skipped limits.shell b s)) tt (arms_never more (suc a) f ps (block_skipped limits.shell b s))
+  condition_never (tree.Arm c b more) a f ps s = either_never (nat_eq s.memory.status 0) (GoOn (block_frame b ∷ with_block limits.shell f ∷ ps) s) (place_arms limits.shell more (suc a) f ps (block_skipped limits.shell b s)) tt (arms_never more (suc a) f ps (block_skipped limits.shell b s))
   condition_never (tree.Else b) a f ps s = tt
   condition_never tree.NoElse a f ps s = tt
+
+  if_never : (last : ℕ) (arms : Arms) (a : ℕ) (f : RunningFrame) (ps : List RunningFrame) (s : State) → NeverAsks (if_moves limits.shell last arms a f ps s)
+  if_never zero arms a f ps s = condition_never (drop_arms a arms) a f ps s
+  if_never (suc last) arms a f ps s = tt
+
+  loop_never : (last : ℕ) (c : Script) (f : RunningFrame) (ps : List RunningFrame) (s : State) → NeverAsks (loop_moves last c f ps s)
+  loop_never zero c f ps s = tt
+  loop_never (suc last) c f ps s = tt
 
   phase_never : (o : Option Command) (a : ℕ) (f : RunningFrame) (ps : List RunningFrame) (s : State) → NeverAsks (phase_move limits.shell o a f ps s)
   phase_never None a f ps s = tt
   phase_never (Some (tree.Simple words)) a f ps s = tt
   phase_never (Some (tree.Assign pairs)) a f ps s = tt
-  phase_never (Some (tree.If arms)) a f ps s = condition_never (drop_arms a arms) a f ps s
+  phase_never (Some (tree.If arms)) a f ps s = if_never f.place.last arms a f ps s
   phase_never (Some (tree.Loop until c b)) zero f ps s = either_never (holds until s.memory.status) (GoOn (block_frame b ∷ in_turn 2 0 f ∷ ps) s) (GoOn (behind f ∷ ps) (set_status (status_of_loop limits.shell f.place.last s.memory.status) s)) tt tt
-  phase_never (Some (tree.Loop until c b)) (suc a) f ps s = tt
+  phase_never (Some (tree.Loop until c b)) (suc a) f ps s = loop_never f.place.last c f ps s
   phase_never (Some (tree.For name words body)) a f ps s = tt
 
   turn_never : (o : Option Text) (name : Text) (body : Script) (f : RunningFrame) (ps : List RunningFrame) (s : State) → NeverAsks (for_turn limits.shell o name body f ps s)

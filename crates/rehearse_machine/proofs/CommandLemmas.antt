@@ -11,13 +11,13 @@ use Rattle.hushlang.specs.declared.tree.Command.{Command as CommandCode, Command
 use Rattle.hushlang.specs.declared.tree.Command.TheVariants.{rolls-Simple, rolls-Assign, rolls-If, rolls-Loop, rolls-For}
 use Rattle.hushlang.specs.declared.tree.Command.TheOpen as open_command
 use Rattle.hushlang.specs.Tree as tree
-use Rattle.hushlang.specs.Tree.{Script, Command}
+use Rattle.hushlang.specs.Tree.{Script, Command, Arms}
 use Rattle.hushlang.specs.TreesShown as view
 use Rattle.hushlang.proofs.ViewLemmas.{command_simple, command_assign, command_loop, command_for, command_if}
 use Rattle.bootstore_state.specs.declared.frame.At.{At}
 use Rattle.bootstore_state.specs.Moment.{RunningFrame}
 use Rattle.rehearse_terms.specs.State.{State}
-use Rattle.rehearse_machine.specs.Places.{GoOn, drop_arms, place, moved_to, in_turn, block_frame, condition_ends, loop_ends, phase_move}
+use Rattle.rehearse_machine.specs.Places.{GoOn, drop_arms, place, moved_to, in_turn, block_frame, condition_ends, loop_ends, phase_move, if_moves, loop_moves, behind}
 use Rattle.rehearse_machine.proofs.ArmLemmas.{Arm}
 use Rattle.rehearse_terms.specs.declared.shell.Shell.{Shell}
 
@@ -55,19 +55,43 @@ pub kind_of : (c : CommandCode) → Kind c
 kind_of c = kind_at c (out-Command c) (sym (roll-out-Command c))
 
 module _ (shell : Shell) (c : CommandCode) (turn : ℕ) (f : RunningFrame) (fs : List RunningFrame) (s : State) where
-  pub if_ends : (arms : Vec Arm Global) (o : Option (Rc Code Global)) (list : List Arm) → c ≡ If arms o → list ≡ arms.items → condition_ends shell (drop_arms turn (view.arms (map view.arm list) (view.script_in o))) turn f fs s ≡ phase_move shell (Some (view.command c)) turn f fs s
-  if_ends arms o list e l = ap (λ (x : List Arm). condition_ends shell (drop_arms turn (view.arms (map view.arm x) (view.script_in o))) turn f fs s) l ∙ sym (ap (λ (x : Command). phase_move shell (Some x) turn f fs s) (says_if c arms o e))
+  pub if_ends : (arms : Vec Arm Global) (o : Option (Rc Code Global)) (list : List Arm) → c ≡ If arms o → list ≡ arms.items → f.place.last ≡ 0 → condition_ends shell (drop_arms turn (view.arms (map view.arm list) (view.script_in o))) turn f fs s ≡ phase_move shell (Some (view.command c)) turn f fs s
+  if_ends arms o list e l z =
+      ap (λ (x : List Arm). condition_ends shell (drop_arms turn (view.arms (map view.arm x) (view.script_in o))) turn f fs s) l
+      ∙ sym (ap (λ (n : ℕ). if_moves shell n (view.arms (map view.arm arms.items) (view.script_in o)) turn f fs s) z)
+      ∙ sym (ap (λ (x : Command). phase_move shell (Some x) turn f fs s) (says_if c arms o e))
+
+  if_over : (n : ℕ) → (n ≡ 0 → ⊥) → (arms : Arms) → GoOn (behind f ∷ fs) s ≡ if_moves shell n arms turn f fs s
+  if_over zero h arms = absurd (h refl)
+  if_over (suc n) h arms = refl
+
+  -- an `if` that is over
+  pub if_is_over : (arms : Vec Arm Global) (o : Option (Rc Code Global)) (at : At) → c ≡ If arms o → (f.place.last ≡ 0 → ⊥) → at ≡ place f.place.list (suc f.place.command) 0 0 → GoOn (moved_to at f ∷ fs) s ≡ phase_move shell (Some (view.command c)) turn f fs s
+  if_is_over arms o at e z k =
+      ap (λ (x : At). GoOn (moved_to x f ∷ fs) s) k ∙ if_over f.place.last z (view.arms (map view.arm arms.items) (view.script_in o))
+      ∙ sym (ap (λ (x : Command). phase_move shell (Some x) turn f fs s) (says_if c arms o e))
 
   pub loop_checked : (until : Bool) (cond body : Rc Code Global) → c ≡ Loop until cond body → turn ≡ 0 → loop_ends shell until (view.script body.value) f fs s ≡ phase_move shell (Some (view.command c)) turn f fs s
   loop_checked until cond body e t = sym (ap (λ (x : Command). phase_move shell (Some x) turn f fs s) (says_loop c until cond body e) ∙ ap (λ (n : ℕ). phase_move shell (Some (tree.Loop until (view.script cond.value) (view.script body.value))) n f fs s) t)
 
-  again : (n : ℕ) → (n ≡ 0 → ⊥) → (until : Bool) (x y : Script) → GoOn (block_frame x ∷ in_turn 1 s.memory.status f ∷ fs) s ≡ phase_move shell (Some (tree.Loop until x y)) n f fs s
+  again : (n : ℕ) → (n ≡ 0 → ⊥) → (until : Bool) (x y : Script) → loop_moves f.place.last x f fs s ≡ phase_move shell (Some (tree.Loop until x y)) n f fs s
   again zero h until x y = absurd (h refl)
   again (suc n) h until x y = refl
 
-  pub loop_again : (until : Bool) (cond body : Rc Code Global) (last : ℕ) → c ≡ Loop until cond body → (turn ≡ 0 → ⊥) → last ≡ s.memory.status → GoOn (block_frame (view.script cond.value) ∷ in_turn 1 last f ∷ fs) s ≡ phase_move shell (Some (view.command c)) turn f fs s
-  loop_again until cond body last e t l =
-      ap (λ (n : ℕ). GoOn (block_frame (view.script cond.value) ∷ in_turn 1 n f ∷ fs) s) l ∙ again turn t until (view.script cond.value) (view.script body.value)
+  loop_over : (n : ℕ) → (n ≡ 0 → ⊥) → (x : Script) → GoOn (behind f ∷ fs) s ≡ loop_moves n x f fs s
+  loop_over zero h x = absurd (h refl)
+  loop_over (suc n) h x = refl
+
+  -- a loop that is over
+  pub loop_is_over : (until : Bool) (cond body : Rc Code Global) (at : At) → c ≡ Loop until cond body → (turn ≡ 0 → ⊥) → (f.place.last ≡ 0 → ⊥) → at ≡ place f.place.list (suc f.place.command) 0 0 → GoOn (moved_to at f ∷ fs) s ≡ phase_move shell (Some (view.command c)) turn f fs s
+  loop_is_over until cond body at e t z k =
+      ap (λ (x : At). GoOn (moved_to x f ∷ fs) s) k ∙ loop_over f.place.last z (view.script cond.value) ∙ again turn t until (view.script cond.value) (view.script body.value)
+      ∙ sym (ap (λ (x : Command). phase_move shell (Some x) turn f fs s) (says_loop c until cond body e))
+
+  pub loop_again : (until : Bool) (cond body : Rc Code Global) (last : ℕ) → c ≡ Loop until cond body → (turn ≡ 0 → ⊥) → f.place.last ≡ 0 → last ≡ s.memory.status → GoOn (block_frame (view.script cond.value) ∷ in_turn 1 last f ∷ fs) s ≡ phase_move shell (Some (view.command c)) turn f fs s
+  loop_again until cond body last e t z l =
+      ap (λ (n : ℕ). GoOn (block_frame (view.script cond.value) ∷ in_turn 1 n f ∷ fs) s) l
+      ∙ sym (ap (λ (n : ℕ). loop_moves n (view.script cond.value) f fs s) z) ∙ again turn t until (view.script cond.value) (view.script body.value)
       ∙ sym (ap (λ (x : Command). phase_move shell (Some x) turn f fs s) (says_loop c until cond body e))
 
   pub no_block_simple : (call : Call) (at : At) → c ≡ Simple call → at ≡ place f.place.list (suc f.place.command) 0 0 → GoOn (moved_to at f ∷ fs) s ≡ phase_move shell (Some (view.command c)) turn f fs s

@@ -8,14 +8,16 @@ use Rattle.device_list.specs.DeviceList.{fails_normally}
 use Rattle.device_list.specs.declared.finish.BoardEnd.{BoardEnd}
 use Rattle.rehearse_terms.specs.Outcomes.{OutcomeWord, Outcome, Success, Failure}
 use Rattle.rehearse_terms.specs.State.{Text, State, LoggedCommand}
-use Rattle.rehearse_rules.specs.Execution.{Limits, Answer, Normal, Exit, Ended, Dry, take_outcome, run_all, for_each, outcome_when, succeeds, block_skipped}
+use Rattle.rehearse_terms.specs.declared.shell.Shell.{Shell}
+use Rattle.rehearse_terms.specs.declared.shell.Shell.TheVariants.{Profile, Old2023, Old2025, Modern2025}
+use Rattle.rehearse_rules.specs.Execution.{Limits, Answer, Normal, Exit, Ended, Dry, take_outcome, run_all, for_each, outcome_when, succeeds, block_skipped, compound, compound_end, go_on}
 use Rattle.rehearse_rules.specs.Expected.{Answered, asked_in}
 use Rattle.rehearse_rules.specs.Laws.{IsExpected}
 use Rattle.rehearse_rules.specs.Runs.{Task, run_on, state_of}
 use Rattle.rehearse_rules.proofs.TakenOutcomes.{KeepsAll, HasAnswered, Track-of, answered_on, go_on-answered, text_end-answered, outcome_answers, Keeps-script, Keeps-joined, Keeps-arms, Keeps-exec, Keeps-run, Keeps-turns, Keeps-for, Keeps-if, Keeps-stays, after_condition, Keeps-after_condition, Keeps-skip}
 use Rattle.rehearse_rules.proofs.UnexpectedAnswers.{AsksAt, asks_at, expected_at}
 use Rattle.rehearse_machine.specs.Came.{Came, Over, Wants, settled}
-use Rattle.rehearse_machine.specs.Frames.{Frame, Lists, Linked, IfCondition, LoopCondition, LoopBody, ForBody, RunNames, RunText}
+use Rattle.rehearse_machine.specs.Frames.{Frame, Lists, Linked, IfCondition, LoopCondition, LoopBody, ForBody, RunNames, RunText, CommandEnd}
 use Rattle.rehearse_machine.specs.Places.{PlaceNext, next_of, frames_of}
 use Rattle.rehearse_machine.specs.Meaning.{first_or_next, full, script, joined_of, arms_of, again, resume, continue, comes_to}
 use Rattle.rehearse_machine.specs.Machine.{Asking, IsAsking, asked_at}
@@ -51,19 +53,40 @@ module _ (limits : Limits) (call : List Text) (d : Outcome) (log : List LoggedCo
   first_answered (Ended ending t) g k h = h
   first_answered (Dry t) g k h = h
 
+  -- also if `exit` leaves a compound command
+  end_answered : (a : Answer) → Has a → Has (compound_end a)
+  end_answered (Normal t) h = h
+  end_answered (Exit t) h = h
+  end_answered (Ended ending t) h = h
+  end_answered (Dry t) h = h
+
+  compound_answered : (shell : Shell) (a : Answer) → Has a → Has (compound shell a)
+  compound_answered Profile a h = h
+  compound_answered Old2023 a h = h
+  compound_answered Old2025 a h = h
+  compound_answered Modern2025 a h = end_answered a h
+
   resume_answered : (f : Frame) (a : Answer) → Has a → Has (resume limits f a)
   resume_answered (Lists lists) a h = go_on-answered limits.device_bound call d log a (script limits lists) (kept_script lists) h
   resume_answered (Linked links) a h = go_on-answered limits.device_bound call d log a (joined_of limits links) (Keeps-joined limits limits.step_bound (full limits) kept_full links) h
   resume_answered (IfCondition c arms) a h =
-      go_on-answered limits.device_bound call d log a (λ t. elim (nat_eq t.memory.status 0) [ true ↦ script limits c t | false ↦ arms_of limits arms (block_skipped limits.shell c t) ])
-      (λ t. Keeps-if limits.device_bound t (nat_eq t.memory.status 0) (script limits c) (λ u. arms_of limits arms (block_skipped limits.shell c u)) (kept_script c t) (Keeps-skip limits c (arms_of limits arms) (Keeps-arms limits limits.step_bound (full limits) kept_full arms) t)) h
+      let rest : State → Answer = λ t. elim (nat_eq t.memory.status 0) [ true ↦ script limits c t | false ↦ arms_of limits arms (block_skipped limits.shell c t) ] in
+      compound_answered limits.shell (go_on a rest)
+      (go_on-answered limits.device_bound call d log a rest
+      (λ t. Keeps-if limits.device_bound t (nat_eq t.memory.status 0) (script limits c) (λ u. arms_of limits arms (block_skipped limits.shell c u)) (kept_script c t) (Keeps-skip limits c (arms_of limits arms) (Keeps-arms limits limits.step_bound (full limits) kept_full arms) t)) h)
   resume_answered (LoopCondition until c b last) a h =
-      go_on-answered limits.device_bound call d log a (after_condition limits until (script limits b) (again limits until c b) last) (Keeps-after_condition limits until (script limits b) (again limits until c b) (kept_script b) (kept_again until c b) last) h
-  resume_answered (LoopBody until c b) a h = go_on-answered limits.device_bound call d log a (again limits until c b) (kept_again until c b) h
+      let rest : State → Answer = after_condition limits until (script limits b) (again limits until c b) last in
+      compound_answered limits.shell (go_on a rest)
+      (go_on-answered limits.device_bound call d log a rest (Keeps-after_condition limits until (script limits b) (again limits until c b) (kept_script b) (kept_again until c b) last) h)
+  resume_answered (LoopBody until c b) a h =
+      compound_answered limits.shell (go_on a (again limits until c b)) (go_on-answered limits.device_bound call d log a (again limits until c b) (kept_again until c b) h)
   resume_answered (ForBody name values body) a h =
-      go_on-answered limits.device_bound call d log a (λ t. for_each limits.shell name (script limits body) t.memory.status values t) (λ t. Keeps-for limits name (script limits body) (kept_script body) t.memory.status values t) h
+      let rest : State → Answer = λ t. for_each limits.shell name (script limits body) t.memory.status values t in
+      compound_answered limits.shell (go_on a rest)
+      (go_on-answered limits.device_bound call d log a rest (λ t. Keeps-for limits name (script limits body) (kept_script body) t.memory.status values t) h)
   resume_answered (RunNames names) a h = first_answered a (run_all limits (full limits) names) (kept_names names) h
   resume_answered (RunText names) a h = text_end-answered limits.device_bound limits.shell call d log a (run_all limits (full limits) names) (kept_names names) h
+  resume_answered CommandEnd a h = compound_answered limits.shell a h
 
   -- the log of what a run comes to
   abbrev log_of : Came → List LoggedCommand

@@ -11,8 +11,9 @@ use Rattle.rehearse_rules.specs.Parameters.{parameters_in}
 use Rattle.device_list.specs.Called.{Called, BuiltIn, NoCommand, Device, called_by, sets_in}
 use Rattle.commands.specs.BuiltInCommands.{ChangesVariables, WritesText, RunsTexts, Tests, Exits}
 use Rattle.rehearse_rules.specs.Needs.{effect_now}
-use Rattle.rehearse_rules.specs.Execution.{Limits, Answer, Normal, Exit, Ended, Dry, Ending, CutDevices, CutSteps, Unknown, Size, go_on, set_status, set_local, status_when, goes, holds, begin, tell_or_take, told, told_again, logged, finish, set_environment, Finished, device, Request, test_effect, text_end, run_text, run_all, command, simple, sized, assign, turns, for_each, Unsupported, assign_local, request_of, test_request, started_text, text_failed, turns_of, for_words, for_begun, block_skipped}
-use Rattle.rehearse_machine.specs.Frames.{Frame, Lists, Linked, IfCondition, LoopCondition, LoopBody, ForBody, RunNames, RunText, Next, Go, Stop, tell_or_ask, finish_next, leave, begin_assign, begin_for, begin_arms, begin_tree, begin_text, begin_names, begin_exit, fitting, ask, begin_called, begin_fields, counted, begin_command, move, begin_turns, begin_words}
+use Rattle.rehearse_rules.proofs.CompoundLemmas.{compound_normal, compound_ended, compound_dry}
+use Rattle.rehearse_rules.specs.Execution.{Limits, Answer, Normal, Exit, Ended, Dry, Ending, CutDevices, CutSteps, Unknown, Size, go_on, set_status, set_local, status_when, goes, holds, begin, tell_or_take, told, told_again, logged, finish, set_environment, Finished, device, Request, test_effect, text_end, run_text, run_all, command, simple, sized, assign, turns, for_each, Unsupported, assign_local, request_of, test_request, started_text, text_failed, turns_of, for_words, for_begun, block_skipped, compound, compound_left}
+use Rattle.rehearse_machine.specs.Frames.{Frame, Lists, Linked, IfCondition, LoopCondition, LoopBody, ForBody, RunNames, RunText, Next, Go, Stop, tell_or_ask, finish_next, leave, begin_assign, begin_for, begin_arms, begin_tree, begin_text, begin_names, begin_exit, fitting, ask, begin_called, begin_fields, counted, begin_command, move, begin_turns, begin_words, CommandEnd, leave_compound, behind_block}
 use Rattle.rehearse_machine.specs.Came.{Over, Wants}
 use Rattle.rehearse_machine.specs.Meaning.{with, full, script, one, joined_of, arms_of, again, resume, continue, comes_to, AreProperFrames}
 use Rattle.rehearse_rules.proofs.GrowingSteps.{Grew, AtLeast-track, Grew-block}
@@ -22,7 +23,7 @@ use Rattle.rehearse_machine.proofs.BoundLemmas.{Cut-block}
 use Rattle.rehearse_machine.proofs.StepBoundLemmas.{same_go_on, same_if, closed_exec, same_turns}
 use Rattle.rehearse_terms.specs.declared.shell.Shell.{Shell}
 use Rattle.rehearse_terms.specs.declared.shell.Shell.TheVariants.{Profile, Old2023, Old2025, Modern2025}
-use Rattle.rehearse_rules.specs.ByShell.{unread, reads_again, leaves_in, status_of_exit, status_of_text, asks_in, truth_in, fields_in, turns_in, skips_rest, status_of_loop, follows, assigned_in, follows_turns}
+use Rattle.rehearse_rules.specs.ByShell.{unread, reads_again, leaves_in, status_of_exit, status_of_text, asks_in, truth_in, fields_in, turns_in, skips_rest, status_of_loop, follows, assigned_in, follows_turns, status_of_no_block}
 use Rattle.rehearse_rules.proofs.TakenOutcomes.{skipped}
 
 -- the status 1 of a text that is not run is that of its `run`
@@ -37,22 +38,24 @@ module _ (limits : Limits) where
   resume-ended : (f : Frame) (ending : Ending) (s : State) → resume limits f (Ended ending s) ≡ Ended ending s
   resume-ended (Lists lists) ending s = refl
   resume-ended (Linked links) ending s = refl
-  resume-ended (IfCondition b arms) ending s = refl
-  resume-ended (LoopCondition until c b last) ending s = refl
-  resume-ended (LoopBody until c b) ending s = refl
-  resume-ended (ForBody name values body) ending s = refl
+  resume-ended (IfCondition b arms) ending s = compound_ended limits.shell ending s
+  resume-ended (LoopCondition until c b last) ending s = compound_ended limits.shell ending s
+  resume-ended (LoopBody until c b) ending s = compound_ended limits.shell ending s
+  resume-ended (ForBody name values body) ending s = compound_ended limits.shell ending s
   resume-ended (RunNames names) ending s = refl
   resume-ended (RunText names) ending s = refl
+  resume-ended CommandEnd ending s = compound_ended limits.shell ending s
 
   resume-dry : (f : Frame) (s : State) → resume limits f (Dry s) ≡ Dry s
   resume-dry (Lists lists) s = refl
   resume-dry (Linked links) s = refl
-  resume-dry (IfCondition b arms) s = refl
-  resume-dry (LoopCondition until c b last) s = refl
-  resume-dry (LoopBody until c b) s = refl
-  resume-dry (ForBody name values body) s = refl
+  resume-dry (IfCondition b arms) s = compound_dry limits.shell s
+  resume-dry (LoopCondition until c b last) s = compound_dry limits.shell s
+  resume-dry (LoopBody until c b) s = compound_dry limits.shell s
+  resume-dry (ForBody name values body) s = compound_dry limits.shell s
   resume-dry (RunNames names) s = refl
   resume-dry (RunText names) s = refl
+  resume-dry CommandEnd s = compound_dry limits.shell s
 
   pub continue-ended : (fs : List Frame) (ending : Ending) (s : State) → continue limits fs (Ended ending s) ≡ Over ending s
   continue-ended [] ending s = refl
@@ -72,16 +75,28 @@ module _ (limits : Limits) where
     left-is true names fs s e = ap (λ (x : Bool). continue limits fs (elim x [ true ↦ run_all limits (full limits) names (with w s) | false ↦ Normal (text_failed limits.shell (with w s)) ])) e
     left-is false names fs s e = refl
 
-    leave-is : (fs : List Frame) (s : State) → comes_to limits w (leave fs s) ≡ continue limits fs (Exit (with w s))
+    -- a compound command that has ended
+    over-is : (fs : List Frame) (s : State) → continue limits fs (Normal s) ≡ continue limits (CommandEnd ∷ fs) (Normal s)
+    over-is fs s = ap (continue limits fs) (sym (compound_normal limits.shell s))
+
+    -- `exit` in a compound command, and further outwards
+    left_compound-is : (shell : Shell) → limits.shell ≡ shell → (ps fs : List Frame) (s : State) (outwards : Next) → ((t : State) → continue limits ps (Normal t) ≡ continue limits fs (Normal t)) → comes_to limits w outwards ≡ continue limits fs (Exit (with w s)) → comes_to limits w (leave_compound shell ps outwards s) ≡ continue limits fs (compound shell (Exit (with w s)))
+    left_compound-is Profile own ps fs s outwards same e = e
+    left_compound-is Old2023 own ps fs s outwards same e = e
+    left_compound-is Old2025 own ps fs s outwards same e = e
+    left_compound-is Modern2025 own ps fs s outwards same e = same (with w (compound_left s))
+
+    leave-is : (fs : List Frame) (s : State) → comes_to limits w (leave limits.shell fs s) ≡ continue limits fs (Exit (with w s))
     leave-is [] s = refl
     leave-is (RunNames names ∷ fs) s = if-is (nat_eq s.memory.status 0) (Go (RunNames names ∷ fs) s) (Go fs s) fs (run_all limits (full limits) names (with w s)) (Normal (with w s)) refl refl
     leave-is (RunText names ∷ fs) s = left-is (nat_eq s.memory.status 0) names fs s refl
     leave-is (Lists ls ∷ fs) s = leave-is fs s
     leave-is (Linked ls ∷ fs) s = leave-is fs s
-    leave-is (IfCondition b arms ∷ fs) s = leave-is fs s
-    leave-is (LoopCondition until c b last ∷ fs) s = leave-is fs s
-    leave-is (LoopBody until c b ∷ fs) s = leave-is fs s
-    leave-is (ForBody name fields body ∷ fs) s = leave-is fs s
+    leave-is (IfCondition b arms ∷ fs) s = left_compound-is limits.shell refl (CommandEnd ∷ fs) fs s (leave limits.shell fs s) (λ t. sym (over-is fs t)) (leave-is fs s)
+    leave-is (LoopCondition until c b last ∷ fs) s = left_compound-is limits.shell refl (CommandEnd ∷ fs) fs s (leave limits.shell fs s) (λ t. sym (over-is fs t)) (leave-is fs s)
+    leave-is (LoopBody until c b ∷ fs) s = left_compound-is limits.shell refl (CommandEnd ∷ fs) fs s (leave limits.shell fs s) (λ t. sym (over-is fs t)) (leave-is fs s)
+    leave-is (ForBody name fields body ∷ fs) s = left_compound-is limits.shell refl fs fs s (leave limits.shell fs s) (λ t. refl) (leave-is fs s)
+    leave-is (CommandEnd ∷ fs) s = left_compound-is limits.shell refl (CommandEnd ∷ fs) fs s (leave limits.shell fs s) (λ t. sym (over-is fs t)) (leave-is fs s)
 
     assign-is : (pairs : List (Text × tree.Word)) (fs : List Frame) (s : State) → comes_to limits w (begin_assign limits.shell pairs fs s) ≡ continue limits fs (assign limits.shell pairs (with w s))
     assign-is [] fs s = refl
@@ -119,7 +134,7 @@ module _ (limits : Limits) where
     ask-is : (request : Request) (fs : List Frame) (s : State) → comes_to limits w (ask limits request fs s) ≡ continue limits fs (device limits request (with w s))
     ask-is request fs s = if-is (nat_lt (length s.log) limits.device_bound) (tell_or_ask (told request s.log) request fs s) (Stop CutDevices s) fs (tell_or_take (told request s.log) request (with w s)) (Ended CutDevices (with w s)) (tell-is (told request s.log) request fs s) (sym (continue-ended fs CutDevices (with w s)))
 
-    exit-is : (o : Option ℕ) (other : ℕ) (fs : List Frame) (s : State) → comes_to limits w (begin_exit o other fs s) ≡ continue limits fs (elim o [ Some status ↦ Exit (set_status status (with w s)) | None ↦ Normal (set_status other (with w s)) ])
+    exit-is : (o : Option ℕ) (other : ℕ) (fs : List Frame) (s : State) → comes_to limits w (begin_exit limits.shell o other fs s) ≡ continue limits fs (elim o [ Some status ↦ Exit (set_status status (with w s)) | None ↦ Normal (set_status other (with w s)) ])
     exit-is (Some status) other fs s = leave-is fs (set_status status s)
     exit-is None other fs s = refl
 
@@ -143,20 +158,27 @@ module _ (limits : Limits) where
     fitting-is : (ws : List Text) (next : List Text → State → Next) (f : List Text → State → Answer) (fs : List Frame) (s : State) → comes_to limits w (next ws s) ≡ continue limits fs (f ws (with w s)) → comes_to limits w (fitting ws next s) ≡ continue limits fs (sized ws f (with w s))
     fitting-is ws next f fs s e = if-is (nat_le (size ws) most_bytes) (next ws s) (Stop Size s) fs (f ws (with w s)) (Ended Size (with w s)) e (sym (continue-ended fs Size (with w s)))
 
-    for-is : (name : Text) (values : List Text) (body : Script) (fs : List Frame) (s : State) → comes_to limits w (begin_for name values body fs s) ≡ continue limits fs (for_each limits.shell name (script limits body) 0 values (with w s))
-    for-is name [] body fs s = refl
+    for-is : (name : Text) (values : List Text) (body : Script) (fs : List Frame) (s : State) → comes_to limits w (begin_for name values body fs s) ≡ continue limits (CommandEnd ∷ fs) (for_each limits.shell name (script limits body) 0 values (with w s))
+    for-is name [] body fs s = over-is fs (with w (set_status 0 s))
     for-is name (f ∷ values) body fs s = refl
 
     turns-is : (name : Text) (values : List Text) (body : Script) (fs : List Frame) (s : State) → comes_to limits w (begin_turns limits.shell name values body fs s) ≡ continue limits fs (turns_of limits.shell name (script limits body) values (with w s))
-    turns-is name values body fs s = if-is (follows_turns limits.shell name values) (begin_for name values body fs s) (Stop (Unsupported name) s) fs (for_each limits.shell name (script limits body) 0 values (with w s)) (Ended (Unsupported name) (with w s)) (for-is name values body fs s) (sym (continue-ended fs (Unsupported name) (with w s)))
+    turns-is name values body fs s = if-is (follows_turns limits.shell name values) (begin_for name values body fs s) (Stop (Unsupported name) s) fs (compound limits.shell (for_each limits.shell name (script limits body) 0 values (with w s))) (Ended (Unsupported name) (with w s)) (for-is name values body fs s) (sym (continue-ended fs (Unsupported name) (with w s)))
 
     words-is : (name : Text) (words : List tree.Word) (body : Script) (fs : List Frame) (s : State) → comes_to limits w (begin_words limits.shell name words body fs s) ≡ continue limits fs (for_words limits.shell name words (script limits body) (with w s))
     words-is name words body fs s = fitting-is (turns_in limits.shell (parameters_in s.memory) words) (λ found. begin_turns limits.shell name found body fs) (turns_of limits.shell name (script limits body)) fs s (turns-is name (turns_in limits.shell (parameters_in s.memory) words) body fs s)
 
-    arms-is : (arms : Arms) (fs : List Frame) (s : State) → comes_to limits w (begin_arms limits.shell arms fs s) ≡ continue limits fs (arms_of limits arms (with w s))
+    -- a block of an `if`
+    block-is : (shell : Shell) → limits.shell ≡ shell → (fs : List Frame) (a : Answer) → continue limits (behind_block shell fs) a ≡ continue limits fs (compound shell a)
+    block-is Profile own fs a = refl
+    block-is Old2023 own fs a = refl
+    block-is Old2025 own fs a = refl
+    block-is Modern2025 own fs a = ap (λ (x : Shell). continue limits fs (compound x a)) own
+
+    arms-is : (arms : Arms) (fs : List Frame) (s : State) → comes_to limits w (begin_arms limits.shell arms fs s) ≡ continue limits (CommandEnd ∷ fs) (arms_of limits arms (with w s))
     arms-is (tree.Arm c b arms) fs s = refl
-    arms-is (tree.Else b) fs s = refl
-    arms-is tree.NoElse fs s = refl
+    arms-is (tree.Else b) fs s = block-is limits.shell refl fs (script limits b (with w s))
+    arms-is tree.NoElse fs s = over-is fs (with w (set_status (status_of_no_block limits.shell s.memory.status) s))
 
     -- a turn of a loop, with all the steps for the turns after it
     turn_more_at : (k : ℕ) → limits.step_bound ≡ k → (until : Bool) (c b : Script) → HoldsCommand c → HoldsCommand b → (last : ℕ) (s : State) → turns limits.shell k until (script limits c) (script limits b) last s ≡ go_on (script limits c s) (after_condition limits until (script limits b) (λ u. turns limits.shell k until (script limits c) (script limits b) u.memory.status u) last)
@@ -182,7 +204,7 @@ module _ (limits : Limits) where
     command-is (tree.Simple words) p fs s = counted-is (λ t. fitting (fields_in limits.shell (parameters_in t.memory) words) (λ f. begin_fields limits (reads_again words) f fs) t) (λ t. sized (fields_in limits.shell (parameters_in t.memory) words) (simple limits (reads_again words) (full limits)) t) fs s (λ t. fitting-is (fields_in limits.shell (parameters_in t.memory) words) (λ f. begin_fields limits (reads_again words) f fs) (simple limits (reads_again words) (full limits)) fs t (fields-is (reads_again words) (fields_in limits.shell (parameters_in t.memory) words) fs t))
     command-is (tree.Assign pairs) p fs s = counted-is (begin_assign limits.shell pairs fs) (assign limits.shell pairs) fs s (λ t. assign-is pairs fs t)
     command-is (tree.If arms) p fs s = arms-is arms fs s
-    command-is (tree.Loop until c b) p fs s = ap (continue limits fs) (sym (turn_more until c b p.0 p.1 0 (with w s)))
+    command-is (tree.Loop until c b) p fs s = ap (continue limits (CommandEnd ∷ fs)) (sym (turn_more until c b p.0 p.1 0 (with w s)))
     command-is (tree.For name words body) p fs s = counted-is (λ t. begin_words limits.shell name words body fs (for_begun limits.shell t)) (λ t. for_words limits.shell name words (script limits body) (for_begun limits.shell t)) fs s (λ t. words-is name words body fs (for_begun limits.shell t))
 
     -- a move keeps what is to come
@@ -193,10 +215,11 @@ module _ (limits : Limits) where
     move-is (Linked tree.Alone ∷ fs) p s = refl
     move-is (Linked (tree.Joins op c links) ∷ fs) p s = if-is (goes op s.memory.status) (begin_command limits c (Linked links ∷ fs) s) (elim (skips_rest limits.shell) [ true ↦ Go fs s | false ↦ Go (Linked links ∷ fs) s ]) fs (go_on (one limits c (with w s)) (joined_of limits links)) (skipped limits (joined_of limits links) (with w s)) (command-is c p.0.0 (Linked links ∷ fs) s)
         (if-is (skips_rest limits.shell) (Go fs s) (Go (Linked links ∷ fs) s) fs (Normal (with w s)) (joined_of limits links (with w s)) refl refl)
-    move-is (IfCondition b arms ∷ fs) p s = if-is (nat_eq s.memory.status 0) (Go (Lists b ∷ fs) s) (begin_arms limits.shell arms fs (block_skipped limits.shell b s)) fs (script limits b (with w s)) (arms_of limits arms (block_skipped limits.shell b (with w s))) refl (arms-is arms fs (block_skipped limits.shell b s))
-    move-is (LoopCondition until c b last ∷ fs) p s = if-is (holds until s.memory.status) (Go (Lists b ∷ LoopBody until c b ∷ fs) s) (Go fs (set_status (status_of_loop limits.shell last s.memory.status) s)) fs (go_on (script limits b (with w s)) (again limits until c b)) (Normal (set_status (status_of_loop limits.shell last s.memory.status) (with w s))) refl refl
-    move-is (LoopBody until c b ∷ fs) p s = ap (continue limits fs) (sym (turn_more until c b p.0.0 p.0.1 s.memory.status (with w s)))
-    move-is (ForBody name [] body ∷ fs) p s = refl
+    move-is (IfCondition b arms ∷ fs) p s = if-is (nat_eq s.memory.status 0) (Go (Lists b ∷ behind_block limits.shell fs) s) (begin_arms limits.shell arms fs (block_skipped limits.shell b s)) (CommandEnd ∷ fs) (script limits b (with w s)) (arms_of limits arms (block_skipped limits.shell b (with w s))) (block-is limits.shell refl fs (script limits b (with w s))) (arms-is arms fs (block_skipped limits.shell b s))
+    move-is (LoopCondition until c b last ∷ fs) p s = if-is (holds until s.memory.status) (Go (Lists b ∷ LoopBody until c b ∷ fs) s) (Go fs (set_status (status_of_loop limits.shell last s.memory.status) s)) (CommandEnd ∷ fs) (go_on (script limits b (with w s)) (again limits until c b)) (Normal (set_status (status_of_loop limits.shell last s.memory.status) (with w s))) refl (over-is fs (with w (set_status (status_of_loop limits.shell last s.memory.status) s)))
+    move-is (LoopBody until c b ∷ fs) p s = ap (continue limits (CommandEnd ∷ fs)) (sym (turn_more until c b p.0.0 p.0.1 s.memory.status (with w s)))
+    move-is (ForBody name [] body ∷ fs) p s = over-is fs (with w s)
     move-is (ForBody name (f ∷ values) body ∷ fs) p s = refl
     move-is (RunNames names ∷ fs) p s = names-is names fs s
     move-is (RunText names ∷ fs) p s = if-is (nat_eq s.memory.status 0) (begin_names limits.shell names fs s) (Go fs (text_failed limits.shell s)) fs (run_all limits (full limits) names (with w s)) (Normal (text_failed limits.shell (with w s))) (names-is names fs s) refl
+    move-is (CommandEnd ∷ fs) p s = over-is fs (with w s)

@@ -20,10 +20,11 @@ use Rattle.device_list.specs.Called.{Called, BuiltIn, NoCommand, Device, called_
 use Rattle.commands.specs.BuiltInCommands.{ChangesVariables, WritesText, RunsTexts, Tests, Exits}
 use Rattle.rehearse_rules.specs.Needs.{effect_now}
 use Rattle.rehearse_rules.specs.Execution.{begin_turn, Limits, End, CutDevices, CutSteps, Size, set_status, set_local, status_when, goes, holds, Request, test_effect, outcome_when, told, told_again, logged, set_environment, Unsupported, assign_local, request_of, test_request, text_failed, for_begun, block_skipped}
-use Rattle.rehearse_machine.specs.Frames.{Frame, Lists, Linked, IfCondition, LoopCondition, LoopBody, ForBody, Next, Go, Stop, leave, finish_next, answered, tell_or_ask, begin_assign, begin_for, begin_arms, begun_text, begin_tree, begin_text, begin_names, begin_exit, fitting, ask, begin_called, begin_fields, counted, begin_command, move, leave_run, begin_turns, begin_words}
-use Rattle.rehearse_machine.specs.Places.{list_at, drop_lists, joined_at, drop_joined, second, command_in, command_at, drop_arms, place, from_command, condition_frame, phase, from_turn, script_frames, for_frame, run_frame, frames_by, frames_of, PlaceNext, GoOn, StopOn, next_of, moved_to, behind, in_turn, text_frame, block_frame, is_run, to_run, left, place_exit, place_finish, place_answered, place_tell_or_ask, place_assign, place_tree, place_text, place_name, run_move, for_turn, for_move, for_begins, place_arms, condition_ends, phase_move, place_fitting, place_ask, place_called, place_fields, place_counted, place_command, place_joined, place_skipped, place_begins, place_turn, place_list, place_by, place_move, place_skipped, run_left, place_turns, place_words, place_for}
+use Rattle.rehearse_machine.specs.Frames.{Frame, Lists, Linked, IfCondition, LoopCondition, LoopBody, ForBody, Next, Go, Stop, leave, finish_next, answered, tell_or_ask, begin_assign, begin_for, begin_arms, begun_text, begin_tree, begin_text, begin_names, begin_exit, fitting, ask, begin_called, begin_fields, counted, begin_command, move, leave_run, begin_turns, begin_words, CommandEnd, leave_compound, behind_block}
+use Rattle.rehearse_machine.specs.Places.{list_at, drop_lists, joined_at, drop_joined, second, command_in, command_at, drop_arms, place, from_command, condition_frame, phase, from_turn, script_frames, for_frame, run_frame, frames_by, frames_of, PlaceNext, GoOn, StopOn, next_of, moved_to, behind, in_turn, text_frame, block_frame, left, place_exit, place_finish, place_answered, place_tell_or_ask, place_assign, place_tree, place_text, place_name, run_move, for_turn, for_move, for_begins, place_arms, condition_ends, phase_move, place_fitting, place_ask, place_called, place_fields, place_counted, place_command, place_joined, place_skipped, place_begins, place_turn, place_list, place_by, place_move, place_skipped, run_left, place_turns, place_words, place_for, past_lists, over, command_over, under_block, with_block, left_compound, left_script, left_by, if_moves, loop_moves}
 use Rattle.rehearse_machine.proofs.Beginnings.{chosen, passed}
 use Rattle.rehearse_terms.specs.declared.shell.Shell.{Shell}
+use Rattle.rehearse_terms.specs.declared.shell.Shell.TheVariants.{Profile, Old2023, Old2025, Modern2025}
 use Rattle.rehearse_rules.specs.ByShell.{reads_again, leaves_in, status_of_exit, asks_in, truth_in, fields_in, turns_in, skips_rest, status_of_no_block, status_of_loop, follows, assigned_in, follows_turns}
 
 -- ---- parts by their numbers
@@ -96,59 +97,105 @@ if_next false x y u v e f = f
 
 -- ---- `exit`
 
-leave_phase : (o : Option Command) (a last : ℕ) (rs : List Frame) (s : State) → leave (phase o a last ∷ rs) s ≡ leave rs s
-leave_phase None a last rs s = refl
-leave_phase (Some (tree.Simple words)) a last rs s = refl
-leave_phase (Some (tree.Assign pairs)) a last rs s = refl
-leave_phase (Some (tree.If arms)) a last rs s = by (drop_arms a arms)
-  where
-    by : (arms : Arms) → leave (condition_frame arms ∷ rs) s ≡ leave rs s
-    by (tree.Arm c b more) = refl
-    by (tree.Else b) = refl
-    by tree.NoElse = refl
-leave_phase (Some (tree.Loop until c b)) zero last rs s = refl
-leave_phase (Some (tree.Loop until c b)) (suc a) last rs s = refl
-leave_phase (Some (tree.For name words body)) a last rs s = refl
+-- a command that is over
+phase_over : (o : Option Command) → phase o 1 1 ≡ CommandEnd
+phase_over None = refl
+phase_over (Some (tree.Simple words)) = refl
+phase_over (Some (tree.Assign pairs)) = refl
+phase_over (Some (tree.If arms)) = refl
+phase_over (Some (tree.Loop until c b)) = refl
+phase_over (Some (tree.For name words body)) = refl
 
-leave_command : (list : AndOr) (j : ℕ) (rest : Script) (rs : List Frame) (s : State) → leave (from_command list j rest ++ rs) s ≡ leave rs s
-leave_command list zero rest rs s = refl
-leave_command (tree.Starts c joins) (suc j) rest rs s = refl
+module _ (shell : Shell) where
+  -- what `exit` does in a compound command with these frames below it
+  abbrev out_of : List Frame → State → Next
+  out_of rs s = leave_compound shell (CommandEnd ∷ rs) (leave shell rs s) s
 
-leave_turn : (list : AndOr) (at : At) (turn : ℕ) (rest : Script) (rs : List Frame) (s : State) → leave (from_turn list at turn rest ++ rs) s ≡ leave rs s
-leave_turn list at zero rest rs s = leave_command list at.command rest rs s
-leave_turn list at (suc a) rest rs s = leave_phase (command_in list at.command) a at.last (from_command list (suc at.command) rest ++ rs) s ∙ leave_command list (suc at.command) rest rs s
+  leave_phase : (o : Option Command) (a last : ℕ) (rs : List Frame) (s : State) → leave shell (phase o a last ∷ rs) s ≡ out_of rs s
+  leave_phase None a last rs s = refl
+  leave_phase (Some (tree.Simple words)) a last rs s = refl
+  leave_phase (Some (tree.Assign pairs)) a last rs s = refl
+  leave_phase (Some (tree.If arms)) a zero rs s = by (drop_arms a arms)
+    where
+      by : (arms : Arms) → leave shell (condition_frame arms ∷ rs) s ≡ out_of rs s
+      by (tree.Arm c b more) = refl
+      by (tree.Else b) = refl
+      by tree.NoElse = refl
+  leave_phase (Some (tree.If arms)) a (suc last) rs s = refl
+  leave_phase (Some (tree.Loop until c b)) zero last rs s = refl
+  leave_phase (Some (tree.Loop until c b)) (suc a) zero rs s = refl
+  leave_phase (Some (tree.Loop until c b)) (suc a) (suc last) rs s = refl
+  leave_phase (Some (tree.For name words body)) a last rs s = refl
 
-leave_script : (o : Option AndOr) (at : At) (rest : Script) (rs : List Frame) (s : State) → leave (script_frames o at rest ++ rs) s ≡ leave rs s
-leave_script None at rest rs s = refl
-leave_script (Some list) at rest rs s = leave_turn list at at.turn rest rs s
+  leave_command : (list : AndOr) (j : ℕ) (rest : Script) (rs : List Frame) (s : State) → leave shell (from_command list j rest ++ rs) s ≡ leave shell rs s
+  leave_command list zero rest rs s = refl
+  leave_command (tree.Starts c joins) (suc j) rest rs s = refl
 
-leave_for : (o : Option Command) (turn : ℕ) (values : List Text) (rs : List Frame) (s : State) → leave (for_frame o turn values ∷ rs) s ≡ leave rs s
-leave_for None turn values rs s = refl
-leave_for (Some (tree.Simple words)) turn values rs s = refl
-leave_for (Some (tree.Assign pairs)) turn values rs s = refl
-leave_for (Some (tree.If arms)) turn values rs s = refl
-leave_for (Some (tree.Loop until c b)) turn values rs s = refl
-leave_for (Some (tree.For name words body)) turn values rs s = refl
+  -- in no command of a script
+  leave_first : (o : Option AndOr) (at : At) (rest : Script) (rs : List Frame) (s : State) → at.turn ≡ 0 → leave shell (script_frames o at rest ++ rs) s ≡ leave shell rs s
+  leave_first None at rest rs s e = ap (λ (n : ℕ). leave shell (past_lists n ++ rs) s) e
+  leave_first (Some list) at rest rs s e = ap (λ (n : ℕ). leave shell (from_turn list at n rest ++ rs) s) e ∙ leave_command list at.command rest rs s
 
-leave_names : (turn : ℕ) (names : List Text) (rs : List Frame) (s : State) → leave (run_frame turn names ∷ rs) s ≡ leave_run (run_frame turn names) rs s
-leave_names zero names rs s = refl
-leave_names (suc k) names rs s = refl
+  -- in a command of a script
+  leave_within : (o : Option AndOr) (at : At) (a : ℕ) (rest : Script) (rs : List Frame) (s : State) → at.turn ≡ suc a
+      → leave shell (script_frames o at rest ++ rs) s ≡ leave_compound shell (script_frames o (over at) rest ++ rs) (leave shell rs s) s
+  leave_within None at a rest rs s e = ap (λ (n : ℕ). leave shell (past_lists n ++ rs) s) e
+  leave_within (Some list) at a rest rs s e =
+      let below : List Frame = from_command list (suc at.command) rest ++ rs in
+      ap (λ (n : ℕ). leave shell (from_turn list at n rest ++ rs) s) e
+      ∙ leave_phase (command_in list at.command) a at.last below s
+      ∙ ap (λ (x : Next). leave_compound shell (CommandEnd ∷ below) x s) (leave_command list (suc at.command) rest rs s)
+      ∙ ap (λ (x : Frame). leave_compound shell (x ∷ below) (leave shell rs s) s) (sym (phase_over (command_in list at.command)))
 
-leave_by : (k : FrameKind) (f : RunningFrame) (fs : List RunningFrame) (s : State) → f.kind ≡ k → next_of (left (to_run fs) s) ≡ leave (frames_of fs) s → next_of (left (elim (is_run k) [ true ↦ f ∷ fs | false ↦ to_run fs ]) s) ≡ leave (frames_by k f ++ frames_of fs) s
-leave_by kinds.Text f fs s e h = h ∙ sym (leave_script (list_at f.script f.place.list) f.place (drop_lists (suc f.place.list) f.script) (frames_of fs) s)
-leave_by kinds.Block f fs s e h = h ∙ sym (leave_script (list_at f.script f.place.list) f.place (drop_lists (suc f.place.list) f.script) (frames_of fs) s)
-leave_by kinds.For f fs s e h = h ∙ sym (leave_for (command_at (list_at f.script f.place.list) f.place.command) f.place.turn f.words (frames_of fs) s)
-leave_by kinds.Run f fs s e h =
-    if_next (nat_eq s.memory.status 0) (GoOn (f ∷ fs) s) (GoOn fs s) (Go (run_frame f.place.turn f.words ∷ frames_of fs) s) (Go (frames_of fs) s) (ap (λ (x : FrameKind). Go (frames_by x f ++ frames_of fs) s) e) refl
-    ∙ sym (leave_names f.place.turn f.words (frames_of fs) s)
+  leave_for : (o : Option Command) (turn : ℕ) (values : List Text) (rs : List Frame) (s : State) → leave shell (for_frame o turn values ∷ rs) s ≡ leave_compound shell rs (leave shell rs s) s
+  leave_for None turn values rs s = refl
+  leave_for (Some (tree.Simple words)) turn values rs s = refl
+  leave_for (Some (tree.Assign pairs)) turn values rs s = refl
+  leave_for (Some (tree.If arms)) turn values rs s = refl
+  leave_for (Some (tree.Loop until c b)) turn values rs s = refl
+  leave_for (Some (tree.For name words body)) turn values rs s = refl
 
-leave-is : (fs : List RunningFrame) (s : State) → next_of (left (to_run fs) s) ≡ leave (frames_of fs) s
-leave-is [] s = refl
-leave-is (f ∷ fs) s = leave_by f.kind f fs s refl (leave-is fs s)
+  leave_names : (turn : ℕ) (names : List Text) (rs : List Frame) (s : State) → leave shell (run_frame turn names ∷ rs) s ≡ leave_run (run_frame turn names) rs s
+  leave_names zero names rs s = refl
+  leave_names (suc k) names rs s = refl
 
-exit-is : (o : Option ℕ) (other : ℕ) (ps : List RunningFrame) (s : State) → next_of (place_exit o other ps s) ≡ begin_exit o other (frames_of ps) s
-exit-is (Some status) other ps s = leave-is ps (set_status status s)
-exit-is None other ps s = refl
+left_compound-is : (shell : Shell) (ps : List RunningFrame) (outwards : PlaceNext) (s : State) → next_of (left_compound shell ps outwards s) ≡ leave_compound shell (frames_of ps) (next_of outwards) s
+left_compound-is Profile ps outwards s = refl
+left_compound-is Old2023 ps outwards s = refl
+left_compound-is Old2025 ps outwards s = refl
+left_compound-is Modern2025 ps outwards s = refl
+
+module _ (shell : Shell) where
+  module _ (f : RunningFrame) (fs : List RunningFrame) (s : State) (h : next_of (left shell fs s) ≡ leave shell (frames_of fs) s) where
+    abbrev after_list : Script
+    after_list = drop_lists (suc f.place.list) f.script
+
+    left_script-is : (turn : ℕ) → f.place.turn ≡ turn → ((at : At) → frames_by f.kind (moved_to at f) ≡ script_frames (list_at f.script at.list) at (drop_lists (suc at.list) f.script))
+        → next_of (left_script shell turn f fs (left shell fs s) s) ≡ leave shell (script_frames (list_at f.script f.place.list) f.place after_list ++ frames_of fs) s
+    left_script-is zero e scripted = h ∙ sym (leave_first shell (list_at f.script f.place.list) f.place after_list (frames_of fs) s e)
+    left_script-is (suc a) e scripted =
+        left_compound-is shell (command_over f ∷ fs) (left shell fs s) s
+        ∙ ap (λ (x : Next). leave_compound shell (frames_of (command_over f ∷ fs)) x s) h
+        ∙ ap (λ (x : List Frame). leave_compound shell (x ++ frames_of fs) (leave shell (frames_of fs) s) s) (scripted (over f.place))
+        ∙ sym (leave_within shell (list_at f.script f.place.list) f.place a after_list (frames_of fs) s e)
+
+    left_by-is : (k : FrameKind) → f.kind ≡ k → next_of (left_by shell k f fs (left shell fs s) s) ≡ leave shell (frames_by k f ++ frames_of fs) s
+    left_by-is kinds.Text e = left_script-is f.place.turn refl (λ at. ap (λ (x : FrameKind). frames_by x (moved_to at f)) e)
+    left_by-is kinds.Block e = left_script-is f.place.turn refl (λ at. ap (λ (x : FrameKind). frames_by x (moved_to at f)) e)
+    left_by-is kinds.For e =
+        left_compound-is shell fs (left shell fs s) s ∙ ap (λ (x : Next). leave_compound shell (frames_of fs) x s) h
+        ∙ sym (leave_for shell (command_at (list_at f.script f.place.list) f.place.command) f.place.turn f.words (frames_of fs) s)
+    left_by-is kinds.Run e =
+        if_next (nat_eq s.memory.status 0) (GoOn (f ∷ fs) s) (GoOn fs s) (Go (run_frame f.place.turn f.words ∷ frames_of fs) s) (Go (frames_of fs) s) (ap (λ (x : FrameKind). Go (frames_by x f ++ frames_of fs) s) e) refl
+        ∙ sym (leave_names shell f.place.turn f.words (frames_of fs) s)
+
+  leave-is : (fs : List RunningFrame) (s : State) → next_of (left shell fs s) ≡ leave shell (frames_of fs) s
+  leave-is [] s = refl
+  leave-is (f ∷ fs) s = left_by-is f fs s (leave-is fs s) f.kind refl
+
+  exit-is : (o : Option ℕ) (other : ℕ) (ps : List RunningFrame) (s : State) → next_of (place_exit shell o other ps s) ≡ begin_exit shell o other (frames_of ps) s
+  exit-is (Some status) other ps s = leave-is ps (set_status status s)
+  exit-is None other ps s = refl
 
 -- ---- frames of a `run` and of a `for`
 
@@ -259,7 +306,7 @@ module _ (limits : Limits) where
       let t : State = set_status (status_when (truth_in limits.shell ws)) s in
       if_next (asks_in limits.shell ws) (place_ask limits r ps s) (GoOn ps t) (ask limits r (frames_of ps) s) (Go (frames_of ps) t) (ask-is r ps s) refl
   builtin-is again (BuiltIn (WritesText written)) name ws script ps s = refl
-  builtin-is again (BuiltIn Exits) name ws script ps s = exit-is (leaves_in limits.shell again ws) (status_of_exit limits.shell ws) ps s
+  builtin-is again (BuiltIn Exits) name ws script ps s = exit-is limits.shell (leaves_in limits.shell again ws) (status_of_exit limits.shell ws) ps s
   builtin-is again (Device effect) name ws script ps s = ask-is (request_of name ws (effect_now s.log effect)) ps s
   builtin-is again NoCommand name ws script ps s = refl
 
@@ -284,12 +331,22 @@ module _ (limits : Limits) where
     went_on : (s : State) → next_of (GoOn (behind f ∷ fs) s) ≡ Go below s
     went_on s = ap (λ (x : List Frame). Go x s) behind-is
 
+    -- under a block of an `if`
+    with_block-is : (shell : Shell) (all : Arms) → command_in list f.place.command ≡ Some (tree.If all) → frames_of (with_block shell f ∷ fs) ≡ behind_block shell below
+    with_block-is Profile all e = behind-is
+    with_block-is Old2023 all e = behind-is
+    with_block-is Old2025 all e = behind-is
+    with_block-is Modern2025 all e = turned f.place.command 2 1 ∙ ap (λ (x : Frame). x ∷ below) (phase_over (command_in list f.place.command))
+
+    entered : (b : Script) (all : Arms) → command_in list f.place.command ≡ Some (tree.If all) → (s : State) → next_of (GoOn (block_frame b ∷ with_block limits.shell f ∷ fs) s) ≡ Go (Lists b ∷ behind_block limits.shell below) s
+    entered b all e s = ap (λ (x : List Frame). Go x s) (blocked b (with_block limits.shell f ∷ fs) ∙ ap (λ (x : List Frame). Lists b ∷ x) (with_block-is limits.shell all e))
+
     arms-is : (all arms : Arms) (a : ℕ) → command_in list f.place.command ≡ Some (tree.If all) → drop_arms a all ≡ arms → (s : State) → next_of (place_arms limits.shell arms a f fs s) ≡ begin_arms limits.shell arms below s
     arms-is all (tree.Arm c b more) a e d s =
         let one : frames_of (in_turn (suc a) 0 f ∷ fs) ≡ phase (command_in list f.place.command) a 0 ∷ below = turned f.place.command (suc a) 0 in
         let two : phase (command_in list f.place.command) a 0 ≡ IfCondition b more = ap (λ (x : Option Command). phase x a 0) e ∙ ap condition_frame d in
         ap (λ (x : List Frame). Go x s) (blocked c (in_turn (suc a) 0 f ∷ fs) ∙ ap (λ (x : List Frame). Lists c ∷ x) (one ∙ ap (λ (x : Frame). x ∷ below) two))
-    arms-is all (tree.Else b) a e d s = ap (λ (x : List Frame). Go x s) (blocked b (behind f ∷ fs) ∙ ap (λ (x : List Frame). Lists b ∷ x) behind-is)
+    arms-is all (tree.Else b) a e d s = entered b all e s
     arms-is all tree.NoElse a e d s = went_on (set_status (status_of_no_block limits.shell s.memory.status) s)
 
     begins-for-is : (name : Text) (words : List tree.Word) (body : Script) → command_in list f.place.command ≡ Some (tree.For name words body) → (values : List Text) (s : State) → next_of (for_begins values f fs s) ≡ begin_for name values body below s
@@ -317,22 +374,31 @@ module _ (limits : Limits) where
 
     condition-is : (all arms : Arms) (a : ℕ) → command_in list f.place.command ≡ Some (tree.If all) → drop_arms a all ≡ arms → (s : State) → next_of (condition_ends limits.shell arms a f fs s) ≡ move limits (condition_frame arms ∷ below) s
     condition-is all (tree.Arm c b more) a e d s =
-        if_next (nat_eq s.memory.status 0) (GoOn (block_frame b ∷ behind f ∷ fs) s) (place_arms limits.shell more (suc a) f fs (block_skipped limits.shell b s)) (Go (Lists b ∷ below) s) (begin_arms limits.shell more below (block_skipped limits.shell b s))
-        (ap (λ (x : List Frame). Go x s) (blocked b (behind f ∷ fs) ∙ ap (λ (x : List Frame). Lists b ∷ x) behind-is))
+        if_next (nat_eq s.memory.status 0) (GoOn (block_frame b ∷ with_block limits.shell f ∷ fs) s) (place_arms limits.shell more (suc a) f fs (block_skipped limits.shell b s)) (Go (Lists b ∷ behind_block limits.shell below) s) (begin_arms limits.shell more below (block_skipped limits.shell b s))
+        (entered b all e s)
         (arms-is all more (suc a) e (drop_more all a c b more d) (block_skipped limits.shell b s))
     condition-is all (tree.Else b) a e d s = went_on s
     condition-is all tree.NoElse a e d s = went_on s
+
+    -- a command that may be over
+    if_moves-is : (arms : Arms) (a last : ℕ) → command_in list f.place.command ≡ Some (tree.If arms) → (s : State) → next_of (if_moves limits.shell last arms a f fs s) ≡ move limits (phase (Some (tree.If arms)) a last ∷ below) s
+    if_moves-is arms a zero e s = condition-is arms (drop_arms a arms) a e refl s
+    if_moves-is arms a (suc last) e s = went_on s
+
+    loop_moves-is : (until : Bool) (c b : Script) (a last : ℕ) → command_in list f.place.command ≡ Some (tree.Loop until c b) → (s : State) → next_of (loop_moves last c f fs s) ≡ move limits (phase (Some (tree.Loop until c b)) (suc a) last ∷ below) s
+    loop_moves-is until c b a zero e s = looped-is until c b e s.memory.status s
+    loop_moves-is until c b a (suc last) e s = went_on s
 
     phase-is : (o : Option Command) (a : ℕ) → command_in list f.place.command ≡ o → (s : State) → next_of (phase_move limits.shell o a f fs s) ≡ move limits (phase o a f.place.last ∷ below) s
     phase-is None a e s = ap (λ (x : List Frame). Go x s) (turned f.place.command 0 0 ∙ ap (λ (x : List Frame). x ++ frames_of fs) (past_command list f.place.command rest e))
     phase-is (Some (tree.Simple words)) a e s = went_on s
     phase-is (Some (tree.Assign pairs)) a e s = went_on s
-    phase-is (Some (tree.If arms)) a e s = condition-is arms (drop_arms a arms) a e refl s
+    phase-is (Some (tree.If arms)) a e s = if_moves-is arms a f.place.last e s
     phase-is (Some (tree.Loop until c b)) zero e s =
         if_next (holds until s.memory.status) (GoOn (block_frame b ∷ in_turn 2 0 f ∷ fs) s) (GoOn (behind f ∷ fs) (set_status (status_of_loop limits.shell f.place.last s.memory.status) s)) (Go (Lists b ∷ LoopBody until c b ∷ below) s) (Go below (set_status (status_of_loop limits.shell f.place.last s.memory.status) s))
         (ap (λ (x : List Frame). Go x s) (blocked b (in_turn 2 0 f ∷ fs) ∙ ap (λ (x : List Frame). Lists b ∷ x) (turned f.place.command 2 0 ∙ ap (λ (x : Option Command). phase x 1 0 ∷ below) e)))
         (went_on (set_status (status_of_loop limits.shell f.place.last s.memory.status) s))
-    phase-is (Some (tree.Loop until c b)) (suc a) e s = looped-is until c b e s.memory.status s
+    phase-is (Some (tree.Loop until c b)) (suc a) e s = loop_moves-is until c b a f.place.last e s
     phase-is (Some (tree.For name words body)) a e s = went_on s
 
     next_list-is : (s : State) → next_of (GoOn (moved_to (place (suc f.place.list) 0 0 0) f ∷ fs) s) ≡ Go (Lists rest ∷ frames_of fs) s
@@ -367,7 +433,11 @@ module _ (limits : Limits) where
     turn-is (suc a) s e = phase-is (command_in list f.place.command) a refl s
 
   script-is : (f : RunningFrame) (fs : List RunningFrame) (o : Option AndOr) → list_at f.script f.place.list ≡ o → ((p : At) → frames_by f.kind (moved_to p f) ≡ script_frames (list_at f.script p.list) p (drop_lists (suc p.list) f.script)) → (s : State) → next_of (place_list limits o f fs s) ≡ move limits (script_frames o f.place (drop_lists (suc f.place.list) f.script) ++ frames_of fs) s
-  script-is f fs None e h s = refl
+  script-is f fs None e h s = by f.place.turn
+    where
+      by : (turn : ℕ) → Go (frames_of fs) s ≡ move limits (past_lists turn ++ frames_of fs) s
+      by zero = refl
+      by (suc a) = refl
   script-is f fs (Some list) e h s = turn-is f fs list e h f.place.turn s refl
 
   by-is : (k : FrameKind) (f : RunningFrame) (fs : List RunningFrame) (s : State) → f.kind ≡ k → next_of (place_by limits k f fs s) ≡ move limits (frames_by k f ++ frames_of fs) s
@@ -387,39 +457,26 @@ text_begins script = texted script []
 
 -- ---- what `exit` removes
 
-abbrev at_top : List RunningFrame → List RunningFrame → Type 0
-at_top frames all = to_run frames ≡ to_run all
+module _ (shell : Shell) where
+  -- what `exit` does at some frames, it does at others
+  abbrev pub LeavesAs : (frames all : List RunningFrame) → Type 0
+  LeavesAs frames all = (s : State) → left shell frames s ≡ left shell all s
 
-by_kind : (k : FrameKind) (f : RunningFrame) (fs : List RunningFrame) → f.kind ≡ k → to_run (f ∷ fs) ≡ elim (is_run k) [ true ↦ f ∷ fs | false ↦ to_run fs ]
-by_kind k f fs e = ap (λ (x : FrameKind). elim (is_run x) [ true ↦ f ∷ fs | false ↦ to_run fs ]) e
+  pub leaves_at : (frames all : List RunningFrame) (f : RunningFrame) (next : PlaceNext) (s : State) → Some f ≡ slice_get frames 0 → LeavesAs frames all
+      → next ≡ left_by shell f.kind f (without_first frames) (left shell (without_first frames) s) s → next ≡ left shell all s
+  leaves_at [] all f next s e t n = absurd (let g = e in cc)
+  leaves_at (x ∷ xs) all f next s e t n =
+      let same : f ≡ x = (let g = e in cc) in
+      n ∙ ap (λ (y : RunningFrame). left_by shell y.kind y xs (left shell xs s) s) same ∙ t s
 
-not_run : (k : FrameKind) → (k ≡ kinds.Run → ⊥) → is_run k ≡ false
-not_run kinds.Text h = refl
-not_run kinds.Block h = refl
-not_run kinds.For h = refl
-not_run kinds.Run h = absurd (h refl)
+  pub goes_below : (frames all : List RunningFrame) (f : RunningFrame) → Some f ≡ slice_get frames 0 → LeavesAs frames all
+      → ((s : State) → left shell (without_first frames) s ≡ left_by shell f.kind f (without_first frames) (left shell (without_first frames) s) s) → LeavesAs (without_first frames) all
+  goes_below frames all f e t n s = leaves_at frames all f (left shell (without_first frames) s) s e t (n s)
 
-pub stops_at_run : (frames all : List RunningFrame) (f : RunningFrame) (s : State) → Some f ≡ slice_get frames 0 → f.kind ≡ kinds.Run → to_run frames ≡ to_run all → run_left frames (without_first frames) s ≡ left (to_run all) s
-stops_at_run [] all f s e k t = absurd (let g = e in cc)
-stops_at_run (x ∷ xs) all f s e k t =
-    let same : x ≡ f = (let g = e in cc) in
-    let run : x.kind ≡ kinds.Run = ap (λ (y : RunningFrame). y.kind) same ∙ k in
-    ap (λ (y : List RunningFrame). left y s) (sym (by_kind kinds.Run x xs run) ∙ t)
-
-skipped : (b : Bool) (x : RunningFrame) (xs : List RunningFrame) → b ≡ false → elim b [ true ↦ x ∷ xs | false ↦ to_run xs ] ≡ to_run xs
-skipped true x xs e = absurd (let g = e in cc)
-skipped false x xs e = refl
-
-pub goes_below : (frames all : List RunningFrame) (f : RunningFrame) → Some f ≡ slice_get frames 0 → (f.kind ≡ kinds.Run → ⊥) → to_run frames ≡ to_run all → to_run (without_first frames) ≡ to_run all
-goes_below [] all f e k t = t
-goes_below (x ∷ xs) all f e k t =
-    let same : x ≡ f = (let g = e in cc) in
-    sym (skipped (is_run x.kind) x xs (not_run x.kind (λ h. k (sym (ap (λ (y : RunningFrame). y.kind) same) ∙ h)))) ∙ t
+  pub ends_at_none : (frames all : List RunningFrame) (s : State) → None ≡ slice_get frames 0 → LeavesAs frames all → StopOn (End s.memory.status) s ≡ left shell all s
+  ends_at_none [] all s e t = t s
+  ends_at_none (x ∷ xs) all s e t = absurd (let g = e in cc)
 
 pub shorter_below : (frames : List RunningFrame) (f : RunningFrame) → Some f ≡ slice_get frames 0 → length (without_first frames) < length frames
 shorter_below [] f e = absurd (let g = e in cc)
 shorter_below (x ∷ xs) f e = omega arith
-
-pub ends_at_none : (frames all : List RunningFrame) (s : State) → None ≡ slice_get frames 0 → to_run frames ≡ to_run all → StopOn (End s.memory.status) s ≡ left (to_run all) s
-ends_at_none [] all s e t = ap (λ (y : List RunningFrame). left y s) t
-ends_at_none (x ∷ xs) all s e t = absurd (let g = e in cc)

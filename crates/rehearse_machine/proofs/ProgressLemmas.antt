@@ -5,14 +5,16 @@ use Rattle.hushlang.specs.Tree as tree
 use Rattle.hushlang.specs.Tree.{Script, Joined, Command, Arms, IsProperCommand, AreProperArms, HoldsCommand}
 use Rattle.hushlang.specs.Expansion.{joined, size, most_bytes}
 use Rattle.hushlang_shells.specs.TreesByShell.{tree_in, lacks_end_in}
-use Rattle.rehearse_terms.specs.State.{Text, get, State}
+use Rattle.rehearse_terms.specs.State.{Text, get, State, Variables}
 use Rattle.rehearse_rules.specs.Parameters.{parameters_in}
 use Rattle.device_list.specs.Called.{Called, BuiltIn, NoCommand, Device, called_by, sets_in}
 use Rattle.commands.specs.BuiltInCommands.{ChangesVariables, WritesText, RunsTexts, Tests, Exits}
 use Rattle.rehearse_rules.specs.Needs.{effect_now}
-use Rattle.rehearse_rules.specs.Execution.{Limits, CutDevices, CutSteps, Size, set_status, set_local, status_when, goes, holds, Request, test_effect, told, told_again, logged, set_environment, Unsupported, assign_local, request_of, test_request, text_failed, for_begun, block_skipped}
+use Rattle.rehearse_terms.specs.declared.shell.Shell.{Shell}
+use Rattle.rehearse_terms.specs.declared.shell.Shell.TheVariants.{Profile, Old2023, Old2025, Modern2025}
+use Rattle.rehearse_rules.specs.Execution.{Limits, CutDevices, CutSteps, Size, set_status, set_local, status_when, goes, holds, Request, test_effect, told, told_again, logged, set_environment, Unsupported, assign_local, request_of, test_request, text_failed, for_begun, block_skipped, compound_left}
 use Rattle.rehearse_terms.specs.Outcomes.{Success}
-use Rattle.rehearse_machine.specs.Frames.{Frame, Lists, Linked, IfCondition, LoopCondition, LoopBody, ForBody, RunNames, RunText, Next, Go, Ask, Stop, tell_or_ask, finish_next, leave, begin_assign, begin_for, begin_arms, begin_tree, begin_text, begin_names, begin_exit, fitting, ask, begin_called, begin_fields, begin_command, move, begin_turns, begin_words}
+use Rattle.rehearse_machine.specs.Frames.{Frame, Lists, Linked, IfCondition, LoopCondition, LoopBody, ForBody, RunNames, RunText, Next, Go, Ask, Stop, tell_or_ask, finish_next, leave, begin_assign, begin_for, begin_arms, begin_tree, begin_text, begin_names, begin_exit, fitting, ask, begin_called, begin_fields, begin_command, move, begin_turns, begin_words, CommandEnd, leave_compound, behind_block}
 use Rattle.rehearse_machine.specs.MoveCounts.{command_depth, arms_depth, script_depth, block_weight, links_weight, arms_weight, tree_weight, text_weight, names_weight, weight}
 use Rattle.rehearse_machine.specs.Meaning.{AreProperFrames}
 use Rattle.rehearse_rules.specs.ByShell.{reads_again, leaves_in, status_of_exit, asks_in, truth_in, fields_in, turns_in, skips_rest, status_of_loop, follows, assigned_in, follows_turns}
@@ -40,16 +42,23 @@ module _ (limits : Limits) where
   either-quiet t true x y h k = h
   either-quiet t false x y h k = k
 
-  leave-quiet : (fs : List Frame) (s : State) → IsQuiet s (leave fs s)
-  leave-quiet [] s = refl
-  leave-quiet (RunNames names ∷ fs) s = either-quiet s (nat_eq s.memory.status 0) (Go (RunNames names ∷ fs) s) (Go fs s) refl refl
-  leave-quiet (RunText names ∷ fs) s = either-quiet s (nat_eq s.memory.status 0) (Go (RunText names ∷ fs) s) (Go fs s) refl refl
-  leave-quiet (Lists ls ∷ fs) s = leave-quiet fs s
-  leave-quiet (Linked ls ∷ fs) s = leave-quiet fs s
-  leave-quiet (IfCondition b arms ∷ fs) s = leave-quiet fs s
-  leave-quiet (LoopCondition until c b last ∷ fs) s = leave-quiet fs s
-  leave-quiet (LoopBody until c b ∷ fs) s = leave-quiet fs s
-  leave-quiet (ForBody name values body ∷ fs) s = leave-quiet fs s
+  compound-quiet : (shell : Shell) (ps : List Frame) (outwards : Next) (s : State) → IsQuiet s outwards → IsQuiet s (leave_compound shell ps outwards s)
+  compound-quiet Profile ps outwards s h = h
+  compound-quiet Old2023 ps outwards s h = h
+  compound-quiet Old2025 ps outwards s h = h
+  compound-quiet Modern2025 ps outwards s h = refl
+
+  leave-quiet : (shell : Shell) (fs : List Frame) (s : State) → IsQuiet s (leave shell fs s)
+  leave-quiet shell [] s = refl
+  leave-quiet shell (RunNames names ∷ fs) s = either-quiet s (nat_eq s.memory.status 0) (Go (RunNames names ∷ fs) s) (Go fs s) refl refl
+  leave-quiet shell (RunText names ∷ fs) s = either-quiet s (nat_eq s.memory.status 0) (Go (RunText names ∷ fs) s) (Go fs s) refl refl
+  leave-quiet shell (Lists ls ∷ fs) s = leave-quiet shell fs s
+  leave-quiet shell (Linked ls ∷ fs) s = leave-quiet shell fs s
+  leave-quiet shell (IfCondition b arms ∷ fs) s = compound-quiet shell (CommandEnd ∷ fs) (leave shell fs s) s (leave-quiet shell fs s)
+  leave-quiet shell (LoopCondition until c b last ∷ fs) s = compound-quiet shell (CommandEnd ∷ fs) (leave shell fs s) s (leave-quiet shell fs s)
+  leave-quiet shell (LoopBody until c b ∷ fs) s = compound-quiet shell (CommandEnd ∷ fs) (leave shell fs s) s (leave-quiet shell fs s)
+  leave-quiet shell (ForBody name values body ∷ fs) s = compound-quiet shell fs (leave shell fs s) s (leave-quiet shell fs s)
+  leave-quiet shell (CommandEnd ∷ fs) s = compound-quiet shell (CommandEnd ∷ fs) (leave shell fs s) s (leave-quiet shell fs s)
 
   pub assign-quiet : (pairs : List (Text × tree.Word)) (fs : List Frame) (t s : State) → s.steps ≡ t.steps → IsQuiet t (begin_assign limits.shell pairs fs s)
   assign-quiet [] fs t s e = e
@@ -82,8 +91,8 @@ module _ (limits : Limits) where
   ask-quiet : (r : Request) (fs : List Frame) (s : State) → IsQuiet s (ask limits r fs s)
   ask-quiet r fs s = either-quiet s (nat_lt (length s.log) limits.device_bound) (tell_or_ask (told r s.log) r fs s) (Stop CutDevices s) (tell-quiet (told r s.log) r fs s) refl
 
-  exit-quiet : (o : Option ℕ) (other : ℕ) (fs : List Frame) (s : State) → IsQuiet s (begin_exit o other fs s)
-  exit-quiet (Some n) other fs s = leave-quiet fs (set_status n s)
+  exit-quiet : (o : Option ℕ) (other : ℕ) (fs : List Frame) (s : State) → IsQuiet s (begin_exit limits.shell o other fs s)
+  exit-quiet (Some n) other fs s = leave-quiet limits.shell fs (set_status n s)
   exit-quiet None other fs s = refl
 
   builtin-quiet : (again : Bool) (b : Called) (name : Text) (ws : List Text) (fs : List Frame) (s : State) → IsQuiet s (begin_called limits again b name ws fs s)
@@ -144,10 +153,24 @@ module _ (limits : Limits) where
   either_progress s n true x y h k = h
   either_progress s n false x y h k = k
 
+  -- a block of an `if`, with what is left to do after it
+  block_lighter : (b : Script) (n m : ℕ) → n ≤ m → block_weight b n ≤ block_weight b m
+  block_lighter tree.Empty n m l = omega arith
+  block_lighter (tree.Runs l ls) n m h = omega arith
+
+  behind_weight : (shell : Shell) (environment : Variables) (fs : List Frame) → weight limits.shell environment (behind_block shell fs) ≤ suc (weight limits.shell environment fs)
+  behind_weight Profile environment fs = omega arith
+  behind_weight Old2023 environment fs = omega arith
+  behind_weight Old2025 environment fs = omega arith
+  behind_weight Modern2025 environment fs = omega arith
+
+  block_weight-is : (b : Script) (environment : Variables) (fs : List Frame) → weight limits.shell environment (Lists b ∷ behind_block limits.shell fs) ≤ block_weight b (suc (weight limits.shell environment fs))
+  block_weight-is b environment fs = block_lighter b (weight limits.shell environment (behind_block limits.shell fs)) (suc (weight limits.shell environment fs)) (behind_weight limits.shell environment fs)
+
   arms_progress : (arms : Arms) (fs : List Frame) (s : State) → AreProperArms arms → Progress s (suc (arms_weight arms (weight limits.shell s.memory.environment fs))) (begin_arms limits.shell arms fs s)
   arms_progress (tree.Arm tree.Empty b arms) fs s p = absurd p.0
   arms_progress (tree.Arm (tree.Runs l ls) b arms) fs s p = inr (refl, refl, omega arith)
-  arms_progress (tree.Else b) fs s p = inr (refl, refl, omega arith)
+  arms_progress (tree.Else b) fs s p = let l = block_weight-is b s.memory.environment fs in inr (refl, refl, omega arith)
   arms_progress tree.NoElse fs s p = inr (refl, refl, omega arith)
 
   if_progress : (arms : Arms) (fs : List Frame) (s : State) → IsProperCommand (tree.If arms) → Progress s (suc (arms_depth arms)) (begin_arms limits.shell arms fs s)
@@ -209,9 +232,11 @@ module _ (limits : Limits) where
       (either_progress s (suc (command_depth c + links_weight links m)) (skips_rest limits.shell) (Go fs s) (Go (Linked links ∷ fs) s) (let more = links_heavy links m in inr (refl, refl, omega arith)) (inr (refl, refl, omega arith)))
   move_progress (IfCondition b arms ∷ fs) s p =
       let m = weight limits.shell s.memory.environment fs in
-      either_progress s (suc (block_weight b m + arms_weight arms m)) (nat_eq s.memory.status 0) (Go (Lists b ∷ fs) s) (begin_arms limits.shell arms fs (block_skipped limits.shell b s))
-      (progress_more s (suc (block_weight b m)) (suc (block_weight b m + arms_weight arms m)) (Go (Lists b ∷ fs) s) (omega arith) (inr (refl, refl, omega arith)))
-      (progress_more s (suc (arms_weight arms m)) (suc (block_weight b m + arms_weight arms m)) (begin_arms limits.shell arms fs (block_skipped limits.shell b s)) (omega arith) (arms_progress arms fs (block_skipped limits.shell b s) p.0.1))
+      let x = block_weight b (suc m) in
+      let l = block_weight-is b s.memory.environment fs in
+      either_progress s (suc (x + arms_weight arms m)) (nat_eq s.memory.status 0) (Go (Lists b ∷ behind_block limits.shell fs) s) (begin_arms limits.shell arms fs (block_skipped limits.shell b s))
+      (progress_more s (suc x) (suc (x + arms_weight arms m)) (Go (Lists b ∷ behind_block limits.shell fs) s) (omega arith) (inr (refl, refl, omega arith)))
+      (progress_more s (suc (arms_weight arms m)) (suc (x + arms_weight arms m)) (begin_arms limits.shell arms fs (block_skipped limits.shell b s)) (omega arith) (arms_progress arms fs (block_skipped limits.shell b s) p.0.1))
   move_progress (LoopCondition until c b last ∷ fs) s p =
       let m = weight limits.shell s.memory.environment fs in
       let x = block_weight b (suc (block_weight c m)) in
@@ -228,3 +253,4 @@ module _ (limits : Limits) where
       either_progress s (suc (x + m)) (nat_eq s.memory.status 0) (begin_names limits.shell names fs s) (Go fs (text_failed limits.shell s))
       (progress_more s (suc x) (suc (x + m)) (begin_names limits.shell names fs s) (omega arith) (names_progress names fs s))
       (inr (refl, refl, omega arith))
+  move_progress (CommandEnd ∷ fs) s p = inr (refl, refl, omega arith)

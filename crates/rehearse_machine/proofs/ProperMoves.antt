@@ -10,9 +10,11 @@ use Rattle.rehearse_rules.specs.Parameters.{parameters_in}
 use Rattle.device_list.specs.Called.{Called, BuiltIn, NoCommand, Device, called_by, sets_in}
 use Rattle.commands.specs.BuiltInCommands.{ChangesVariables, WritesText, RunsTexts, Tests, Exits}
 use Rattle.rehearse_rules.specs.Needs.{effect_now}
-use Rattle.rehearse_rules.specs.Execution.{Limits, CutDevices, CutSteps, Size, set_status, set_local, status_when, goes, holds, Request, test_effect, told, told_again, logged, set_environment, Unsupported, assign_local, request_of, test_request, text_failed, for_begun, block_skipped}
+use Rattle.rehearse_terms.specs.declared.shell.Shell.{Shell}
+use Rattle.rehearse_terms.specs.declared.shell.Shell.TheVariants.{Profile, Old2023, Old2025, Modern2025}
+use Rattle.rehearse_rules.specs.Execution.{Limits, CutDevices, CutSteps, Size, set_status, set_local, status_when, goes, holds, Request, test_effect, told, told_again, logged, set_environment, Unsupported, assign_local, request_of, test_request, text_failed, for_begun, block_skipped, compound_left}
 use Rattle.rehearse_terms.specs.Outcomes.{Success}
-use Rattle.rehearse_machine.specs.Frames.{Frame, Lists, Linked, IfCondition, LoopCondition, LoopBody, ForBody, RunNames, RunText, Next, Go, Stop, tell_or_ask, finish_next, leave, begin_assign, begin_for, begin_arms, begin_tree, begin_text, begin_names, begin_exit, fitting, ask, begin_called, begin_fields, begin_command, move, begin_turns, begin_words}
+use Rattle.rehearse_machine.specs.Frames.{Frame, Lists, Linked, IfCondition, LoopCondition, LoopBody, ForBody, RunNames, RunText, Next, Go, Stop, tell_or_ask, finish_next, leave, begin_assign, begin_for, begin_arms, begin_tree, begin_text, begin_names, begin_exit, fitting, ask, begin_called, begin_fields, begin_command, move, begin_turns, begin_words, CommandEnd, leave_compound, behind_block}
 use Rattle.hushlang_shells.proofs.TreeByShellLemmas.{trees_in_are_proper}
 use Rattle.rehearse_machine.proofs.StepBoundLemmas.{block_proper}
 use Rattle.rehearse_machine.specs.Meaning.{AreProperFrames, IsProperNext}
@@ -23,16 +25,29 @@ module _ (limits : Limits) where
   either true x y h k = h
   either false x y h k = k
 
-  leave-proper : (fs : List Frame) (s : State) → AreProperFrames fs → IsProperNext (leave fs s)
-  leave-proper [] s p = tt
-  leave-proper (RunNames names ∷ fs) s p = either (nat_eq s.memory.status 0) (Go (RunNames names ∷ fs) s) (Go fs s) p p.1
-  leave-proper (RunText names ∷ fs) s p = either (nat_eq s.memory.status 0) (Go (RunText names ∷ fs) s) (Go fs s) p p.1
-  leave-proper (Lists ls ∷ fs) s p = leave-proper fs s p.1
-  leave-proper (Linked ls ∷ fs) s p = leave-proper fs s p.1
-  leave-proper (IfCondition b arms ∷ fs) s p = leave-proper fs s p.1
-  leave-proper (LoopCondition until c b last ∷ fs) s p = leave-proper fs s p.1
-  leave-proper (LoopBody until c b ∷ fs) s p = leave-proper fs s p.1
-  leave-proper (ForBody name fields body ∷ fs) s p = leave-proper fs s p.1
+  compound-proper : (shell : Shell) (ps : List Frame) (outwards : Next) (s : State) → AreProperFrames ps → IsProperNext outwards → IsProperNext (leave_compound shell ps outwards s)
+  compound-proper Profile ps outwards s p h = h
+  compound-proper Old2023 ps outwards s p h = h
+  compound-proper Old2025 ps outwards s p h = h
+  compound-proper Modern2025 ps outwards s p h = p
+
+  leave-proper : (shell : Shell) (fs : List Frame) (s : State) → AreProperFrames fs → IsProperNext (leave shell fs s)
+  leave-proper shell [] s p = tt
+  leave-proper shell (RunNames names ∷ fs) s p = either (nat_eq s.memory.status 0) (Go (RunNames names ∷ fs) s) (Go fs s) p p.1
+  leave-proper shell (RunText names ∷ fs) s p = either (nat_eq s.memory.status 0) (Go (RunText names ∷ fs) s) (Go fs s) p p.1
+  leave-proper shell (Lists ls ∷ fs) s p = leave-proper shell fs s p.1
+  leave-proper shell (Linked ls ∷ fs) s p = leave-proper shell fs s p.1
+  leave-proper shell (IfCondition b arms ∷ fs) s p = compound-proper shell (CommandEnd ∷ fs) (leave shell fs s) s (tt, p.1) (leave-proper shell fs s p.1)
+  leave-proper shell (LoopCondition until c b last ∷ fs) s p = compound-proper shell (CommandEnd ∷ fs) (leave shell fs s) s (tt, p.1) (leave-proper shell fs s p.1)
+  leave-proper shell (LoopBody until c b ∷ fs) s p = compound-proper shell (CommandEnd ∷ fs) (leave shell fs s) s (tt, p.1) (leave-proper shell fs s p.1)
+  leave-proper shell (ForBody name fields body ∷ fs) s p = compound-proper shell fs (leave shell fs s) s p.1 (leave-proper shell fs s p.1)
+  leave-proper shell (CommandEnd ∷ fs) s p = compound-proper shell (CommandEnd ∷ fs) (leave shell fs s) s p (leave-proper shell fs s p.1)
+
+  behind-proper : (shell : Shell) (fs : List Frame) → AreProperFrames fs → AreProperFrames (behind_block shell fs)
+  behind-proper Profile fs p = p
+  behind-proper Old2023 fs p = p
+  behind-proper Old2025 fs p = p
+  behind-proper Modern2025 fs p = (tt, p)
 
   tree-proper : (o : Option Script) (name : Text) (names : List Text) (fs : List Frame) (s : State) → ((tree : Script) → o ≡ Some tree → IsProper tree) → AreProperFrames fs → IsProperNext (begin_tree limits.shell o name names fs s)
   tree-proper None name names fs s r p = tt
@@ -60,8 +75,8 @@ module _ (limits : Limits) where
   ask-proper : (request : Request) (fs : List Frame) (s : State) → AreProperFrames fs → IsProperNext (ask limits request fs s)
   ask-proper request fs s p = either (nat_lt (length s.log) limits.device_bound) (tell_or_ask (told request s.log) request fs s) (Stop CutDevices s) (tell-proper (told request s.log) request fs s p) tt
 
-  exit-proper : (o : Option ℕ) (other : ℕ) (fs : List Frame) (s : State) → AreProperFrames fs → IsProperNext (begin_exit o other fs s)
-  exit-proper (Some n) other fs s p = leave-proper fs (set_status n s) p
+  exit-proper : (o : Option ℕ) (other : ℕ) (fs : List Frame) (s : State) → AreProperFrames fs → IsProperNext (begin_exit limits.shell o other fs s)
+  exit-proper (Some n) other fs s p = leave-proper limits.shell fs (set_status n s) p
   exit-proper None other fs s p = p
 
   builtin-proper : (again : Bool) (b : Called) (name : Text) (ws : List Text) (fs : List Frame) (s : State) → AreProperFrames fs → IsProperNext (begin_called limits again b name ws fs s)
@@ -87,7 +102,7 @@ module _ (limits : Limits) where
 
   arms-proper : (arms : Arms) (fs : List Frame) (s : State) → AreProperArms arms → AreProperFrames fs → IsProperNext (begin_arms limits.shell arms fs s)
   arms-proper (tree.Arm c b arms) fs s q p = (block_proper c q.0, ((block_proper b q.1, q.2), p))
-  arms-proper (tree.Else b) fs s q p = (block_proper b q, p)
+  arms-proper (tree.Else b) fs s q p = (block_proper b q, behind-proper limits.shell fs p)
   arms-proper tree.NoElse fs s q p = p
 
   if-proper : (arms : Arms) → IsProperCommand (tree.If arms) → AreProperArms arms
@@ -112,10 +127,11 @@ module _ (limits : Limits) where
   move-proper (Lists (tree.Runs (tree.Starts c links) lists) ∷ fs) s p = command-proper c (Linked links ∷ Lists lists ∷ fs) s p.0.0.0 (p.0.0.1, (p.0.1, p.1))
   move-proper (Linked tree.Alone ∷ fs) s p = p.1
   move-proper (Linked (tree.Joins op c links) ∷ fs) s p = either (goes op s.memory.status) (begin_command limits c (Linked links ∷ fs) s) (elim (skips_rest limits.shell) [ true ↦ Go fs s | false ↦ Go (Linked links ∷ fs) s ]) (command-proper c (Linked links ∷ fs) s p.0.0 (p.0.1, p.1)) (either (skips_rest limits.shell) (Go fs s) (Go (Linked links ∷ fs) s) p.1 (p.0.1, p.1))
-  move-proper (IfCondition b arms ∷ fs) s p = either (nat_eq s.memory.status 0) (Go (Lists b ∷ fs) s) (begin_arms limits.shell arms fs (block_skipped limits.shell b s)) (p.0.0, p.1) (arms-proper arms fs (block_skipped limits.shell b s) p.0.1 p.1)
+  move-proper (IfCondition b arms ∷ fs) s p = either (nat_eq s.memory.status 0) (Go (Lists b ∷ behind_block limits.shell fs) s) (begin_arms limits.shell arms fs (block_skipped limits.shell b s)) (p.0.0, behind-proper limits.shell fs p.1) (arms-proper arms fs (block_skipped limits.shell b s) p.0.1 p.1)
   move-proper (LoopCondition until c b last ∷ fs) s p = either (holds until s.memory.status) (Go (Lists b ∷ LoopBody until c b ∷ fs) s) (Go fs (set_status (status_of_loop limits.shell last s.memory.status) s)) (block_proper b p.0.1, p) p.1
   move-proper (LoopBody until c b ∷ fs) s p = (block_proper c p.0.0, p)
   move-proper (ForBody name [] body ∷ fs) s p = p.1
   move-proper (ForBody name (f ∷ values) body ∷ fs) s p = (p.0, p)
   move-proper (RunNames names ∷ fs) s p = names-proper names fs s p.1
   move-proper (RunText names ∷ fs) s p = either (nat_eq s.memory.status 0) (begin_names limits.shell names fs s) (Go fs (text_failed limits.shell s)) (names-proper names fs s p.1) p.1
+  move-proper (CommandEnd ∷ fs) s p = p.1

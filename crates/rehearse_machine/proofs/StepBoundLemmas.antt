@@ -9,7 +9,7 @@ use Rattle.rehearse_terms.specs.declared.shell.Shell.{Shell}
 use Rattle.rehearse_rules.specs.Parameters.{parameters_in}
 use Rattle.device_list.specs.Called.{Called, BuiltIn, NoCommand, Device, called_by}
 use Rattle.commands.specs.BuiltInCommands.{ChangesVariables, WritesText, RunsTexts, Tests, Exits}
-use Rattle.rehearse_rules.specs.Execution.{begin_turn, Limits, Answer, Normal, Exit, Ended, Dry, CutSteps, Size, go_on, set_status, goes, holds, begin, text_end, text_failed, run_text, run_all, command, simple, sized, turns, for_each, exec_script, exec_list, exec_joined, exec_command, exec_arms, exec, Unsupported, started_text, turns_of, for_words, for_begun, block_skipped}
+use Rattle.rehearse_rules.specs.Execution.{begin_turn, Limits, Answer, Normal, Exit, Ended, Dry, CutSteps, Size, go_on, set_status, goes, holds, begin, text_end, text_failed, run_text, run_all, command, simple, sized, turns, for_each, exec_script, exec_list, exec_joined, exec_command, exec_arms, exec, Unsupported, started_text, turns_of, for_words, for_begun, block_skipped, compound}
 use Rattle.rehearse_rules.proofs.GrowingSteps.{AtLeast, Grew, AtLeast-track, Grew-block}
 use Rattle.rehearse_rules.proofs.TakenOutcomes.{KeepsAll, after_condition, Keeps-script, Keeps-list, Keeps-one, Keeps-exec, Keeps-started}
 use Rattle.hushlang_shells.proofs.TreeByShellLemmas.{trees_in_are_proper}
@@ -96,7 +96,7 @@ module _ (limits : Limits) where
         (same_go_on t.steps (b t) (b' t) (λ u. turns limits.shell k until c b u.memory.status u) (λ u. turns limits.shell j until c' b' u.memory.status u) (AtLeast-track limits.device_bound t (b t) (kb t).0) (eb t (omega arith)) (λ u r. same_turns k j (omega arith) until c c' b b' ec eb grew kb cut u.memory.status u (omega arith) (omega arith)))
         refl)
 
-    same_for : (name : Text) (b b' : State → Answer) → ((t : State) → limits.step_bound ≤ n + t.steps → b t ≡ b' t) → KeepsAll limits b → (last : ℕ) (fs : List Text) (s : State) → limits.step_bound ≤ n + s.steps → for_each limits.shell name b last fs s ≡ for_each limits.shell name b' last fs s
+    pub same_for : (name : Text) (b b' : State → Answer) → ((t : State) → limits.step_bound ≤ n + t.steps → b t ≡ b' t) → KeepsAll limits b → (last : ℕ) (fs : List Text) (s : State) → limits.step_bound ≤ n + s.steps → for_each limits.shell name b last fs s ≡ for_each limits.shell name b' last fs s
     same_for name b b' eb kb last [] s l = refl
     same_for name b b' eb kb last (f ∷ fs) s l = same_go_on s.steps (b (begin_turn limits.shell name f s)) (b' (begin_turn limits.shell name f s)) (λ t. for_each limits.shell name b t.memory.status fs t) (λ t. for_each limits.shell name b' t.memory.status fs t) (AtLeast-track limits.device_bound (begin_turn limits.shell name f s) (b (begin_turn limits.shell name f s)) (kb (begin_turn limits.shell name f s)).0) (eb (begin_turn limits.shell name f s) l) (λ t r. same_for name b b' eb kb t.memory.status fs t (omega arith))
 
@@ -104,7 +104,7 @@ module _ (limits : Limits) where
     same_words name words b b' eb kb s l =
         let fs : List Text = turns_in limits.shell (parameters_in s.memory) words in
         same_sized fs (turns_of limits.shell name b) (turns_of limits.shell name b') s
-        (same_if (follows_turns limits.shell name fs) (for_each limits.shell name b 0 fs s) (Ended (Unsupported name) s) (for_each limits.shell name b' 0 fs s) (Ended (Unsupported name) s) (same_for name b b' eb kb 0 fs s l) refl)
+        (same_if (follows_turns limits.shell name fs) (compound limits.shell (for_each limits.shell name b 0 fs s)) (Ended (Unsupported name) s) (compound limits.shell (for_each limits.shell name b' 0 fs s)) (Ended (Unsupported name) s) (ap (compound limits.shell) (same_for name b b' eb kb 0 fs s l)) refl)
 
     mutual
       pub same_script : (a : Script) → IsProper a → (s : State) → limits.step_bound ≤ n + s.steps → exec_script limits n text a s ≡ exec_script limits m text' a s
@@ -123,11 +123,11 @@ module _ (limits : Limits) where
       same_one : (a : Command) → IsProperCommand a → (s : State) → limits.step_bound ≤ n + s.steps → exec_command limits n text a s ≡ exec_command limits m text' a s
       same_one (tree.Simple words) p s h = same_begin (λ t. sized (fields_in limits.shell (parameters_in t.memory) words) (simple limits (reads_again words) text) t) (λ t. sized (fields_in limits.shell (parameters_in t.memory) words) (simple limits (reads_again words) text') t) s h (λ t r. same_sized (fields_in limits.shell (parameters_in t.memory) words) (simple limits (reads_again words) text) (simple limits (reads_again words) text') t (same_simple (reads_again words) (fields_in limits.shell (parameters_in t.memory) words) t r))
       same_one (tree.Assign pairs) p s h = refl
-      same_one (tree.If arms) p s h = same_if_arms arms p s h
-      same_one (tree.Loop until c b) p s h = same_turns n m below until (exec_script limits n text c) (exec_script limits m text' c) (exec_script limits n text b) (exec_script limits m text' b) (same_script c (block_proper c p.0)) (same_script b (block_proper b p.1)) (Grew-block limits n text kept c p.0) (Keeps-script limits n text kept b) (Cut-block limits m text' c p.0) 0 s h h
+      same_one (tree.If arms) p s h = ap (compound limits.shell) (same_if_arms arms p s h)
+      same_one (tree.Loop until c b) p s h = ap (compound limits.shell) (same_turns n m below until (exec_script limits n text c) (exec_script limits m text' c) (exec_script limits n text b) (exec_script limits m text' b) (same_script c (block_proper c p.0)) (same_script b (block_proper b p.1)) (Grew-block limits n text kept c p.0) (Keeps-script limits n text kept b) (Cut-block limits m text' c p.0) 0 s h h)
       same_one (tree.For name words b) p s h = same_begin (λ t. for_words limits.shell name words (exec_script limits n text b) (for_begun limits.shell t)) (λ t. for_words limits.shell name words (exec_script limits m text' b) (for_begun limits.shell t)) s h (λ t r. same_words name words (exec_script limits n text b) (exec_script limits m text' b) (same_script b (block_proper b p)) (Keeps-script limits n text kept b) (for_begun limits.shell t) (omega arith))
 
-      same_if_arms : (a : Arms) → IsProperCommand (tree.If a) → (s : State) → limits.step_bound ≤ n + s.steps → exec_arms limits n text a s ≡ exec_arms limits m text' a s
+      pub same_if_arms : (a : Arms) → IsProperCommand (tree.If a) → (s : State) → limits.step_bound ≤ n + s.steps → exec_arms limits n text a s ≡ exec_arms limits m text' a s
       same_if_arms (tree.Arm c b arms) p s h = same_go_on s.steps (exec_script limits n text c s) (exec_script limits m text' c s) (λ t. elim (nat_eq t.memory.status 0) [ true ↦ exec_script limits n text b t | false ↦ exec_arms limits n text arms (block_skipped limits.shell b t) ]) (λ t. elim (nat_eq t.memory.status 0) [ true ↦ exec_script limits m text' b t | false ↦ exec_arms limits m text' arms (block_skipped limits.shell b t) ]) (AtLeast-track limits.device_bound s (exec_script limits n text c s) (Keeps-script limits n text kept c s).0) (same_script c (block_proper c p.0) s h) (λ t r. same_if (nat_eq t.memory.status 0) (exec_script limits n text b t) (exec_arms limits n text arms (block_skipped limits.shell b t)) (exec_script limits m text' b t) (exec_arms limits m text' arms (block_skipped limits.shell b t)) (same_script b (block_proper b p.1) t (omega arith)) (same_arms arms p.2 (block_skipped limits.shell b t) (omega arith)))
       same_if_arms (tree.Else b) p s h = absurd p
       same_if_arms tree.NoElse p s h = absurd p

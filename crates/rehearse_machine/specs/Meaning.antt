@@ -4,10 +4,10 @@ use Rattle.hushlang.specs.Tree.{Script, Joined, Command, Arms, IsProper, IsPrope
 use Rattle.rehearse_terms.specs.Outcomes.{OutcomeWord}
 use Rattle.rehearse_terms.specs.State.{State}
 use Rattle.rehearse_rules.specs.ByShell.{status_of_loop}
-use Rattle.rehearse_rules.specs.Execution.{Limits, Answer, Normal, Exit, Ended, Dry, Ending, Request, go_on, set_status, holds, text_end, take_outcome, run_all, turns, for_each, exec_script, exec_joined, exec_command, exec_arms, exec, block_skipped}
+use Rattle.rehearse_rules.specs.Execution.{Limits, Answer, Normal, Exit, Ended, Dry, Ending, Request, go_on, set_status, holds, text_end, take_outcome, run_all, turns, for_each, exec_script, exec_joined, exec_command, exec_arms, exec, block_skipped, compound}
 use Rattle.rehearse_rules.specs.Runs.{Task, run_on}
 use Rattle.rehearse_machine.specs.Came.{Came, Over, settled}
-use Rattle.rehearse_machine.specs.Frames.{Frame, Lists, Linked, IfCondition, LoopCondition, LoopBody, ForBody, RunNames, RunText, Next, Go, Ask, Stop}
+use Rattle.rehearse_machine.specs.Frames.{Frame, Lists, Linked, IfCondition, LoopCondition, LoopBody, ForBody, RunNames, RunText, Next, Go, Ask, Stop, CommandEnd}
 
 -- the state with this word left
 abbrev pub with : OutcomeWord → State → State
@@ -45,20 +45,22 @@ module _ (limits : Limits) where
   resume (Lists lists) a = go_on a (script lists)
   resume (Linked links) a = go_on a (joined_of links)
   resume (IfCondition b arms) a =
-      go_on a (λ t. elim (nat_eq t.memory.status 0) [
+      compound limits.shell (go_on a (λ t. elim (nat_eq t.memory.status 0) [
         | true ↦ script b t
         | false ↦ arms_of arms (block_skipped limits.shell b t)
-      ])
+      ]))
   resume (LoopCondition until c b last) a =
-      go_on a (λ t.
+      compound limits.shell (go_on a (λ t.
       elim (holds until t.memory.status) [
         | true ↦ go_on (script b t) (again until c b)
         | false ↦ Normal (set_status (status_of_loop limits.shell last t.memory.status) t)
-      ])
-  resume (LoopBody until c b) a = go_on a (again until c b)
-  resume (ForBody name values body) a = go_on a (λ t. for_each limits.shell name (script body) t.memory.status values t)
+      ]))
+  resume (LoopBody until c b) a = compound limits.shell (go_on a (again until c b))
+  resume (ForBody name values body) a =
+      compound limits.shell (go_on a (λ t. for_each limits.shell name (script body) t.memory.status values t))
   resume (RunNames names) a = first_or_next a (run_all limits full names)
   resume (RunText names) a = text_end limits.shell a (run_all limits full names)
+  resume CommandEnd a = compound limits.shell a
 
   -- what all the frames make of an answer
   abbrev pub continue : List Frame → Answer → Came
@@ -81,6 +83,7 @@ IsProperFrame (LoopBody until c b) = HoldsCommand c × HoldsCommand b
 IsProperFrame (ForBody name values body) = IsProper body
 IsProperFrame (RunNames names) = Unit {0}
 IsProperFrame (RunText names) = Unit {0}
+IsProperFrame CommandEnd = Unit {0}
 
 abbrev pub AreProperFrames : List Frame → Type 0
 AreProperFrames [] = Unit {0}

@@ -5,7 +5,7 @@ use Rattle.hushlang.specs.Tree.{Script, AndOr, Joined, Command, Arms}
 use Rattle.hushlang_shells.specs.TreesByShell.{tree_in, lacks_end_in}
 use Rattle.rehearse_terms.specs.State.{Text, Variables, get}
 use Rattle.rehearse_terms.specs.declared.shell.Shell.{Shell}
-use Rattle.rehearse_machine.specs.Frames.{Frame, Lists, Linked, IfCondition, LoopCondition, LoopBody, ForBody, RunNames, RunText}
+use Rattle.rehearse_machine.specs.Frames.{Frame, Lists, Linked, IfCondition, LoopCondition, LoopBody, ForBody, RunNames, RunText, CommandEnd}
 
 -- how many moves lead from a command to the first step in it
 abbrev mutual
@@ -39,7 +39,7 @@ links_weight (tree.Joins op c links) m = suc (command_depth c + links_weight lin
 
 abbrev pub arms_weight : Arms → ℕ → ℕ
 arms_weight (tree.Arm c b arms) m = block_weight c m
-arms_weight (tree.Else b) m = block_weight b m
+arms_weight (tree.Else b) m = block_weight b (suc m)
 arms_weight tree.NoElse m = m
 
 abbrev pub for_weight : Script → List Text → ℕ → ℕ
@@ -63,12 +63,13 @@ names_weight shell environment (name ∷ names) m =
 abbrev pub frame_weight : Shell → Variables → Frame → ℕ → ℕ
 frame_weight shell environment (Lists lists) m = block_weight lists m
 frame_weight shell environment (Linked links) m = links_weight links m
-frame_weight shell environment (IfCondition b arms) m = suc (block_weight b m + arms_weight arms m)
+frame_weight shell environment (IfCondition b arms) m = suc (block_weight b (suc m) + arms_weight arms m)
 frame_weight shell environment (LoopCondition until c b last) m = suc (block_weight b (suc (block_weight c m)) + m)
 frame_weight shell environment (LoopBody until c b) m = suc (block_weight c m)
 frame_weight shell environment (ForBody name values body) m = for_weight body values m
 frame_weight shell environment (RunNames names) m = suc (names_weight shell environment names m)
 frame_weight shell environment (RunText names) m = suc (names_weight shell environment names m + m)
+frame_weight shell environment CommandEnd m = suc m
 
 abbrev pub weight : Shell → Variables → List Frame → ℕ
 weight shell environment [] = 0

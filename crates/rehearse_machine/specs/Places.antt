@@ -13,13 +13,14 @@ use Rattle.rehearse_terms.specs.Outcomes.{Outcome, Success, Failure}
 use Rattle.hushlang_shells.specs.TreesByShell.{tree_in, lacks_end_in}
 use Rattle.rehearse_terms.specs.State.{Text, get, State}
 use Rattle.rehearse_terms.specs.declared.shell.Shell.{Shell}
+use Rattle.rehearse_terms.specs.declared.shell.Shell.TheVariants.{Profile, Old2023, Old2025, Modern2025}
 use Rattle.rehearse_rules.specs.ByShell.{unread, reads_again, leaves_in, status_of_exit, asks_in, truth_in, fields_in, turns_in, skips_rest, status_of_nothing, status_of_no_block, status_of_loop, follows, assigned_in, follows_turns}
 use Rattle.rehearse_rules.specs.Parameters.{parameters_in}
 use Rattle.device_list.specs.Called.{Called, BuiltIn, NoCommand, Device, called_by, sets_in}
 use Rattle.commands.specs.BuiltInCommands.{ChangesVariables, WritesText, RunsTexts, Tests, Exits, variables_changed, text_written}
 use Rattle.rehearse_rules.specs.Needs.{effect_now}
-use Rattle.rehearse_rules.specs.Execution.{Limits, Ending, End, CutDevices, CutSteps, Unknown, Size, Finished, remember, set_status, set_local, begin_turn, status_when, goes, holds, Request, test_effect, outcome_when, told, told_again, logged, set_environment, Unsupported, assign_local, request_of, test_request, text_failed, for_begun, block_skipped}
-use Rattle.rehearse_machine.specs.Frames.{Frame, Lists, Linked, IfCondition, LoopCondition, LoopBody, ForBody, RunNames, RunText, Next, Go, Ask, Stop, begun_text}
+use Rattle.rehearse_rules.specs.Execution.{Limits, Ending, End, CutDevices, CutSteps, Unknown, Size, Finished, remember, set_status, set_local, begin_turn, status_when, goes, holds, Request, test_effect, outcome_when, told, told_again, logged, set_environment, Unsupported, assign_local, request_of, test_request, text_failed, for_begun, block_skipped, compound_left}
+use Rattle.rehearse_machine.specs.Frames.{Frame, Lists, Linked, IfCondition, LoopCondition, LoopBody, ForBody, RunNames, RunText, Next, Go, Ask, Stop, begun_text, CommandEnd}
 
 -- ---- parts of a script by their numbers
 
@@ -72,29 +73,37 @@ abbrev pub from_command : AndOr → ℕ → Script → List Frame
 from_command list zero rest = Lists (tree.Runs list rest) ∷ []
 from_command (tree.Starts c joins) (suc j) rest = Linked (drop_joined j joins) ∷ Lists rest ∷ []
 
+-- behind the condition of the first of these arms, if there is one
 abbrev pub condition_frame : Arms → Frame
 condition_frame (tree.Arm c b more) = IfCondition b more
-condition_frame (tree.Else b) = Linked tree.Alone
-condition_frame tree.NoElse = Linked tree.Alone
+condition_frame (tree.Else b) = CommandEnd
+condition_frame tree.NoElse = CommandEnd
 
 -- the frame of a command whose block has just ended
 abbrev pub phase : Option Command → ℕ → ℕ → Frame
-phase (Some (tree.If arms)) a last = condition_frame (drop_arms a arms)
+phase (Some (tree.If arms)) a zero = condition_frame (drop_arms a arms)
+phase (Some (tree.If arms)) a (suc last) = CommandEnd
 phase (Some (tree.Loop until c b)) zero last = LoopCondition until c b last
-phase (Some (tree.Loop until c b)) (suc a) last = LoopBody until c b
-phase o a last = Linked tree.Alone
+phase (Some (tree.Loop until c b)) (suc a) zero = LoopBody until c b
+phase (Some (tree.Loop until c b)) (suc a) (suc last) = CommandEnd
+phase o a last = CommandEnd
 
 abbrev pub from_turn : AndOr → At → ℕ → Script → List Frame
 from_turn list at zero rest = from_command list at.command rest
 from_turn list at (suc a) rest = phase (command_in list at.command) a at.last ∷ from_command list (suc at.command) rest
 
+-- after the last list of a script
+abbrev pub past_lists : (turn : ℕ) → List Frame
+past_lists zero = Lists tree.Empty ∷ []
+past_lists (suc a) = CommandEnd ∷ []
+
 abbrev pub script_frames : Option AndOr → At → Script → List Frame
-script_frames None at rest = Lists tree.Empty ∷ []
+script_frames None at rest = past_lists at.turn
 script_frames (Some list) at rest = from_turn list at at.turn rest
 
 abbrev pub for_frame : Option Command → ℕ → List Text → Frame
 for_frame (Some (tree.For name words body)) turn values = ForBody name (drop turn values) body
-for_frame o turn values = Linked tree.Alone
+for_frame o turn values = ForBody [] [] tree.Empty
 
 abbrev pub run_frame : ℕ → List Text → Frame
 run_frame zero names = RunNames names
@@ -134,6 +143,23 @@ behind f = moved_to (place f.place.list (suc f.place.command) 0 0) f
 abbrev pub in_turn : ℕ → ℕ → RunningFrame → RunningFrame
 in_turn turn last f = moved_to (place f.place.list f.place.command turn last) f
 
+-- a command that is over: what follows is after it. In no turn that goes on is the last status 1 in turn 2
+abbrev pub over : At → At
+over at = place at.list at.command 2 1
+
+abbrev pub command_over : RunningFrame → RunningFrame
+command_over f = moved_to (over f.place) f
+
+-- the place of an `if` while one of its blocks runs
+abbrev pub under_block : Shell → At → At
+under_block Profile at = place at.list (suc at.command) 0 0
+under_block Old2023 at = place at.list (suc at.command) 0 0
+under_block Old2025 at = place at.list (suc at.command) 0 0
+under_block Modern2025 at = over at
+
+abbrev pub with_block : Shell → RunningFrame → RunningFrame
+with_block shell f = moved_to (under_block shell f.place) f
+
 abbrev pub text_frame : Script → RunningFrame
 text_frame script = record { kind = kinds.Text; script = script; words = []; place = place 0 0 0 0 }
 
@@ -149,29 +175,37 @@ abbrev pub values_frame : RunningFrame → List Text → RunningFrame
 values_frame f values =
     record { kind = kinds.For; script = f.script; words = values; place = place f.place.list f.place.command 0 0 }
 
-abbrev pub is_run : FrameKind → Bool
-is_run kinds.Text = false
-is_run kinds.Block = false
-is_run kinds.For = false
-is_run kinds.Run = true
-
--- the frames from the innermost `run` outwards
-abbrev pub to_run : List RunningFrame → List RunningFrame
-to_run [] = []
-to_run (f ∷ fs) = elim (is_run f.kind) [ true ↦ f ∷ fs | false ↦ to_run fs ]
-
 -- the innermost of these frames is a `run` whose text `exit` has ended, and the others are below it
 abbrev pub run_left : (run below : List RunningFrame) → State → PlaceNext
 run_left run below s = elim (nat_eq s.memory.status 0) [ true ↦ GoOn run s | false ↦ GoOn below s ]
 
-abbrev pub left : List RunningFrame → State → PlaceNext
-left [] s = StopOn (End s.memory.status) s
-left (f ∷ fs) s = run_left (f ∷ fs) fs s
+-- `exit` in a compound command goes further outwards, in the modern shell to these frames alone
+abbrev pub left_compound : Shell → List RunningFrame → (outwards : PlaceNext) → State → PlaceNext
+left_compound Profile ps outwards s = outwards
+left_compound Old2023 ps outwards s = outwards
+left_compound Old2025 ps outwards s = outwards
+left_compound Modern2025 ps outwards s = GoOn ps (compound_left s)
+
+-- `exit` in a script at this turn of a command: in the first turn it is in no compound command there
+abbrev pub left_script : Shell → (turn : ℕ) → RunningFrame → List RunningFrame → (outwards : PlaceNext) → State → PlaceNext
+left_script shell zero f fs outwards s = outwards
+left_script shell (suc a) f fs outwards s = left_compound shell (command_over f ∷ fs) outwards s
+
+abbrev pub left_by : Shell → FrameKind → RunningFrame → List RunningFrame → (outwards : PlaceNext) → State → PlaceNext
+left_by shell kinds.Text f fs outwards s = left_script shell f.place.turn f fs outwards s
+left_by shell kinds.Block f fs outwards s = left_script shell f.place.turn f fs outwards s
+left_by shell kinds.For f fs outwards s = left_compound shell fs outwards s
+left_by shell kinds.Run f fs outwards s = run_left (f ∷ fs) fs s
+
+-- `exit` ends the text that is running, or leaves a compound command in it
+abbrev pub left : Shell → List RunningFrame → State → PlaceNext
+left shell [] s = StopOn (End s.memory.status) s
+left shell (f ∷ fs) s = left_by shell f.kind f fs (left shell fs s) s
 
 -- `exit` leaves the text that is running with a status, or has the other status
-abbrev pub place_exit : Option ℕ → (other : ℕ) → List RunningFrame → State → PlaceNext
-place_exit (Some status) other ps s = left (to_run ps) (set_status status s)
-place_exit None other ps s = GoOn ps (set_status other s)
+abbrev pub place_exit : Shell → Option ℕ → (other : ℕ) → List RunningFrame → State → PlaceNext
+place_exit shell (Some status) other ps s = left shell ps (set_status status s)
+place_exit shell None other ps s = GoOn ps (set_status other s)
 
 abbrev pub place_finish : Option BoardEnd → Text → List RunningFrame → State → PlaceNext
 place_finish (Some finish) name ps s = StopOn (Finished finish name) s
@@ -248,7 +282,7 @@ place_turns shell name values f fs s = elim (follows_turns shell name values) [
 -- the arms of an `if` from one on
 abbrev pub place_arms : Shell → Arms → ℕ → RunningFrame → List RunningFrame → State → PlaceNext
 place_arms shell (tree.Arm c b more) a f fs s = GoOn (block_frame c ∷ in_turn (suc a) 0 f ∷ fs) s
-place_arms shell (tree.Else b) a f fs s = GoOn (block_frame b ∷ behind f ∷ fs) s
+place_arms shell (tree.Else b) a f fs s = GoOn (block_frame b ∷ with_block shell f ∷ fs) s
 place_arms shell tree.NoElse a f fs s =
     GoOn (behind f ∷ fs) (set_status (status_of_no_block shell s.memory.status) s)
 
@@ -256,7 +290,7 @@ place_arms shell tree.NoElse a f fs s =
 abbrev pub condition_ends : Shell → Arms → ℕ → RunningFrame → List RunningFrame → State → PlaceNext
 condition_ends shell (tree.Arm c b more) a f fs s =
     elim (nat_eq s.memory.status 0) [
-      | true ↦ GoOn (block_frame b ∷ behind f ∷ fs) s
+      | true ↦ GoOn (block_frame b ∷ with_block shell f ∷ fs) s
       | false ↦ place_arms shell more (suc a) f fs (block_skipped shell b s)
     ]
 condition_ends shell (tree.Else b) a f fs s = GoOn (behind f ∷ fs) s
@@ -270,13 +304,21 @@ loop_ends shell until b f fs s =
       | false ↦ GoOn (behind f ∷ fs) (set_status (status_of_loop shell f.place.last s.memory.status) s)
     ]
 
+-- a block of an `if` has ended, or its condition, or a block of a loop; `last` says whether the command is over
+abbrev pub if_moves : Shell → (last : ℕ) → Arms → ℕ → RunningFrame → List RunningFrame → State → PlaceNext
+if_moves shell zero arms a f fs s = condition_ends shell (drop_arms a arms) a f fs s
+if_moves shell (suc last) arms a f fs s = GoOn (behind f ∷ fs) s
+
+abbrev pub loop_moves : (last : ℕ) → (cond : Script) → RunningFrame → List RunningFrame → State → PlaceNext
+loop_moves zero c f fs s = GoOn (block_frame c ∷ in_turn 1 s.memory.status f ∷ fs) s
+loop_moves (suc last) c f fs s = GoOn (behind f ∷ fs) s
+
 -- a block of a command has ended
 abbrev pub phase_move : Shell → Option Command → ℕ → RunningFrame → List RunningFrame → State → PlaceNext
 phase_move shell None a f fs s = GoOn (moved_to (place f.place.list f.place.command 0 0) f ∷ fs) s
-phase_move shell (Some (tree.If arms)) a f fs s = condition_ends shell (drop_arms a arms) a f fs s
+phase_move shell (Some (tree.If arms)) a f fs s = if_moves shell f.place.last arms a f fs s
 phase_move shell (Some (tree.Loop until c b)) zero f fs s = loop_ends shell until b f fs s
-phase_move shell (Some (tree.Loop until c b)) (suc a) f fs s =
-    GoOn (block_frame c ∷ in_turn 1 s.memory.status f ∷ fs) s
+phase_move shell (Some (tree.Loop until c b)) (suc a) f fs s = loop_moves f.place.last c f fs s
 phase_move shell o a f fs s = GoOn (behind f ∷ fs) s
 
 abbrev pub place_fitting : List Text → (List Text → State → PlaceNext) → State → PlaceNext
@@ -309,7 +351,8 @@ module _ (limits : Limits) where
         | false ↦ GoOn ps (set_status (status_when (truth_in limits.shell words)) s)
       ]
   place_called again (BuiltIn (WritesText written)) name words script ps s = GoOn ps (remember (text_written written words) s)
-  place_called again (BuiltIn Exits) name words script ps s = place_exit (leaves_in limits.shell again words) (status_of_exit limits.shell words) ps s
+  place_called again (BuiltIn Exits) name words script ps s =
+      place_exit limits.shell (leaves_in limits.shell again words) (status_of_exit limits.shell words) ps s
   place_called again (Device effect) name words script ps s =
       place_ask (request_of name words (effect_now s.log effect)) ps s
   place_called again NoCommand name words script ps s = StopOn (Unknown name) s

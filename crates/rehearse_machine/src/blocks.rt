@@ -1,16 +1,27 @@
 //! The commands that hold blocks: which of these is next.
-ghost use Rattle.std.specs.Prelude.{◌∷◌, ◌+◌, ◌<◌, ◌^◌, map};
+ghost use Rattle.std.specs.Prelude.{◌≡◌, ◌∷◌, ◌+◌, ◌<◌, ◌^◌, map};
 ghost use Rattle.hushlang.specs.TreesShown as view;
-ghost use Rattle.rehearse_machine.specs.Places.{place_arms, drop_arms, condition_ends, loop_ends, block_frame, GoOn, in_turn};
+ghost use Rattle.rehearse_machine.specs.Places.{place_arms, drop_arms, condition_ends, loop_ends, block_frame, under_block, GoOn, in_turn};
 ghost use Rattle.rehearse_machine.specs.NextMoves.{Continues, ContinuesAt, SkipsTo};
 
 use crate::by_shell::{status_of_loop, status_of_no_block, status_of_skipped};
-use crate::frames::{behind, in_turn};
+use crate::frames::{behind, in_turn, over};
 use crate::next_move::Next;
-use bootstore_state::Frame;
+use bootstore_state::{At, Frame};
 use hushlang::Script;
 use rehearse_terms::Shell;
 use std::rc::Rc;
+
+/// The place of an `if` while one of its blocks runs.
+fn under_block(shell: Shell, at: At) -> At
+    requires { at.command + 1 < 2 ^ 64 }
+    ensures { result ≡ under_block shell at }
+{
+    match shell {
+        Shell::Profile | Shell::Old2023 | Shell::Old2025 => behind(at),
+        Shell::Modern2025 => over(at),
+    }
+}
 
 /// The arms of an `if` from this one on begin: its condition, or the `else` block if there is no
 /// such arm. If there is no `else`, the shell says the status.
@@ -32,7 +43,7 @@ pub(crate) fn begin_arms<'a>(
         return Next::Enters(in_turn(at, arm, 0), cond);
     }
     match other {
-        Some(body) => Next::Enters(behind(at), body),
+        Some(body) => Next::Enters(under_block(shell, at), body),
         None => Next::Finishes(behind(at), status_of_no_block(shell, status)),
     }
 }
@@ -56,7 +67,7 @@ fn skip_to_arm<'a>(
         return Next::Skips(in_turn(at, arm, 0), skipped, cond);
     }
     match other {
-        Some(body) => Next::Skips(behind(at), skipped, body),
+        Some(body) => Next::Skips(under_block(shell, at), skipped, body),
         None => Next::Finishes(behind(at), status_of_no_block(shell, skipped)),
     }
 }
@@ -77,7 +88,7 @@ pub(crate) fn end_condition<'a>(
         frame.now) }
 {
     match arms.get(arm) {
-        Some((_, body)) if status == 0 => Next::Enters(behind(frame.at()), body),
+        Some((_, body)) if status == 0 => Next::Enters(under_block(shell, frame.at()), body),
         Some((_, body)) => {
             let skipped = status_of_skipped(shell, body, status);
             skip_to_arm(frame, shell, skipped, arms, other, arm + 1)

@@ -4,7 +4,7 @@ ghost use Rattle.hushlang.specs.TreesShown as view;
 ghost use Rattle.bootstore_state.specs.Moment.{RunningFrame};
 ghost use Rattle.bootstore_state.specs.Record.{changed, with_status};
 ghost use Rattle.rehearse_rules.specs.Execution.{set_status};
-ghost use Rattle.rehearse_machine.specs.Places.{place, block_frame, text_frame, moved_to, GoOn};
+ghost use Rattle.rehearse_machine.specs.Places.{place, over, block_frame, text_frame, moved_to, GoOn};
 ghost use Rattle.rehearse_machine.specs.MovesShown.{Comes, Moves, under};
 
 use crate::ask::Step;
@@ -45,6 +45,19 @@ pub(crate) fn in_turn(at: At, turn: usize, last: u8) -> At
         command: at.command,
         turn: turn + 1,
         last,
+    }
+}
+
+/// The same command, which is over: what follows is after it.
+#[inline(always)]
+pub(crate) fn over(at: At) -> At
+    ensures { result ≡ over at }
+{
+    At {
+        list: at.list,
+        command: at.command,
+        turn: 2,
+        last: 1,
     }
 }
 

@@ -1,15 +1,21 @@
 //! How a `run` starts, with a frame for its names, and how `exit` leaves the text that is running.
-ghost use Rattle.std.specs.Prelude.{◌∷◌, ◌<◌};
+ghost use Rattle.std.specs.Prelude.{◌≡◌, ◌∷◌, ◌<◌, List};
 ghost use Rattle.hushlang.specs.TreesShown as view;
+ghost use Rattle.bootstore_state.specs.Moment.{RunningFrame};
 ghost use Rattle.text.specs.TextsShown.{bytes_of_words};
-ghost use Rattle.rehearse_machine.specs.Places.{left, run_left, to_run, GoOn, names_frame};
+ghost use Rattle.rehearse_terms.specs.State.{State};
+ghost use Rattle.rehearse_rules.specs.Execution.{compound_left};
+ghost use Rattle.rehearse_machine.specs.Exits.{exits};
+ghost use Rattle.rehearse_machine.specs.Places.{left, left_by, left_compound, run_left, PlaceNext, GoOn, names_frame};
 ghost use Rattle.rehearse_machine.specs.MovesShown.{Comes, Went, under};
 
 use crate::ask::Step;
-use crate::frames::place;
+use crate::by_shell::left_status;
+use crate::frames::{finish, leave_with, over, place};
 use bootstore_state::{Frame, FrameKind, Store, StoreError};
 use hushlang::Script;
 use rehearse_rules::Halt;
+use rehearse_terms::Shell;
 use std::alloc::Global;
 use std::rc::Rc;
 use text::copied_words;
@@ -26,18 +32,77 @@ fn leave_run<S: Store>(store: &mut S) -> Result<(), StoreError>
     Ok(())
 }
 
+/// What `exit` does at a frame.
+#[derive(Clone, Copy)]
+pub(crate) enum Exits {
+    /// It goes further outwards.
+    Outwards,
+    /// It leaves a command of the frame's script.
+    Command,
+    /// It leaves a `for`.
+    Turns,
+    /// It leaves a text of a `run`.
+    Text,
+}
+
+/// What `exit` does in a compound command: this in the modern shell, and else it goes further
+/// outwards.
+fn in_compound(shell: Shell, here: Exits) -> Exits
+    ensures { (f : RunningFrame) (fs : List RunningFrame) (ps : List RunningFrame)
+        (outwards : PlaceNext) (s : State) → exits here f fs outwards s ≡ GoOn ps (compound_left s)
+        → left_compound shell ps outwards s ≡ exits result f fs outwards s }
+{
+    match shell {
+        Shell::Profile | Shell::Old2023 | Shell::Old2025 => Exits::Outwards,
+        Shell::Modern2025 => here,
+    }
+}
+
+/// What `exit` does at a frame in this shell.
+fn exit_at(frame: &Frame, shell: Shell) -> Exits
+    ensures { (fs : List RunningFrame) (outwards : PlaceNext) (s : State) →
+        left_by shell frame.now.kind frame.now fs outwards s
+        ≡ exits result frame.now fs outwards s }
+{
+    match frame.kind() {
+        FrameKind::Text | FrameKind::Block => {
+            if frame.at().turn == 0 {
+                Exits::Outwards
+            } else {
+                in_compound(shell, Exits::Command)
+            }
+        }
+        FrameKind::For => in_compound(shell, Exits::Turns),
+        FrameKind::Run => Exits::Text,
+    }
+}
+
 /// Leaves the text that is running: removes the frames above the innermost `run`, and that `run` too
-/// if the status is not 0. Without a `run` the whole run ends.
-pub(crate) fn leave_text<'d, S: Store>(store: &mut S) -> Result<Step<'d>, StoreError>
+/// if the status is not 0. Without a `run` the whole run ends. In the modern shell it leaves the
+/// innermost compound command in that text instead, if there is one.
+pub(crate) fn leave_text<'d, S: Store>(store: &mut S, shell: Shell) -> Result<Step<'d>, StoreError>
     ensures { Comes result (S.record_of store.old) (S.record_of store.new)
-        (left (to_run (S.record_of store.old).present.frames)) }
+        (left shell (S.record_of store.old).present.frames) }
 {
     'frames: while let Some(frame) = store.top() {
-        if let FrameKind::Run = frame.kind() {
-            leave_run(store)?;
-            return Ok(Step::Going);
+        match exit_at(frame, shell) {
+            Exits::Outwards => {
+                store.pop()?;
+            }
+            Exits::Command => {
+                let at = over(frame.at());
+                let status = left_status(store.get_status());
+                return finish(store, at, status);
+            }
+            Exits::Turns => {
+                let status = left_status(store.get_status());
+                return leave_with(store, status);
+            }
+            Exits::Text => {
+                leave_run(store)?;
+                return Ok(Step::Going);
+            }
         }
-        store.pop()?;
     }
     Ok(Step::Ends(Halt::End(store.get_status())))
 }

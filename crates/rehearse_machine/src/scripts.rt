@@ -24,11 +24,20 @@ pub(crate) fn end_block<'c>(
         (λ limits. phase_move limits.shell (Some (view.command command.now)) turn frame.now) }
     ensures room { HasRoom result frame.now }
 {
+    let is_over = frame.at().last != 0;
     match command {
-        Command::If { arms, other } => end_condition(frame, shell, status, arms, other, turn),
+        Command::If { arms, other } => {
+            if is_over {
+                Next::Goes(behind(frame.at()))
+            } else {
+                end_condition(frame, shell, status, arms, other, turn)
+            }
+        }
         Command::Loop { until, cond, body } => {
             if turn == 0 {
                 end_loop_condition(frame, shell, status, *until, body)
+            } else if is_over {
+                Next::Goes(behind(frame.at()))
             } else {
                 begin_loop(frame, cond, status)
             }

@@ -122,8 +122,9 @@ fn run_test<'d, S: Store>(
     }
 }
 
-/// `exit`: ends the text that is running with the status that the words name, if the shell ends it.
-/// Else it is a command with a status. `again` says whether the command is read again.
+/// `exit`: ends the text that is running with the status that the words name, or leaves a compound
+/// command in it, if the shell does so. Else it is a command with a status. `again` says whether the
+/// command is read again.
 fn run_exit<'d, S: Store>(
     store: &mut S,
     shell: Shell,
@@ -131,14 +132,14 @@ fn run_exit<'d, S: Store>(
     words: &[Vec<u8>],
 ) -> Result<Step<'d>, StoreError>
     ensures { Comes result (S.record_of store.old) (S.record_of store.new)
-        (place_exit (leaves_in shell again (bytes_of_words words.now))
+        (place_exit shell (leaves_in shell again (bytes_of_words words.now))
         (status_of_exit shell (bytes_of_words words.now))
         (S.record_of store.old).present.frames) }
 {
     match leaves_in(shell, again, words) {
         Some(status) => {
             store.set_status(status)?;
-            leave_text(store)
+            leave_text(store, shell)
         }
         None => done(store, status_of_exit(shell, words)),
     }

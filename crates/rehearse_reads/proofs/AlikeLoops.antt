@@ -7,16 +7,16 @@ use Rattle.rehearse_terms.specs.State.{Text, State, LoggedCommand}
 use Rattle.rehearse_terms.specs.declared.shell.Shell.{Shell}
 use Rattle.rehearse_terms.specs.declared.shell.Shell.TheVariants.{Profile, Old2023, Old2025, Modern2025}
 use Rattle.rehearse_rules.specs.Parameters.{parameters_in}
-use Rattle.rehearse_rules.specs.ByShell.{assigned_in, status_of_nothing, status_of_no_block, status_of_loop, follows_turns, status_of_skipped}
-use Rattle.rehearse_rules.specs.Execution.{Limits, Answer, Normal, Ended, CutSteps, Size, go_on, set_status, set_local, assign, assign_local, turns, begin_turn, for_each, holds, turns_of, for_begun, block_skipped, Unsupported}
+use Rattle.rehearse_rules.specs.ByShell.{assigned_in, status_of_nothing, status_of_no_block, status_of_loop, follows_turns, status_of_skipped, left_status}
+use Rattle.rehearse_rules.specs.Execution.{Limits, Answer, Normal, Ended, CutSteps, Size, go_on, set_status, set_local, assign, assign_local, turns, begin_turn, for_each, holds, turns_of, for_begun, block_skipped, Unsupported, Exit, Dry, compound, compound_end, compound_left}
 use Rattle.rehearse_rules.proofs.TakenOutcomes.{KeepsAll, Keeps-turns, Keeps-for, after_condition, Keeps-after_condition}
 use Rattle.rehearse_reads.specs.Keys.{Key, Status, Local, Access, Reads, ReadsWithin, known_after}
-use Rattle.rehearse_reads.specs.Accesses.{behind, status_written, word_reads, local_accesses, assign_accesses, turns_accesses, turn_accesses, each_accesses, for_accesses, nothing_accesses, modern_accesses, turns_of_accesses}
-use Rattle.rehearse_reads.specs.Alike.{AreAbreast, IsAlike}
-use Rattle.rehearse_reads.proofs.AccessLemmas.{within_then, read_first, read_then}
+use Rattle.rehearse_reads.specs.Accesses.{behind, status_written, word_reads, local_accesses, assign_accesses, turns_accesses, turn_accesses, each_accesses, for_accesses, nothing_accesses, modern_accesses, turns_of_accesses, left_accesses, compound_accesses}
+use Rattle.rehearse_reads.specs.Alike.{AreAbreast, IsAlike, same, cut_here, beyond}
+use Rattle.rehearse_reads.proofs.AccessLemmas.{within_then, read_first, read_then, within_first}
 use Rattle.rehearse_reads.proofs.AbreastLemmas.{near_status, near_statuses, near_local, near_assigned}
 use Rattle.rehearse_reads.proofs.SameWords.{assigned_agree}
-use Rattle.rehearse_reads.proofs.AlikeParts.{normal_alike, ended_alike, after_then, after_keys, if_alike, Alike-go_on, Alike-read}
+use Rattle.rehearse_reads.proofs.AlikeParts.{normal_alike, ended_alike, after_then, after_keys, if_alike, Alike-go_on, Alike-read, dry_alike}
 
 module _ (limits : Limits) (i j : ℕ) (k l : List LoggedCommand) where
   abbrev Is : List Key → Answer → Answer → Type 0
@@ -125,11 +125,58 @@ module _ (limits : Limits) (i j : ℕ) (k l : List LoggedCommand) where
   Alike-for name b v h kb [] known s t near w = normal_alike limits i j k l (Status ∷ known) (set_status 0 s) (set_status 0 t) (near_status limits i j k l known s t 0 near)
   Alike-for name b v h kb (f ∷ fs) known s t near w = Alike-each name b v h kb (f ∷ fs) known s t near w
 
+  -- ---- compound commands
+
+  compound_keys : (shell : Shell) (known : List Key) (a : Answer) → left_accesses shell ≡ [] → known_after known (compound_accesses shell a) ≡ known
+  compound_keys shell known (Normal u) e = refl
+  compound_keys shell known (Exit u) e = ap (known_after known) e
+  compound_keys shell known (Ended ending u) e = refl
+  compound_keys shell known (Dry u) e = refl
+
+  passed_alike : (shell : Shell) (known : List Key) (a b : Answer) → left_accesses shell ≡ [] → Is known a b → Is (known_after known (compound_accesses shell a)) a b
+  passed_alike shell known a b e h = subst (λ (ks : List Key). Is ks a b) (sym (compound_keys shell known a e)) h
+
+  end_alike : (known : List Key) (a b : Answer) → ReadsWithin known (compound_accesses Modern2025 a) → Is known a b → Is (known_after known (compound_accesses Modern2025 a)) (compound_end a) (compound_end b)
+  end_alike known (Normal u) b w (same h) = subst (λ (x : Answer). Is known (Normal u) (compound_end x)) (sym h.is) (normal_alike limits i j k l known u h.there h.abreast)
+  end_alike known (Normal u) b w (cut_here h) = absurd h
+  end_alike known (Normal u) b w (beyond h) = beyond h
+  end_alike known (Exit u) b w (same h) =
+      let t : State = h.there in
+      subst (λ (x : Answer). Is (Status ∷ known) (Normal (compound_left u)) (compound_end x)) (sym h.is)
+      (normal_alike limits i j k l (Status ∷ known) (compound_left u) (compound_left t)
+      (near_statuses limits i j k l known u t (left_status u.memory.status) (left_status t.memory.status) (ap left_status (h.abreast.keys Status w.0)) h.abreast))
+  end_alike known (Exit u) b w (cut_here h) = absurd h
+  end_alike known (Exit u) b w (beyond h) = beyond h
+  end_alike known (Ended ending u) b w (same h) = subst (λ (x : Answer). Is known (Ended ending u) (compound_end x)) (sym h.is) (ended_alike limits i j k l known ending u h.there h.abreast)
+  end_alike known (Ended ending u) b w (cut_here h) = cut_here h
+  end_alike known (Ended ending u) b w (beyond h) = beyond h
+  end_alike known (Dry u) b w (same h) = subst (λ (x : Answer). Is known (Dry u) (compound_end x)) (sym h.is) (dry_alike limits i j k l known u h.there h.abreast)
+  end_alike known (Dry u) b w (cut_here h) = absurd h
+  end_alike known (Dry u) b w (beyond h) = beyond h
+
+  pub compound_alike : (shell : Shell) (known : List Key) (a b : Answer) → ReadsWithin known (compound_accesses shell a) → Is known a b → Is (known_after known (compound_accesses shell a)) (compound shell a) (compound shell b)
+  compound_alike Profile known a b w h = passed_alike Profile known a b refl h
+  compound_alike Old2023 known a b w h = passed_alike Old2023 known a b refl h
+  compound_alike Old2025 known a b w h = passed_alike Old2025 known a b refl h
+  compound_alike Modern2025 known a b w h = end_alike known a b w h
+
+  -- what is in a compound command, and its end
+  pub compound_then : (known : List Key) (xs : List Access) (a b : Answer) → (ReadsWithin known xs → Is (known_after known xs) a b) → ReadsWithin known (xs ++ compound_accesses limits.shell a)
+      → Is (known_after known (xs ++ compound_accesses limits.shell a)) (compound limits.shell a) (compound limits.shell b)
+  compound_then known xs a b h w =
+      let last : List Access = compound_accesses limits.shell a in
+      after_then limits i j k l known xs last (compound limits.shell a) (compound limits.shell b)
+      (compound_alike limits.shell (known_after known xs) a b (within_then known xs last w) (h (within_first known xs last w)))
+
+  pub Alike-compound : (f : State → Answer) (u : State → List Access) → AlwaysDoes f u → AlwaysDoes (λ x. compound limits.shell (f x)) (λ x. u x ++ compound_accesses limits.shell (f x))
+  Alike-compound f u does known s t near w = compound_then known (u s) (f s) (f t) (does known s t near) w
+
   pub Alike-turns_of : (name : Text) (b : State → Answer) (v : State → List Access) → AlwaysDoes b v → KeepsAll limits b → (fs : List Text) → AlwaysDoes (turns_of limits.shell name b fs) (turns_of_accesses limits.shell name b v fs)
   Alike-turns_of name b v h kb fs = by (follows_turns limits.shell name fs)
     where
-      by : (follows : Bool) → AlwaysDoes (λ s. elim follows [ true ↦ for_each limits.shell name b 0 fs s | false ↦ Ended (Unsupported name) s ]) (λ s. elim follows [ true ↦ for_accesses limits.shell name b v fs s | false ↦ [] ])
-      by true known s t near w = Alike-for name b v h kb fs known s t near w
+      by : (follows : Bool) → AlwaysDoes (λ s. elim follows [ true ↦ compound limits.shell (for_each limits.shell name b 0 fs s) | false ↦ Ended (Unsupported name) s ])
+          (λ s. elim follows [ true ↦ for_accesses limits.shell name b v fs s ++ compound_accesses limits.shell (for_each limits.shell name b 0 fs s) | false ↦ [] ])
+      by true known s t near w = Alike-compound (for_each limits.shell name b 0 fs) (for_accesses limits.shell name b v fs) (Alike-for name b v h kb fs) known s t near w
       by false known s t near w = ended_alike limits i j k l known (Unsupported name) s t near
 
   -- what follows a block of an `if` that is not run

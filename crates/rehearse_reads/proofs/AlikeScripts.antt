@@ -11,17 +11,17 @@ use Rattle.device_list.specs.DeviceList.{Effect, effect_of, computed_by}
 use Rattle.rehearse_terms.specs.State.{Text, State, LoggedCommand, get}
 use Rattle.rehearse_rules.specs.Parameters.{parameters_in}
 use Rattle.rehearse_rules.specs.ByShell.{unread, reads_again, leaves_in, status_of_exit, asks_in, truth_in, fields_in, turns_in, skips_rest, follows}
-use Rattle.rehearse_rules.specs.Execution.{Limits, Answer, Normal, Exit, Ended, Ending, CutSteps, Unknown, Unsupported, go_on, set_status, status_when, remember, goes, device, test_request, text_end, run_text, started_text, run_all, command, simple, sized, assign, exec_script, exec_list, exec_joined, exec_command, exec_arms, exec, turns_of, for_words, for_begun, block_skipped}
+use Rattle.rehearse_rules.specs.Execution.{Limits, Answer, Normal, Exit, Ended, Ending, CutSteps, Unknown, Unsupported, go_on, set_status, status_when, remember, goes, device, test_request, text_end, run_text, started_text, run_all, command, simple, sized, assign, exec_script, exec_list, exec_joined, exec_command, exec_arms, exec, turns_of, for_words, for_begun, block_skipped, turns}
 use Rattle.rehearse_rules.proofs.TakenOutcomes.{KeepsAll, Keeps-if, Keeps-run, Keeps-simple, Keeps-sized, Keeps-assign, Keeps-script, Keeps-joined, Keeps-arms, Keeps-exec, Keeps-ended, Keeps-words, Keeps-skip}
 use Rattle.rehearse_reads.specs.Keys.{Key, Environment, Status, Access, Reads, AreAmong, AgreeOn, all_read, ReadsWithin, known_after}
 use Rattle.rehearse_reads.specs.Alike.{AreAbreast, IsAlike}
-use Rattle.rehearse_reads.specs.Accesses.{behind, behind_text, status_written, words_reads, device_accesses, listed_accesses, computed_accesses, setenv_accesses, tree_accesses, text_accesses, started_accesses, run_accesses, builtin_accesses, call_accesses, simple_accesses, sized_accesses, assign_accesses, script_accesses, list_accesses, joined_accesses, command_accesses, arms_accesses, accesses, modern_accesses, turns_of_accesses, for_words_accesses}
+use Rattle.rehearse_reads.specs.Accesses.{behind, behind_text, status_written, words_reads, device_accesses, listed_accesses, computed_accesses, setenv_accesses, tree_accesses, text_accesses, started_accesses, run_accesses, builtin_accesses, call_accesses, simple_accesses, sized_accesses, assign_accesses, script_accesses, list_accesses, joined_accesses, command_accesses, arms_accesses, accesses, modern_accesses, turns_of_accesses, for_words_accesses, turns_accesses}
 use Rattle.rehearse_reads.proofs.AccessLemmas.{read_first, read_then, within_then}
 use Rattle.rehearse_reads.proofs.AbreastLemmas.{near_status, near_computed, near_sets, near_echoed}
 use Rattle.rehearse_reads.proofs.SameWords.{fields_agree, turns_agree}
 use Rattle.rehearse_reads.proofs.AlikeParts.{normal_alike, exit_alike, ended_alike, if_alike, after_keys, Alike-go_on, Alike-text_end, sized_alike, after_then}
 use Rattle.rehearse_reads.proofs.AlikeDevices.{Alike-begin, Alike-device, Alike-listed}
-use Rattle.rehearse_reads.proofs.AlikeLoops.{Alike-skip, Alike-assign, nothing_alike, no_block_alike, Alike-turns, Alike-turns_of, near_for}
+use Rattle.rehearse_reads.proofs.AlikeLoops.{Alike-skip, Alike-assign, nothing_alike, no_block_alike, Alike-turns, Alike-turns_of, near_for, Alike-compound}
 
 module _ (limits : Limits) (i j : ℕ) (k l : List LoggedCommand) where
   abbrev Is : List Key → Answer → Answer → Type 0
@@ -174,9 +174,14 @@ module _ (limits : Limits) (i j : ℕ) (k l : List LoggedCommand) where
           known s t near w
       Alike-one (tree.Assign pairs) known s t near w =
           Alike-begin limits i j k l (assign limits.shell pairs) (assign_accesses limits.shell pairs) (Alike-assign limits i j k l limits.shell pairs) (Keeps-assign limits pairs) known s t near w
-      Alike-one (tree.If arms) known s t near w = Alike-arms arms known s t near w
+      Alike-one (tree.If arms) known s t near w = Alike-compound limits i j k l (exec_arms limits left text arms) (arms_accesses limits left text of_text arms) (Alike-arms arms) known s t near w
       Alike-one (tree.Loop until c b) known s t near w =
-          Alike-turns limits i j k l left until (exec_script limits left text c) (exec_script limits left text b) (script_accesses limits left text of_text c) (script_accesses limits left text of_text b) (Alike-script c) (Alike-script b) (Keeps-script limits left text kept c) (Keeps-script limits left text kept b) 0 known s t near w
+          let cond : State → Answer = exec_script limits left text c in
+          let body : State → Answer = exec_script limits left text b in
+          let of_cond : State → List Access = script_accesses limits left text of_text c in
+          let of_body : State → List Access = script_accesses limits left text of_text b in
+          Alike-compound limits i j k l (turns limits.shell left until cond body 0) (turns_accesses limits.shell left until cond body of_cond of_body)
+          (Alike-turns limits i j k l left until cond body of_cond of_body (Alike-script c) (Alike-script b) (Keeps-script limits left text kept c) (Keeps-script limits left text kept b) 0) known s t near w
       Alike-one (tree.For name words b) known s t near w =
           let body : State → Answer = exec_script limits left text b in
           let of_body : State → List Access = script_accesses limits left text of_text b in

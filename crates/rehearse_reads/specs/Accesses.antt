@@ -19,7 +19,7 @@ use Rattle.rehearse_terms.specs.declared.shell.Shell.TheVariants.{Profile, Old20
 use Rattle.rehearse_rules.specs.Parameters.{parameters_in}
 use Rattle.rehearse_rules.specs.ByShell.{asks_in, fields_in, turns_in, skips_rest, follows, assigned_in, is_refused, follows_turns}
 use Rattle.rehearse_rules.specs.Needs.{effect_now}
-use Rattle.rehearse_rules.specs.Execution.{Limits, Answer, Normal, Exit, Ended, Dry, CutSteps, Request, set_status, goes, holds, outcome_when, told, assign_local, begin_turn, request_of, test_request, started_text, run_text, exec_script, exec_list, exec_command, exec, for_begun, block_skipped}
+use Rattle.rehearse_rules.specs.Execution.{Limits, Answer, Normal, Exit, Ended, Dry, CutSteps, Request, set_status, goes, holds, outcome_when, told, assign_local, begin_turn, request_of, test_request, started_text, run_text, exec_script, exec_list, exec_command, exec, for_begun, block_skipped, turns, for_each, exec_arms}
 use Rattle.rehearse_reads.specs.Keys.{Key, Environment, Local, AnswerTo, Succeeded, Status, Access, Reads, Writes, all_read}
 
 -- what the next part of a script accesses, if this one has ended normally
@@ -108,6 +108,20 @@ behind_text (Exit s) next = Reads Status ∷ elim (nat_eq s.memory.status 0) [ t
 behind_text (Ended ending s) next = []
 behind_text (Dry s) next = []
 
+-- an `exit` that leaves a compound command: in the modern shell the status of that command follows from that of the `exit`
+abbrev pub left_accesses : Shell → List Access
+left_accesses Profile = []
+left_accesses Old2023 = []
+left_accesses Old2025 = []
+left_accesses Modern2025 = Reads Status ∷ status_written
+
+-- a compound command has ended, also by `exit`
+abbrev pub compound_accesses : Shell → Answer → List Access
+compound_accesses shell (Normal s) = []
+compound_accesses shell (Exit s) = left_accesses shell
+compound_accesses shell (Ended ending s) = []
+compound_accesses shell (Dry s) = []
+
 -- fields that hold too many bytes end the run
 abbrev pub sized_accesses : List Text → (List Text → State → List Access) → State → List Access
 sized_accesses fs next s = elim (nat_le (size fs) most_bytes) [ true ↦ next fs s | false ↦ [] ]
@@ -169,7 +183,10 @@ modern_accesses Modern2025 = status_written
 abbrev pub turns_of_accesses : Shell → (name : Text) → (body : State → Answer) → (of_body : State → List Access) →
     List Text → State → List Access
 turns_of_accesses shell name body of_body fs s =
-    elim (follows_turns shell name fs) [ true ↦ for_accesses shell name body of_body fs s | false ↦ [] ]
+    elim (follows_turns shell name fs) [
+      | true ↦ for_accesses shell name body of_body fs s ++ compound_accesses shell (for_each shell name body 0 fs s)
+      | false ↦ []
+    ]
 
 -- a `for` that has begun finds its words
 abbrev pub for_words_accesses : Shell → (name : Text) → List tree.Word → (body : State → Answer) →
@@ -287,10 +304,13 @@ module _ (limits : Limits) where
           begun_accesses (λ t. all_read (words_reads t.memory words)
           ++ sized_accesses (fields_in limits.shell (parameters_in t.memory) words) (simple_accesses text of_text) t) s
       command_accesses (tree.Assign values) s = begun_accesses (assign_accesses limits.shell values) s
-      command_accesses (tree.If arms) s = arms_accesses arms s
+      command_accesses (tree.If arms) s =
+          arms_accesses arms s ++ compound_accesses limits.shell (exec_arms limits left text arms s)
       command_accesses (tree.Loop until cond body) s =
           turns_accesses limits.shell left until (exec_script limits left text cond) (exec_script limits left text body)
           (script_accesses cond) (script_accesses body) s
+          ++ compound_accesses limits.shell
+          (turns limits.shell left until (exec_script limits left text cond) (exec_script limits left text body) 0 s)
       command_accesses (tree.For name words body) s =
           begun_accesses (λ t. modern_accesses limits.shell
           ++ for_words_accesses limits.shell name words (exec_script limits left text body) (script_accesses body)

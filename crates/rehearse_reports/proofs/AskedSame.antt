@@ -1,5 +1,5 @@
 -- With the same frames, and the same words, the same device command asks.
-use Rattle.std.proofs.Common.{◌≡◌, ◌∙◌, refl, sym, ap, subst, ℕ, Bool, true, false, List, [], ◌∷◌, length, Option, Some, None, nat_eq, nat_lt, nat_le, if◌then◌else◌}
+use Rattle.std.proofs.Common.{◌≡◌, ◌∙◌, refl, sym, ap, subst, ℕ, zero, suc, Bool, true, false, List, [], ◌∷◌, length, Option, Some, None, nat_eq, nat_lt, nat_le, if◌then◌else◌}
 use Rattle.device_list.specs.declared.finish.BoardEnd.{BoardEnd}
 use Rattle.device_list.specs.Called.{Called, BuiltIn, NoCommand, Device, called_by, sets_in}
 use Rattle.commands.specs.BuiltInCommands.{ChangesVariables, WritesText, RunsTexts, Tests, Exits}
@@ -7,17 +7,21 @@ use Rattle.hushlang.specs.Tree as tree
 use Rattle.hushlang.specs.Tree.{Script}
 use Rattle.hushlang.specs.Expansion.{size, most_bytes}
 use Rattle.bootstore_state.specs.Moment.{Moment, RunningFrame}
+use Rattle.bootstore_state.specs.declared.frame.FrameKind.{FrameKind}
+use Rattle.bootstore_state.specs.declared.frame.FrameKind.TheVariants as kinds
 use Rattle.bootstore_state.specs.StoredState.{state_at}
 use Rattle.rehearse_terms.specs.Outcomes.{Success}
 use Rattle.rehearse_terms.specs.State.{Text, State}
 use Rattle.device_list.specs.DeviceList.{Effect}
 use Rattle.rehearse_rules.specs.Needs.{is_met, effect_now}
+use Rattle.rehearse_terms.specs.declared.shell.Shell.{Shell}
+use Rattle.rehearse_terms.specs.declared.shell.Shell.TheVariants.{Profile, Old2023, Old2025, Modern2025}
 use Rattle.rehearse_rules.specs.Parameters.{parameters_in}
 use Rattle.rehearse_rules.specs.ByShell.{reads_again, leaves_in, status_of_exit, asks_in, truth_in, fields_in, follows}
 use Rattle.rehearse_rules.specs.Execution.{Limits, CutDevices, Size, Unsupported, Request, told, told_again, logged, set_environment, set_status, status_when, request_of, test_request}
 use Rattle.rehearse_machine.specs.AskingCommand.{words_in_front, fields_again, found_again}
 use Rattle.rehearse_machine.specs.Machine.{Asking, IsAsking}
-use Rattle.rehearse_machine.specs.Places.{PlaceNext, GoOn, AskOn, StopOn, frames_of, left, to_run, place_exit, place_finish, place_tell_or_ask, place_ask, place_called, place_fields}
+use Rattle.rehearse_machine.specs.Places.{PlaceNext, GoOn, AskOn, StopOn, frames_of, left, place_exit, place_finish, place_tell_or_ask, place_ask, place_called, place_fields, left_compound, left_script, left_by, command_over}
 use Rattle.rehearse_reads.specs.Keys.{AgreeOn, AreAmong, Key}
 use Rattle.rehearse_reads.specs.Accesses.{words_reads}
 use Rattle.rehearse_reads.proofs.KeysRead.{all_itself}
@@ -42,13 +46,29 @@ gone_on : (zero : Bool) (run below : List RunningFrame) (s : State) (b : PlaceNe
 gone_on true run below s b = tt
 gone_on false run below s b = tt
 
-left_same : (ps : List RunningFrame) (s : State) (b : PlaceNext) → AskSame (left ps s) b
-left_same [] s b = tt
-left_same (p ∷ ps) s b = gone_on (nat_eq s.memory.status 0) (p ∷ ps) ps s b
+compound_gone : (shell : Shell) (ps : List RunningFrame) (outwards : PlaceNext) (s : State) (b : PlaceNext) → AskSame outwards b → AskSame (left_compound shell ps outwards s) b
+compound_gone Profile ps outwards s b h = h
+compound_gone Old2023 ps outwards s b h = h
+compound_gone Old2025 ps outwards s b h = h
+compound_gone Modern2025 ps outwards s b h = tt
 
-exit_same : (o : Option ℕ) (other : ℕ) (ps : List RunningFrame) (s : State) (b : PlaceNext) → AskSame (place_exit o other ps s) b
-exit_same None other ps s b = tt
-exit_same (Some status) other ps s b = left_same (to_run ps) (set_status status s) b
+script_gone : (shell : Shell) (turn : ℕ) (p : RunningFrame) (ps : List RunningFrame) (outwards : PlaceNext) (s : State) (b : PlaceNext) → AskSame outwards b → AskSame (left_script shell turn p ps outwards s) b
+script_gone shell zero p ps outwards s b h = h
+script_gone shell (suc a) p ps outwards s b h = compound_gone shell (command_over p ∷ ps) outwards s b h
+
+kind_gone : (shell : Shell) (kind : FrameKind) (p : RunningFrame) (ps : List RunningFrame) (outwards : PlaceNext) (s : State) (b : PlaceNext) → AskSame outwards b → AskSame (left_by shell kind p ps outwards s) b
+kind_gone shell kinds.Text p ps outwards s b h = script_gone shell p.place.turn p ps outwards s b h
+kind_gone shell kinds.Block p ps outwards s b h = script_gone shell p.place.turn p ps outwards s b h
+kind_gone shell kinds.For p ps outwards s b h = compound_gone shell ps outwards s b h
+kind_gone shell kinds.Run p ps outwards s b h = gone_on (nat_eq s.memory.status 0) (p ∷ ps) ps s b
+
+left_same : (shell : Shell) (ps : List RunningFrame) (s : State) (b : PlaceNext) → AskSame (left shell ps s) b
+left_same shell [] s b = tt
+left_same shell (p ∷ ps) s b = kind_gone shell p.kind p ps (left shell ps s) s b (left_same shell ps s b)
+
+exit_same : (shell : Shell) (o : Option ℕ) (other : ℕ) (ps : List RunningFrame) (s : State) (b : PlaceNext) → AskSame (place_exit shell o other ps s) b
+exit_same shell None other ps s b = tt
+exit_same shell (Some status) other ps s b = left_same shell ps (set_status status s) b
 
 finish_same : (ends : Option BoardEnd) (name : Text) (ps : List RunningFrame) (s : State) (b : PlaceNext) → AskSame (place_finish ends name ps s) b
 finish_same (Some how) name ps s b = tt
@@ -114,7 +134,7 @@ module _ (limits : Limits) (s t : State) where
   called_same again (BuiltIn RunsTexts) name (w ∷ ws) script ps = tt
   called_same again (BuiltIn Tests) name ws script ps = either_same (asks_in limits.shell ws) (place_ask limits (test_request limits name ws) ps) (λ x. GoOn ps (set_status (status_when (truth_in limits.shell ws)) x)) s t (ask_same (test_request limits name ws) ps) tt
   called_same again (BuiltIn (WritesText written)) name ws script ps = tt
-  called_same again (BuiltIn Exits) name ws script ps = exit_same (leaves_in limits.shell again ws) (status_of_exit limits.shell ws) ps s (place_exit (leaves_in limits.shell again ws) (status_of_exit limits.shell ws) ps t)
+  called_same again (BuiltIn Exits) name ws script ps = exit_same limits.shell (leaves_in limits.shell again ws) (status_of_exit limits.shell ws) ps s (place_exit limits.shell (leaves_in limits.shell again ws) (status_of_exit limits.shell ws) ps t)
   called_same again (Device effect) name ws script ps = listed_same name ws effect ps
   called_same again NoCommand name ws script ps = tt
 

@@ -16,12 +16,12 @@ use Rattle.rehearse_terms.specs.declared.shell.Shell.TheVariants.{Profile, Old20
 use Rattle.rehearse_rules.specs.ByShell.{leaves_in, asks_in, fields_in, turns_in, follows, reads_again}
 use Rattle.rehearse_rules.specs.Parameters.{parameters_in}
 use Rattle.rehearse_rules.specs.Execution.{Limits, goes, holds, test_request}
-use Rattle.rehearse_machine.specs.Frames.{Frame, Lists, Linked, IfCondition, LoopCondition, LoopBody, ForBody, RunNames, RunText}
+use Rattle.rehearse_machine.specs.Frames.{Frame, Lists, Linked, IfCondition, LoopCondition, LoopBody, ForBody, RunNames, RunText, CommandEnd}
 use Rattle.rehearse_machine.specs.Places.{drop_joined, joined_at, drop_arms, condition_frame, phase, from_command, for_frame, run_frame}
 use Rattle.rehearse_reads.specs.Keys.{Key, Access, Reads, Writes, Environment, Local, Status, all_read, Covers}
 use Rattle.rehearse_reads.specs.Accesses.{status_written, words_reads, setenv_accesses, computed_accesses, sized_accesses, assign_accesses, turn_accesses, nothing_accesses, modern_accesses}
 use Rattle.rehearse_reads.proofs.KeysRead.{covering_joins}
-use Rattle.rehearse_frames.specs.MoveAccesses.{of_leaving, of_exit, of_beginning_for, of_beginning_arms, of_beginning_tree, of_beginning_text, of_beginning_names, of_builtin, of_listed, of_call, of_fields, of_command, of_move}
+use Rattle.rehearse_frames.specs.MoveAccesses.{of_leaving, of_exit, of_beginning_for, of_beginning_arms, of_beginning_tree, of_beginning_text, of_beginning_names, of_builtin, of_listed, of_call, of_fields, of_command, of_move, of_leaving_compound}
 use Rattle.rehearse_reports.proofs.ReportLemmas.{covers_itself, covers_through, covers_less, covers_write, reads_cover, reads_alone}
 use Rattle.rehearse_reports.proofs.CoverLemmas.{covers_status, covers_nothing, covers_arms, covers_modern}
 
@@ -33,28 +33,31 @@ nothing_read = reads_alone (Status ∷ [])
 
 -- ---- a command reads and writes the same over any frames
 
-leaving_so : (status : ℕ) (fs : List Frame) → (of_leaving status fs ≡ []) ⊎ (of_leaving status fs ≡ Reads Status ∷ [])
-leaving_so status [] = inr refl
-leaving_so status (RunNames names ∷ fs) = inr refl
-leaving_so status (RunText names ∷ fs) = by (nat_eq status 0)
-  where
-    by : (b : Bool) → (elim b [ true ↦ [] | false ↦ Reads Status ∷ [] ] ≡ []) ⊎ (elim b [ true ↦ [] | false ↦ Reads Status ∷ [] ] ≡ Reads Status ∷ [])
-    by true = inl refl
-    by false = inr refl
-leaving_so status (Lists ls ∷ fs) = leaving_so status fs
-leaving_so status (Linked ls ∷ fs) = leaving_so status fs
-leaving_so status (IfCondition b arms ∷ fs) = leaving_so status fs
-leaving_so status (LoopCondition until c b last ∷ fs) = leaving_so status fs
-leaving_so status (LoopBody until c b ∷ fs) = leaving_so status fs
-leaving_so status (ForBody name fields body ∷ fs) = leaving_so status fs
+compound_covers : (shell : Shell) (xs : List Access) → Covers status_read xs → Covers status_read (of_leaving_compound shell xs)
+compound_covers Profile xs h = h
+compound_covers Old2023 xs h = h
+compound_covers Old2025 xs h = h
+compound_covers Modern2025 xs h = covers_less status_read status_written covers_status
 
-exit_over : (o : Option ℕ) (fs : List Frame) → Covers (of_exit o []) (of_exit o fs)
-exit_over None fs = covers_itself status_written
-exit_over (Some status) fs = by (of_leaving status fs) (leaving_so status fs)
+leaving_covers : (shell : Shell) (status : ℕ) (fs : List Frame) → Covers status_read (of_leaving shell status fs)
+leaving_covers shell status [] = covers_itself status_read
+leaving_covers shell status (RunNames names ∷ fs) = covers_itself status_read
+leaving_covers shell status (RunText names ∷ fs) = by (nat_eq status 0)
   where
-    by : (xs : List Access) → (xs ≡ []) ⊎ (xs ≡ Reads Status ∷ []) → Covers (Writes Status ∷ Reads Status ∷ []) (Writes Status ∷ xs)
-    by xs (inl e) = subst (λ (ys : List Access). Covers (Writes Status ∷ Reads Status ∷ []) (Writes Status ∷ ys)) (sym e) (covers_itself status_written)
-    by xs (inr e) = subst (λ (ys : List Access). Covers (Writes Status ∷ Reads Status ∷ []) (Writes Status ∷ ys)) (sym e) (covers_itself (Writes Status ∷ Reads Status ∷ []))
+    by : (b : Bool) → Covers status_read (elim b [ true ↦ [] | false ↦ Reads Status ∷ [] ])
+    by true = nothing_read
+    by false = covers_itself status_read
+leaving_covers shell status (Lists ls ∷ fs) = leaving_covers shell status fs
+leaving_covers shell status (Linked ls ∷ fs) = leaving_covers shell status fs
+leaving_covers shell status (IfCondition b arms ∷ fs) = compound_covers shell (of_leaving shell status fs) (leaving_covers shell status fs)
+leaving_covers shell status (LoopCondition until c b last ∷ fs) = compound_covers shell (of_leaving shell status fs) (leaving_covers shell status fs)
+leaving_covers shell status (LoopBody until c b ∷ fs) = compound_covers shell (of_leaving shell status fs) (leaving_covers shell status fs)
+leaving_covers shell status (ForBody name fields body ∷ fs) = compound_covers shell (of_leaving shell status fs) (leaving_covers shell status fs)
+leaving_covers shell status (CommandEnd ∷ fs) = compound_covers shell (of_leaving shell status fs) (leaving_covers shell status fs)
+
+exit_over : (shell : Shell) (o : Option ℕ) (fs : List Frame) → Covers (of_exit shell o []) (of_exit shell o fs)
+exit_over shell None fs = covers_itself status_written
+exit_over shell (Some status) fs = covering_joins status_written (of_leaving shell status fs) status_written status_read (covers_itself status_written) (leaving_covers shell status fs)
 
 module _ (limits : Limits) (fs : List Frame) where
   builtin_over : (again : Bool) (builtin : Builtin) (name : Text) (words : List Text) (s : State) → Covers (of_builtin limits again builtin name words [] s) (of_builtin limits again builtin name words fs s)
@@ -65,7 +68,7 @@ module _ (limits : Limits) (fs : List Frame) where
   builtin_over again Echo name words s = covers_itself status_written
   builtin_over again True name words s = covers_itself status_written
   builtin_over again False name words s = covers_itself status_written
-  builtin_over again Leave name words s = exit_over (leaves_in limits.shell again words) fs
+  builtin_over again Leave name words s = exit_over limits.shell (leaves_in limits.shell again words) fs
 
   call_over : (again : Bool) (name : Text) (words : List Text) (s : State) → Covers (of_call limits again name words [] s) (of_call limits again name words fs s)
   call_over again name words s = by (computed_by limits.devices name words) (builtin_of name)
@@ -162,9 +165,11 @@ module _ (limits : Limits) (s : State) where
   block_ends None a last fs = nothing_read
   block_ends (Some (tree.Simple words)) a last fs = nothing_read
   block_ends (Some (tree.Assign pairs)) a last fs = nothing_read
-  block_ends (Some (tree.If arms)) a last fs = arms_end (drop_arms a arms) fs
+  block_ends (Some (tree.If arms)) a zero fs = arms_end (drop_arms a arms) fs
+  block_ends (Some (tree.If arms)) a (suc last) fs = nothing_read
   block_ends (Some (tree.Loop until c b)) zero last fs = condition_ends until c b last fs
-  block_ends (Some (tree.Loop until c b)) (suc a) last fs = covers_itself status_read
+  block_ends (Some (tree.Loop until c b)) (suc a) zero fs = covers_itself status_read
+  block_ends (Some (tree.Loop until c b)) (suc a) (suc last) fs = nothing_read
   block_ends (Some (tree.For name words body)) a last fs = nothing_read
 
   -- ---- a `for`

@@ -19,7 +19,7 @@ use Rattle.bootstore_state.specs.Moment.{RunningFrame}
 use Rattle.rehearse_terms.specs.State.{Text, State}
 use Rattle.rehearse_rules.specs.Execution.{Limits, goes}
 use Rattle.rehearse_machine.specs.Frames.{Frame, Lists}
-use Rattle.rehearse_machine.specs.Places.{list_at, command_at, command_in, drop_lists, drop_joined, joined_at, phase, from_command, from_turn, script_frames, for_frame, run_frame}
+use Rattle.rehearse_machine.specs.Places.{list_at, command_at, command_in, drop_lists, drop_joined, joined_at, phase, from_command, from_turn, script_frames, for_frame, run_frame, past_lists}
 use Rattle.rehearse_machine.proofs.CommandLemmas.{says_if, says_loop, says_simple, says_assign, says_for, Kind, AsSimple, AsAssign, AsIf, AsLoop, AsFor, kind_of}
 use Rattle.rehearse_machine.proofs.ListLemmas.{Join, back, join_some, join_none}
 use Rattle.rehearse_reads.specs.Keys.{Access, Reads, Writes, Environment, Local, Status, Covers}
@@ -45,7 +45,11 @@ module _ (limits : Limits) (fs : List Frame) (s : State) (f : RunningFrame) wher
   -- ---- a script
 
   pub script_none : (o : Option AndOr) → o ≡ None → Covers (Reads Status ∷ []) (of_move limits (script_frames o f.place rest ++ fs) s)
-  script_none o e = subst (λ (x : Option AndOr). Covers (Reads Status ∷ []) (of_move limits (script_frames x f.place rest ++ fs) s)) (sym e) (reads_alone (Status ∷ []))
+  script_none o e = subst (λ (x : Option AndOr). Covers (Reads Status ∷ []) (of_move limits (script_frames x f.place rest ++ fs) s)) (sym e) (by f.place.turn)
+    where
+      by : (turn : ℕ) → Covers (Reads Status ∷ []) (of_move limits (past_lists turn ++ fs) s)
+      by zero = reads_alone (Status ∷ [])
+      by (suc a) = reads_alone (Status ∷ [])
 
   pub script_turn : (o : Option AndOr) (l : AndOr) (at : At) → o ≡ Some l → at ≡ f.place → (at.turn ≡ 0 → ⊥) → Covers (Reads Status ∷ []) (of_move limits (script_frames o f.place rest ++ fs) s)
   script_turn o l at e here other =

@@ -40,7 +40,7 @@ module _ (limits : Limits) (name : Text) (words : List Text) (s : State) where
   pub test_asks : {E : Type 0} (r : Result (Unit {0}) E) (old new : List Access) (shell : Shell) → shell ≡ limits.shell → true ≡ asks_in shell words → OnOk r (Reports old new (of_asking limits (test_request limits name words) s)) → OnOk r (Reports old new (of_test limits name words s))
   test_asks r old new shell h e k = subst (λ (b : Bool). OnOk r (Reports old new (test_if b))) (e ∙ ap (λ (x : Shell). asks_in x words) h) k
 
-  exits : (o : Option ℕ) → Covers [] (of_exit o [])
+  exits : (o : Option ℕ) → Covers [] (of_exit limits.shell o [])
   exits None = covers_status
   exits (Some status) = covers_write Status [] (covers_itself [])
 

@@ -11,7 +11,7 @@ use Rattle.rehearse_rules.specs.Parameters.{parameters_in}
 use Rattle.device_list.specs.Called.{Called, BuiltIn, Device, NoCommand, called_by, sets_in}
 use Rattle.commands.specs.BuiltInCommands.{ChangesVariables, WritesText, RunsTexts, Tests, Exits}
 use Rattle.rehearse_rules.specs.ByShell.{unread, leaves_in, status_of_exit, asks_in, truth_in, fields_in, turns_in, skips_rest, status_of_loop, follows, assigned_in, reads_again, follows_turns}
-use Rattle.rehearse_rules.specs.Execution.{Limits, Answer, Normal, Exit, Ended, Dry, Ending, CutDevices, CutSteps, Size, go_on, set_status, status_when, goes, holds, begin, take_outcome, with_outcome, outcome_when, told, told_again, tell_or_take, device, Request, logged, set_environment, finish, text_end, run_text, run_all, command, simple, sized, assign, turns, begin_turn, for_each, exec_script, exec_list, exec_joined, exec_command, exec_arms, exec, Unsupported, assign_local, request_of, test_request, started_text, text_failed, turns_of, for_words, for_begun, block_skipped}
+use Rattle.rehearse_rules.specs.Execution.{Limits, Answer, Normal, Exit, Ended, Dry, Ending, CutDevices, CutSteps, Size, go_on, set_status, status_when, goes, holds, begin, take_outcome, with_outcome, outcome_when, told, told_again, tell_or_take, device, Request, logged, set_environment, finish, text_end, run_text, run_all, command, simple, sized, assign, turns, begin_turn, for_each, exec_script, exec_list, exec_joined, exec_command, exec_arms, exec, Unsupported, assign_local, request_of, test_request, started_text, text_failed, turns_of, for_words, for_begun, block_skipped, compound, compound_end}
 use Rattle.rehearse_rules.specs.Needs.{effect_now}
 use Rattle.rehearse_rules.specs.Runs.{Task, run_on, state_of, steps}
 use Rattle.hushlang_shells.proofs.TreeByShellLemmas.{trees_in_are_proper}
@@ -60,6 +60,18 @@ module _ (limits : Limits) where
   Ends-text_end s (Exit t) g k h j = Ends-if (nat_eq t.memory.status 0) (g t) (Normal t) (λ e. j t h k.steps) (λ e. h)
   Ends-text_end s (Ended ending t) g k h j = h
   Ends-text_end s (Dry t) g k h j = h
+
+  Ends-end : (a : Answer) → Ends a → Ends (compound_end a)
+  Ends-end (Normal t) h = h
+  Ends-end (Exit t) h = h
+  Ends-end (Ended ending t) h = h
+  Ends-end (Dry t) h = h
+
+  Ends-compound : (shell : Shell) (a : Answer) → Ends a → Ends (compound shell a)
+  Ends-compound Profile a h = h
+  Ends-compound Old2023 a h = h
+  Ends-compound Old2025 a h = h
+  Ends-compound Modern2025 a h = Ends-end a h
 
   -- a step is begun below the bound, or the bound is reached
   Ends-begin : (n : ℕ) (f : State → Answer) → ((t : State) → IsWithin t → limits.step_bound < n + t.steps → Ends (f t)) → EndsAll n (begin limits f)
@@ -162,7 +174,7 @@ module _ (limits : Limits) where
     for-ends name b k e last (f ∷ fs) s h r = Ends-go_on (begin_turn limits.shell name f s) (b (begin_turn limits.shell name f s)) (λ t. for_each limits.shell name b t.memory.status fs t) (k (begin_turn limits.shell name f s)).0 (e (begin_turn limits.shell name f s) (h, r)) (λ t w l. for-ends name b k e t.memory.status fs t w (omega arith))
 
     turns_of-end : (name : Text) (b : State → Answer) → KeepsAll limits b → EndsAll n b → (fs : List Text) (s : State) → IsWithin s → limits.step_bound ≤ n + s.steps → Ends (turns_of limits.shell name b fs s)
-    turns_of-end name b k e fs s h r = Ends-if (follows_turns limits.shell name fs) (for_each limits.shell name b 0 fs s) (Ended (Unsupported name) s) (λ x. for-ends name b k e 0 fs s h r) (λ x. (h, tt))
+    turns_of-end name b k e fs s h r = Ends-if (follows_turns limits.shell name fs) (compound limits.shell (for_each limits.shell name b 0 fs s)) (Ended (Unsupported name) s) (λ x. Ends-compound limits.shell (for_each limits.shell name b 0 fs s) (for-ends name b k e 0 fs s h r)) (λ x. (h, tt))
 
     words-end : (name : Text) (words : List tree.Word) (b : State → Answer) → KeepsAll limits b → EndsAll n b → (s : State) → IsWithin s → limits.step_bound ≤ n + s.steps → Ends (for_words limits.shell name words b s)
     words-end name words b k e s h r = Ends-sized (turns_in limits.shell (parameters_in s.memory) words) (turns_of limits.shell name b) s h (turns_of-end name b k e (turns_in limits.shell (parameters_in s.memory) words) s h r)
@@ -182,8 +194,10 @@ module _ (limits : Limits) where
       one-ends : (a : Command) → IsProperCommand a → EndsAll n (exec_command limits n text a)
       one-ends (tree.Simple words) p s r = Ends-begin n (λ t. sized (fields_in limits.shell (parameters_in t.memory) words) (simple limits (reads_again words) text) t) (λ t h q. Ends-sized (fields_in limits.shell (parameters_in t.memory) words) (simple limits (reads_again words) text) t h (simple-ends n text kept ends (reads_again words) (fields_in limits.shell (parameters_in t.memory) words) t h q)) s r
       one-ends (tree.Assign pairs) p s r = Ends-begin n (assign limits.shell pairs) (λ t h q. Ends-assign pairs t h) s r
-      one-ends (tree.If arms) p s r = arm-ends arms p s r
-      one-ends (tree.Loop until c b) p s r = turns-end n until (exec_script limits n text c) (exec_script limits n text b) (Keeps-script limits n text kept c) (Keeps-script limits n text kept b) (block-ends c p.0) (block-ends b p.1) (Grew-block limits n text kept c p.0) 0 s r.0 r.1 r.1
+      one-ends (tree.If arms) p s r = Ends-compound limits.shell (exec_arms limits n text arms s) (arm-ends arms p s r)
+      one-ends (tree.Loop until c b) p s r =
+          Ends-compound limits.shell (turns limits.shell n until (exec_script limits n text c) (exec_script limits n text b) 0 s)
+          (turns-end n until (exec_script limits n text c) (exec_script limits n text b) (Keeps-script limits n text kept c) (Keeps-script limits n text kept b) (block-ends c p.0) (block-ends b p.1) (Grew-block limits n text kept c p.0) 0 s r.0 r.1 r.1)
       one-ends (tree.For name words b) p s r = Ends-begin n (λ t. for_words limits.shell name words (exec_script limits n text b) (for_begun limits.shell t)) (λ t h q. words-end name words (exec_script limits n text b) (Keeps-script limits n text kept b) (block-ends b p) (for_begun limits.shell t) h (omega arith)) s r
 
       arm-ends : (a : Arms) → HasArm a → EndsAll n (exec_arms limits n text a)

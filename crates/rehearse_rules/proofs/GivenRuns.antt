@@ -18,7 +18,7 @@ use Rattle.device_list.specs.DeviceList.{Devices, computed_by}
 use Rattle.rehearse_rules.specs.ByShell.{reads_again, leaves_in, status_of_exit, asks_in, truth_in, fields_in, skips_rest, status_of_nothing, status_of_no_block, follows, question_in, truth_if}
 use Rattle.rehearse_terms.specs.declared.shell.Shell.{Shell}
 use Rattle.rehearse_terms.specs.declared.shell.Shell.TheVariants.{Profile}
-use Rattle.rehearse_rules.specs.Execution.{Limits, Answer, Normal, Exit, Ended, CutDevices, CutSteps, Request, tell_or_take, device, go_on, set_status, status_when, goes, begin, command, simple, sized, turns, text_end, run_text, run_all, exec_script, exec_list, exec_joined, exec_command, exec_arms, exec, Unsupported, assign, started_text, for_words, for_begun, block_skipped}
+use Rattle.rehearse_rules.specs.Execution.{Limits, Answer, Normal, Exit, Ended, CutDevices, CutSteps, Request, tell_or_take, device, go_on, set_status, status_when, goes, begin, command, simple, sized, turns, text_end, run_text, run_all, exec_script, exec_list, exec_joined, exec_command, exec_arms, exec, Unsupported, assign, started_text, for_words, for_begun, block_skipped, compound}
 use Rattle.rehearse_rules.specs.GivenExecution.{Others, asked_anew, given_builtin, given_simple, given_script, given_list, given_joined, given_command, given_arms, given_exec, given_run_on}
 
 -- what a part of a script does to states
@@ -179,8 +179,8 @@ module _ (bounds : Limits) (own : bounds.shell ≡ Profile) (devices : Devices) 
       one-same : (a : Command) → exec_command (limits bounds devices) left f a ≡ given_command bounds others left g a
       one-same (tree.Simple words) = λ i s. begin (limits bounds devices) (λ t. sized (fields_in (own i) (parameters_in t.memory) words) (λ fs u. simple-same f g same (reads_again words) fs u i) t) s
       one-same (tree.Assign values) = λ i s. begin (limits bounds devices) (assign (own i) values) s
-      one-same (tree.If arms) = arms-same arms
-      one-same (tree.Loop until cond body) = λ i s. turns (own i) left until (script-same cond i) (script-same body i) 0 s
+      one-same (tree.If arms) = λ i s. compound (own i) (arms-same arms i s)
+      one-same (tree.Loop until cond body) = λ i s. compound (own i) (turns (own i) left until (script-same cond i) (script-same body i) 0 s)
       one-same (tree.For name words body) = λ i s. begin (limits bounds devices) (λ t. for_words (own i) name words (script-same body i) (for_begun (own i) t)) s
 
       arms-same : (a : Arms) → exec_arms (limits bounds devices) left f a ≡ given_arms bounds others left g a

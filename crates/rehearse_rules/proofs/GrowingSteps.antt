@@ -5,7 +5,9 @@ use Rattle.hushlang.specs.Tree as tree
 use Rattle.hushlang.specs.Tree.{Script, AndOr, Command, Arms, IsProperList, IsProperCommand, HasArm, HoldsCommand}
 use Rattle.rehearse_terms.specs.State.{State}
 use Rattle.rehearse_rules.specs.Parameters.{parameters_in}
-use Rattle.rehearse_rules.specs.Execution.{Limits, Answer, Normal, Exit, Ended, Dry, CutSteps, go_on, simple, sized, assign, turns, exec_script, exec_list, exec_joined, exec_command, exec_arms, for_words, for_begun, block_skipped}
+use Rattle.rehearse_terms.specs.declared.shell.Shell.{Shell}
+use Rattle.rehearse_terms.specs.declared.shell.Shell.TheVariants.{Profile, Old2023, Old2025, Modern2025}
+use Rattle.rehearse_rules.specs.Execution.{Limits, Answer, Normal, Exit, Ended, Dry, CutSteps, go_on, simple, sized, assign, turns, exec_script, exec_list, exec_joined, exec_command, exec_arms, for_words, for_begun, block_skipped, compound, compound_end}
 use Rattle.rehearse_rules.proofs.TakenOutcomes.{Track, Keeps, KeepsAll, Keeps-sized, Keeps-simple, Keeps-assign, Keeps-if, Keeps-turns, after_condition, Keeps-after_condition, Keeps-script, Keeps-joined, Keeps-arms, Keeps-words, Keeps-skip}
 
 -- if the text or the run goes on, at least n steps were begun
@@ -36,6 +38,19 @@ Grew-go_on bound n (Exit t) g h k = h
 Grew-go_on bound n (Ended ending t) g h k = tt
 Grew-go_on bound n (Dry t) g h k = tt
 
+-- also if `exit` leaves a compound command
+Grew-end : (n : ℕ) (a : Answer) → Grew n a → Grew n (compound_end a)
+Grew-end n (Normal t) h = h
+Grew-end n (Exit t) h = h
+Grew-end n (Ended ending t) h = h
+Grew-end n (Dry t) h = h
+
+Grew-compound : (shell : Shell) (n : ℕ) (a : Answer) → Grew n a → Grew n (compound shell a)
+Grew-compound Profile n a h = h
+Grew-compound Old2023 n a h = h
+Grew-compound Old2025 n a h = h
+Grew-compound Modern2025 n a h = Grew-end n a h
+
 module _ (limits : Limits) (left : ℕ) (text : Script → State → Answer) (kept : (tree : Script) → KeepsAll limits (text tree)) where
   Grew-begin : (b : Bool) (s : State) (f : State → Answer) → KeepsAll limits f → Grew s.steps (elim b [ true ↦ f (record s { steps = suc s.steps }) | false ↦ Ended CutSteps s ])
   Grew-begin true s f k = Grew-track limits.device_bound s.steps (record s { steps = suc s.steps }) (f (record s { steps = suc s.steps })) (omega arith) (k (record s { steps = suc s.steps })).0
@@ -49,8 +64,10 @@ module _ (limits : Limits) (left : ℕ) (text : Script → State → Answer) (ke
     pub Grew-command : (a : Command) → IsProperCommand a → (s : State) → Grew s.steps (exec_command limits left text a s)
     Grew-command (tree.Simple words) p s = Grew-begin (nat_lt s.steps limits.step_bound) s (λ t. sized (fields_in limits.shell (parameters_in t.memory) words) (simple limits (reads_again words) text) t) (λ t. Keeps-sized limits (fields_in limits.shell (parameters_in t.memory) words) (simple limits (reads_again words) text) (Keeps-simple limits text kept (reads_again words)) t)
     Grew-command (tree.Assign pairs) p s = Grew-begin (nat_lt s.steps limits.step_bound) s (assign limits.shell pairs) (Keeps-assign limits pairs)
-    Grew-command (tree.If arms) p s = Grew-if arms p s
-    Grew-command (tree.Loop until c b) p s = Grew-turns left until (exec_script limits left text c) (exec_script limits left text b) (Keeps-script limits left text kept c) (Keeps-script limits left text kept b) (Grew-block c p.0) 0 s
+    Grew-command (tree.If arms) p s = Grew-compound limits.shell s.steps (exec_arms limits left text arms s) (Grew-if arms p s)
+    Grew-command (tree.Loop until c b) p s =
+        Grew-compound limits.shell s.steps (turns limits.shell left until (exec_script limits left text c) (exec_script limits left text b) 0 s)
+        (Grew-turns left until (exec_script limits left text c) (exec_script limits left text b) (Keeps-script limits left text kept c) (Keeps-script limits left text kept b) (Grew-block c p.0) 0 s)
     Grew-command (tree.For name words b) p s = Grew-begin (nat_lt s.steps limits.step_bound) s (λ t. for_words limits.shell name words (exec_script limits left text b) (for_begun limits.shell t)) (Keeps-words limits name words (exec_script limits left text b) (Keeps-script limits left text kept b))
 
     pub Grew-block : (a : Script) → HoldsCommand a → (s : State) → Grew s.steps (exec_script limits left text a s)

@@ -10,8 +10,9 @@ use Rattle.commands.specs.BuiltInCommands.{ChangesVariables, WritesText, RunsTex
 use Rattle.device_list.specs.DeviceList.{Effect, computed_by, effect_of}
 use Rattle.rehearse_rules.proofs.TakenOutcomes.{skipped}
 use Rattle.rehearse_terms.specs.declared.shell.Shell.{Shell}
+use Rattle.rehearse_terms.specs.declared.shell.Shell.TheVariants.{Profile, Old2023, Old2025, Modern2025}
 use Rattle.rehearse_rules.specs.ByShell.{unread, reads_again, leaves_in, status_of_exit, asks_in, question_in, truth_in, fields_in, turns_in, skips_rest, status_of_loop, follows, assigned_in, follows_turns}
-use Rattle.rehearse_rules.specs.Execution.{Limits, Answer, Normal, Exit, Ended, Dry, CutSteps, Size, Request, go_on, set_status, status_when, goes, holds, begin, device, test_effect, text_end, run_text, run_all, command, simple, sized, assign, turns, begin_turn, for_each, exec_script, exec_list, exec_joined, exec_command, exec_arms, exec, Unsupported, assign_local, request_of, test_request, started_text, text_failed, turns_of, for_words, for_begun, block_skipped}
+use Rattle.rehearse_rules.specs.Execution.{Limits, Answer, Normal, Exit, Ended, Dry, CutSteps, Size, Request, go_on, set_status, status_when, goes, holds, begin, device, test_effect, text_end, run_text, run_all, command, simple, sized, assign, turns, begin_turn, for_each, exec_script, exec_list, exec_joined, exec_command, exec_arms, exec, Unsupported, assign_local, request_of, test_request, started_text, text_failed, turns_of, for_words, for_begun, block_skipped, compound, compound_end}
 use Rattle.rehearse_rules.specs.Needs.{effect_now}
 use Rattle.rehearse_rules.specs.Runs.{state_of}
 use Rattle.rehearse_terms.specs.State.{Text, get, LoggedCommand, State}
@@ -42,6 +43,18 @@ module _ (P : List LoggedCommand → Type 0) where
   keeps-text_end shell (Exit t) g h k = keeps-if (nat_eq t.memory.status 0) (g t) (Normal t) (k t h) h
   keeps-text_end shell (Ended ending t) g h k = h
   keeps-text_end shell (Dry t) g h k = h
+
+  keeps-end : (a : Answer) → Holds (state_of a) → Holds (state_of (compound_end a))
+  keeps-end (Normal t) h = h
+  keeps-end (Exit t) h = h
+  keeps-end (Ended ending t) h = h
+  keeps-end (Dry t) h = h
+
+  keeps-compound : (shell : Shell) (a : Answer) → Holds (state_of a) → Holds (state_of (compound shell a))
+  keeps-compound Profile a h = h
+  keeps-compound Old2023 a h = h
+  keeps-compound Old2025 a h = h
+  keeps-compound Modern2025 a h = keeps-end a h
 
   keeps-sized : (fs : List Text) (f : List Text → State → Answer) → ((gs : List Text) → KeepsLog (f gs)) → KeepsLog (sized fs f)
   keeps-sized fs f h s k = keeps-if (nat_le (size fs) most_bytes) (f fs s) (Ended Size s) (h fs s k) k
@@ -141,7 +154,7 @@ module _ (P : List LoggedCommand → Type 0) where
     keeps-for name b k last (f ∷ fs) s h = keeps-go_on (b (begin_turn limits.shell name f s)) (λ t. for_each limits.shell name b t.memory.status fs t) (k (begin_turn limits.shell name f s) h) (λ t. keeps-for name b k t.memory.status fs t)
 
     keeps-words : (name : Text) (words : List tree.Word) (b : State → Answer) → KeepsLog b → KeepsLog (for_words limits.shell name words b)
-    keeps-words name words b k s = keeps-sized (turns_in limits.shell (parameters_in s.memory) words) (turns_of limits.shell name b) (λ fs t h. keeps-if (follows_turns limits.shell name fs) (for_each limits.shell name b 0 fs t) (Ended (Unsupported name) t) (keeps-for name b k 0 fs t h) h) s
+    keeps-words name words b k s = keeps-sized (turns_in limits.shell (parameters_in s.memory) words) (turns_of limits.shell name b) (λ fs t h. keeps-if (follows_turns limits.shell name fs) (compound limits.shell (for_each limits.shell name b 0 fs t)) (Ended (Unsupported name) t) (keeps-compound limits.shell (for_each limits.shell name b 0 fs t) (keeps-for name b k 0 fs t h)) h) s
 
     module _ (left : ℕ) (text : Script → State → Answer) (keeps : (a : Script) → KeepsLog (text a)) where
       mutual
@@ -161,8 +174,10 @@ module _ (P : List LoggedCommand → Type 0) where
         keeps-one : (a : Command) → KeepsLog (exec_command limits left text a)
         keeps-one (tree.Simple words) s h = keeps-begin (λ t. sized (fields_in limits.shell (parameters_in t.memory) words) (simple limits (reads_again words) text) t) (λ t. keeps-sized (fields_in limits.shell (parameters_in t.memory) words) (simple limits (reads_again words) text) (keeps-simple text keeps (reads_again words)) t) s h
         keeps-one (tree.Assign pairs) s h = keeps-begin (assign limits.shell pairs) (keeps-assign limits.shell pairs) s h
-        keeps-one (tree.If arms) s h = keeps-arms arms s h
-        keeps-one (tree.Loop until c b) s h = keeps-turns left until (exec_script limits left text c) (exec_script limits left text b) (keeps-script c) (keeps-script b) 0 s h
+        keeps-one (tree.If arms) s h = keeps-compound limits.shell (exec_arms limits left text arms s) (keeps-arms arms s h)
+        keeps-one (tree.Loop until c b) s h =
+            keeps-compound limits.shell (turns limits.shell left until (exec_script limits left text c) (exec_script limits left text b) 0 s)
+            (keeps-turns left until (exec_script limits left text c) (exec_script limits left text b) (keeps-script c) (keeps-script b) 0 s h)
         keeps-one (tree.For name words b) s h = keeps-begin (λ t. for_words limits.shell name words (exec_script limits left text b) (for_begun limits.shell t))
             (λ t. keeps-words name words (exec_script limits left text b) (keeps-script b) (for_begun limits.shell t)) s h
 

@@ -7,6 +7,7 @@ pub mod StepLemmas
 pub mod FewFailures
 pub mod OrderOfWords
 pub mod GrowingSteps
+pub mod CompoundLemmas
 pub mod BoundLemmas
 pub mod Pages
 pub mod WholeRecordLemmas

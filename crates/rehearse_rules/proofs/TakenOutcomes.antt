@@ -12,11 +12,12 @@ use Rattle.hushlang.specs.Expansion.{size, most_bytes}
 use Rattle.hushlang_shells.specs.TreesByShell.{tree_in, lacks_end_in}
 use Rattle.device_list.specs.Called.{Called, BuiltIn, Device, NoCommand, called_by, sets_in}
 use Rattle.commands.specs.BuiltInCommands.{ChangesVariables, WritesText, RunsTexts, Tests, Exits, variables_changed, text_written}
-use Rattle.rehearse_rules.specs.ByShell.{unread, leaves_in, status_of_exit, asks_in, truth_in, fields_in, turns_in, skips_rest, status_of_nothing, status_of_no_block, status_of_loop, follows, assigned_in, reads_again, status_of_text, follows_turns, status_of_for, status_of_skipped}
-use Rattle.rehearse_rules.specs.Execution.{Limits, Answer, Normal, Exit, Ended, Dry, Ending, CutDevices, CutSteps, Unknown, Size, go_on, remember, set_status, status_when, goes, holds, begin, take_outcome, with_outcome, outcome_when, told, told_again, tell_or_take, device, Request, logged, set_environment, finish, text_end, run_text, run_all, command, simple, sized, assign, turns, begin_turn, for_each, exec_script, exec_list, exec_joined, exec_command, exec_arms, exec, succeeds, Unsupported, assign_local, request_of, test_request, started_text, text_failed, turns_of, for_words, for_begun, block_skipped}
+use Rattle.rehearse_rules.specs.ByShell.{unread, leaves_in, status_of_exit, asks_in, truth_in, fields_in, turns_in, skips_rest, status_of_nothing, status_of_no_block, status_of_loop, follows, assigned_in, reads_again, status_of_text, follows_turns, status_of_for, status_of_skipped, left_status}
+use Rattle.rehearse_rules.specs.Execution.{Limits, Answer, Normal, Exit, Ended, Dry, Ending, CutDevices, CutSteps, Unknown, Size, go_on, remember, set_status, status_when, goes, holds, begin, take_outcome, with_outcome, outcome_when, told, told_again, tell_or_take, device, Request, logged, set_environment, finish, text_end, run_text, run_all, command, simple, sized, assign, turns, begin_turn, for_each, exec_script, exec_list, exec_joined, exec_command, exec_arms, exec, succeeds, Unsupported, assign_local, request_of, test_request, started_text, text_failed, turns_of, for_words, for_begun, block_skipped, compound, compound_end, compound_left}
 use Rattle.rehearse_rules.specs.Needs.{effect_now}
 use Rattle.rehearse_rules.specs.Expected.{Answered, asked_in}
 use Rattle.rehearse_terms.specs.declared.shell.Shell.{Shell}
+use Rattle.rehearse_terms.specs.declared.shell.Shell.TheVariants.{Profile, Old2023, Old2025, Modern2025}
 use Rattle.rehearse_rules.specs.Runs.{state_of}
 
 -- the state with these outcomes after its own
@@ -247,6 +248,52 @@ module _ (bound : ℕ) where
   text_end-asks shell run (Ended ending t) g k e h = tt
   text_end-asks shell run (Dry t) g k e h = (h.0, λ d x. text_end-answered shell h.0 d t.log (run (d ∷ x)) g k (h.1 d x))
 
+  -- a compound command that `exit` has left
+  left_goes : (s t : State) → GoesTo s t → GoesTo s (compound_left t)
+  left_goes s t g = GoesTo-trans s t (compound_left t) g (remembers t (λ m. record m { status = left_status m.status }))
+
+  compound-track : (s : State) (a : Answer) → Track bound s a → Track bound s (compound_end a)
+  compound-track s (Normal t) h = h
+  compound-track s (Exit t) h = left_goes s t h
+  compound-track s (Ended ending t) h = h
+  compound-track s (Dry t) h = h
+
+  compound-word : (a : Answer) → (state_of (compound_end a)).word ≡ (state_of a).word
+  compound-word (Normal t) = refl
+  compound-word (Exit t) = refl
+  compound-word (Ended ending t) = refl
+  compound-word (Dry t) = refl
+
+  compound-steps : (a : Answer) → (state_of (compound_end a)).steps ≡ (state_of a).steps
+  compound-steps (Normal t) = refl
+  compound-steps (Exit t) = refl
+  compound-steps (Ended ending t) = refl
+  compound-steps (Dry t) = refl
+
+  compound-log : (a : Answer) → (state_of (compound_end a)).log ≡ (state_of a).log
+  compound-log (Normal t) = refl
+  compound-log (Exit t) = refl
+  compound-log (Ended ending t) = refl
+  compound-log (Dry t) = refl
+
+  compound-extends : (x : OutcomeWord) (a b : Answer) → Extends x a b → Extends x (compound_end a) (compound_end b)
+  compound-extends x (Normal t) b h = ap compound_end h
+  compound-extends x (Exit t) b h = ap compound_end h
+  compound-extends x (Ended ending t) b h = ap compound_end h
+  compound-extends x (Dry t) b h = (λ ne. let e = ap length (compound-word b) in let l = h.0 ne in omega arith, let e = compound-steps b in let l = h.1 in omega arith)
+
+  compound-asks : (run : OutcomeWord → Answer) (a : Answer) → AsksOne run a → AsksOne (λ x. compound_end (run x)) (compound_end a)
+  compound-asks run (Normal t) h = tt
+  compound-asks run (Exit t) h = tt
+  compound-asks run (Ended ending t) h = tt
+  compound-asks run (Dry t) h = (h.0, λ d x. subst (λ (later : List LoggedCommand). HasAnswered h.0 d t.log later) (sym (compound-log (run (d ∷ x)))) (h.1 d x))
+
+  pub Keeps-compound : (shell : Shell) (s : State) (f : State → Answer) → Keeps bound s f → Keeps bound s (λ t. compound shell (f t))
+  Keeps-compound Profile s f h = h
+  Keeps-compound Old2023 s f h = h
+  Keeps-compound Old2025 s f h = h
+  Keeps-compound Modern2025 s f h = (compound-track s (f s) h.0, λ x. compound-extends x (f s) (f (more x s)) (h.1 x), compound-asks (λ x. f (more x s)) (f s) h.2)
+
 module _ (limits : Limits) where
   abbrev pub KeepsAll : (State → Answer) → Type 0
   KeepsAll f = (s : State) → Keeps limits.device_bound s f
@@ -425,7 +472,7 @@ module _ (limits : Limits) where
       (λ t. Keeps-for name b k t.memory.status fs t)
 
   pub Keeps-turns_of : (name : Text) (b : State → Answer) → KeepsAll b → (fs : List Text) → KeepsAll (turns_of limits.shell name b fs)
-  Keeps-turns_of name b k fs s = Keeps-if limits.device_bound s (follows_turns limits.shell name fs) (for_each limits.shell name b 0 fs) (Ended (Unsupported name)) (Keeps-for name b k 0 fs s) (Keeps-ended limits.device_bound s (Unsupported name))
+  Keeps-turns_of name b k fs s = Keeps-if limits.device_bound s (follows_turns limits.shell name fs) (λ t. compound limits.shell (for_each limits.shell name b 0 fs t)) (Ended (Unsupported name)) (Keeps-compound limits.device_bound limits.shell s (for_each limits.shell name b 0 fs) (Keeps-for name b k 0 fs s)) (Keeps-ended limits.device_bound s (Unsupported name))
 
   pub Keeps-words : (name : Text) (words : List tree.Word) (b : State → Answer) → KeepsAll b → KeepsAll (λ t. for_words limits.shell name words b (for_begun limits.shell t))
   Keeps-words name words b k s =
@@ -459,8 +506,10 @@ module _ (limits : Limits) where
       pub Keeps-one : (a : Command) → KeepsAll (exec_command limits left text a)
       Keeps-one (tree.Simple words) s = Keeps-begin (λ t. sized (fields_in limits.shell (parameters_in t.memory) words) (simple limits (reads_again words) text) t) (λ t. Keeps-sized (fields_in limits.shell (parameters_in t.memory) words) (simple limits (reads_again words) text) (Keeps-simple text kept (reads_again words)) t) s
       Keeps-one (tree.Assign pairs) s = Keeps-begin (assign limits.shell pairs) (Keeps-assign pairs) s
-      Keeps-one (tree.If arms) s = Keeps-arms arms s
-      Keeps-one (tree.Loop until c b) s = Keeps-turns left until (exec_script limits left text c) (exec_script limits left text b) (Keeps-script c) (Keeps-script b) 0 s
+      Keeps-one (tree.If arms) s = Keeps-compound limits.device_bound limits.shell s (exec_arms limits left text arms) (Keeps-arms arms s)
+      Keeps-one (tree.Loop until c b) s =
+          Keeps-compound limits.device_bound limits.shell s (turns limits.shell left until (exec_script limits left text c) (exec_script limits left text b) 0)
+          (Keeps-turns left until (exec_script limits left text c) (exec_script limits left text b) (Keeps-script c) (Keeps-script b) 0 s)
       Keeps-one (tree.For name words b) s = Keeps-begin (λ t. for_words limits.shell name words (exec_script limits left text b) (for_begun limits.shell t)) (Keeps-words name words (exec_script limits left text b) (Keeps-script b)) s
 
       pub Keeps-arms : (a : Arms) → KeepsAll (exec_arms limits left text a)

@@ -11,10 +11,11 @@ use Rattle.rehearse_terms.specs.Outcomes.{Outcome, Success, Failure, OutcomeWord
 use Rattle.hushlang_shells.specs.TreesByShell.{tree_in, lacks_end_in}
 use Rattle.rehearse_terms.specs.State.{Text, Variables, get, with_value, Memory, LoggedCommand, answer_in, State}
 use Rattle.rehearse_terms.specs.declared.shell.Shell.{Shell}
+use Rattle.rehearse_terms.specs.declared.shell.Shell.TheVariants.{Profile, Old2023, Old2025, Modern2025}
 use Rattle.rehearse_rules.specs.Needs.{effect_now}
 pub use Rattle.rehearse_rules.specs.Ending.{Ending, End, CutDevices, CutSteps, Unknown, Syntax, Unsupported, Size, Finished}
 use Rattle.rehearse_rules.specs.Parameters.{parameters_in}
-use Rattle.rehearse_rules.specs.ByShell.{unread, reads_again, leaves_in, status_of_exit, status_of_text, asks_in, question_in, truth_in, truth_if, fields_in, turns_in, skips_rest, status_of_nothing, status_of_no_block, status_of_loop, status_in_turn, status_of_for, status_of_skipped, follows, follows_turns, assigned_in, locals_in}
+use Rattle.rehearse_rules.specs.ByShell.{unread, reads_again, leaves_in, status_of_exit, left_status, status_of_text, asks_in, question_in, truth_in, truth_if, fields_in, turns_in, skips_rest, status_of_nothing, status_of_no_block, status_of_loop, status_in_turn, status_of_for, status_of_skipped, follows, follows_turns, assigned_in, locals_in}
 use Rattle.device_list.specs.DeviceList.{Effect, Devices}
 use Rattle.device_list.specs.Called.{Called, BuiltIn, NoCommand, Device, called_by, sets_in}
 use Rattle.commands.specs.BuiltInCommands.{ChangesVariables, WritesText, RunsTexts, Tests, Exits, variables_changed, text_written}
@@ -183,6 +184,25 @@ text_end shell (Exit s) next = elim (nat_eq s.memory.status 0) [ true ↦ next s
 text_end shell (Ended ending s) next = Ended ending s
 text_end shell (Dry s) next = Dry s
 
+-- an `exit` in a compound command has left that command
+abbrev pub compound_left : State → State
+compound_left s = set_status (left_status s.memory.status) s
+
+-- and what comes after the command follows
+abbrev pub compound_end : Answer → Answer
+compound_end (Normal s) = Normal s
+compound_end (Exit s) = Normal (compound_left s)
+compound_end (Ended ending s) = Ended ending s
+compound_end (Dry s) = Dry s
+
+-- what a compound command comes to, by what is in it: `exit` ends the text that is running, in the modern shell the innermost
+-- compound command alone
+abbrev pub compound : Shell → Answer → Answer
+compound Profile a = a
+compound Old2023 a = a
+compound Old2025 a = a
+compound Modern2025 a = compound_end a
+
 -- fields that hold too many bytes end the run
 abbrev pub sized : List Text → (List Text → State → Answer) → State → Answer
 sized fs next s = elim (nat_le (size fs) most_bytes) [ true ↦ next fs s | false ↦ Ended Size s ]
@@ -218,7 +238,7 @@ for_each shell name body last (f ∷ fs) s =
 -- the turns of a `for`, if they are followed
 abbrev pub turns_of : Shell → (name : Text) → (body : State → Answer) → List Text → State → Answer
 turns_of shell name body fs s = elim (follows_turns shell name fs) [
-  | true ↦ for_each shell name body 0 fs s
+  | true ↦ compound shell (for_each shell name body 0 fs s)
   | false ↦ Ended (Unsupported name) s
 ]
 
@@ -328,9 +348,9 @@ module _ (limits : Limits) where
           begin (λ t. sized (fields_in limits.shell (parameters_in t.memory) words)
           (simple (reads_again words) text) t) s
       exec_command (tree.Assign values) s = begin (assign limits.shell values) s
-      exec_command (tree.If arms) s = exec_arms arms s
+      exec_command (tree.If arms) s = compound limits.shell (exec_arms arms s)
       exec_command (tree.Loop until cond body) s =
-          turns limits.shell left until (exec_script cond) (exec_script body) 0 s
+          compound limits.shell (turns limits.shell left until (exec_script cond) (exec_script body) 0 s)
       exec_command (tree.For name words body) s =
           begin (λ t. for_words limits.shell name words (exec_script body) (for_begun limits.shell t)) s
 

@@ -5,15 +5,15 @@ use Rattle.rehearse_terms.specs.declared.shell.Shell.{Shell}
 use Rattle.rehearse_rules.specs.ByShell.{status_of_skipped}
 use Rattle.rehearse_rules.specs.Execution.{set_status}
 use Rattle.bootstore_state.specs.declared.frame.At.{At}
-use Rattle.rehearse_machine.specs.Places.{place, place_arms, drop_arms}
+use Rattle.rehearse_machine.specs.Places.{place, place_arms, drop_arms, under_block}
 use Rattle.rehearse_machine.proofs.ArmLemmas.{block_entered, next_arm, past_arms, not_zero}
 use Rattle.rehearse_machine.proofs.blocks.end_condition.Goals as goal
 
 pub returns-in-Some : goal.returns-in-Some
 returns-in-Some c limits fs s own e =
-    let at = ap (λ (x : At). place x.list (suc x.command) 0 0) c.at.ensures in
-    block_entered limits.shell c.args.arms.now (view.script_in c.args.other.now) c.args.arm c.args.frame.now fs c.behind.result s c.in-Some.field-0.now _ c.in-Some.ensures.lookup.3.0 c.in-Some.ensures.lookup.1
-    (ap (λ (x : ℕ). nat_eq x 0) (e ∙ c.if-status-eq0.true)) refl (c.behind.ensures ∙ at)
+    let at = ap (under_block c.args.shell) c.at.ensures ∙ ap (λ (x : Shell). under_block x c.args.frame.now.place) (sym own) in
+    block_entered limits.shell c.args.arms.now (view.script_in c.args.other.now) c.args.arm c.args.frame.now fs c.under_block.result s c.in-Some.field-0.now _ c.in-Some.ensures.lookup.3.0 c.in-Some.ensures.lookup.1
+    (ap (λ (x : ℕ). nat_eq x 0) (e ∙ c.if-status-eq0.true)) refl (c.under_block.ensures ∙ at)
 
 pub returns-in-Some-2 : goal.returns-in-Some-2
 returns-in-Some-2 c limits fs s own e =
@@ -29,4 +29,4 @@ returns-in-Some-2 c limits fs s own e =
 pub returns-in-None : goal.returns-in-None
 returns-in-None c limits fs s own e =
     let at = ap (λ (x : At). place x.list (suc x.command) 0 0) c.at-in-None.ensures in
-    past_arms limits.shell c.args.arms.now (view.script_in c.args.other.now) c.args.arm c.args.frame.now fs c.behind-in-None.result s c.in-None.ensures.lookup.3 (c.behind-in-None.ensures ∙ at)
+    past_arms limits.shell c.args.arms.now (view.script_in c.args.other.now) c.args.arm c.args.frame.now fs c.behind.result s c.in-None.ensures.lookup.3 (c.behind.ensures ∙ at)
