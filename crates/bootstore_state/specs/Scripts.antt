@@ -34,12 +34,12 @@ one_proof shell kept p q = λ i k d below. Coded-set (coded_option coded_script)
 abbrev pub text_found : TextFound → Option (Option Script)
 text_found found.Unset = None
 text_found found.NoScript = Some None
-text_found found.NoEnd = Some None
+text_found found.Faulty = Some None
 text_found (found.Script script) = Some (Some (script_shown script))
 
--- whether the text of a variable is no script since its end is missing; none if the variable is not set
-abbrev pub end_missing : TextFound → Option Bool
-end_missing found.Unset = None
-end_missing found.NoScript = Some false
-end_missing found.NoEnd = Some true
-end_missing (found.Script script) = Some false
+-- whether the text of a variable has a fault; none if the variable is not set
+abbrev pub fault_found : TextFound → Option Bool
+fault_found found.Unset = None
+fault_found found.NoScript = Some false
+fault_found found.Faulty = Some true
+fault_found (found.Script script) = Some false

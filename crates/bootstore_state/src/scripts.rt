@@ -2,14 +2,14 @@
 ghost use Rattle.std.specs.Prelude.{◌≡◌, ◌+◌, ◌≤◌, true, Some, None, IfOk, option_map};
 ghost use Rattle.std.specs.FinMap.{get};
 ghost use Rattle.hushlang.specs.TreesShown as view;
-ghost use Rattle.hushlang_shells.specs.TreesByShell.{lacks_end_in, tree_in};
-ghost use Rattle.bootstore_state.specs.Scripts.{AreOfTexts, end_missing, most_kept, one_proof, script_shown, text_found};
+ghost use Rattle.hushlang_shells.specs.TreesByShell.{has_fault_in, tree_in};
+ghost use Rattle.bootstore_state.specs.Scripts.{AreOfTexts, fault_found, most_kept, one_proof, script_shown, text_found};
 ghost use Rattle.bootstore_state.specs.Table.{variables_of};
 
 use crate::store::StoreError;
 use crate::table::Table;
 use hushlang::Script;
-use hushlang_shells::{read_text, text_lacks_end};
+use hushlang_shells::{read_text, text_has_fault};
 use rehearse_terms::Shell;
 use std::alloc::Global;
 use std::collections::BTreeMap;
@@ -25,8 +25,8 @@ pub enum TextFound {
     Unset,
     /// The shell cannot read the text, or what it does with it is not known.
     NoScript,
-    /// The shell cannot read the text, since its end is missing.
-    NoEnd,
+    /// The text has a fault, by which the shell runs nothing of it.
+    Faulty,
     /// The script of the text.
     Script(Rc<Script>),
 }
@@ -52,10 +52,10 @@ pub fn read_script(alloc: Global, shell: Shell, text: &[u8]) -> Result<Option<Sc
 /// What a text is that has no script. Errors: `Memory`.
 fn without_script(alloc: Global, shell: Shell, text: &[u8]) -> Result<TextFound, StoreError>
     ensures found { IfOk result (λ found. text_found found ≡ Some None) }
-    ensures ends { IfOk result (λ found. end_missing found ≡ Some (lacks_end_in shell text.now)) }
+    ensures ends { IfOk result (λ found. fault_found found ≡ Some (has_fault_in shell text.now)) }
 {
-    if text_lacks_end(alloc, shell, text)? {
-        Ok(TextFound::NoEnd)
+    if text_has_fault(alloc, shell, text)? {
+        Ok(TextFound::Faulty)
     } else {
         Ok(TextFound::NoScript)
     }
@@ -138,7 +138,7 @@ impl Scripts {
     }
 
     /// What the text of a variable is in this shell. Errors: `Memory`.
-    #[tactic(auto, using(hushlang_shells::proofs::TreeByShellLemmas::read_has_end))]
+    #[tactic(auto, using(hushlang_shells::proofs::TreeByShellLemmas::read_is_faultless))]
     pub fn text_of(
         &mut self,
         shell: Shell,
@@ -147,8 +147,8 @@ impl Scripts {
     ) -> Result<TextFound, StoreError>
         ensures found { IfOk result (λ found. text_found found
             ≡ option_map (tree_in shell) (get (variables_of variables.now) name.now)) }
-        ensures ends { IfOk result (λ found. end_missing found
-            ≡ option_map (lacks_end_in shell) (get (variables_of variables.now) name.now)) }
+        ensures ends { IfOk result (λ found. fault_found found
+            ≡ option_map (has_fault_in shell) (get (variables_of variables.now) name.now)) }
     {
         let Some(text) = variables.get(name) else {
             return Ok(TextFound::Unset);

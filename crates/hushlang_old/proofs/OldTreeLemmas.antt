@@ -6,7 +6,7 @@ use Rattle.hushlang.specs.declared.tree.Op.TheVariants.{And}
 use Rattle.hushlang_old.specs.Nests as nests
 use Rattle.hushlang_old.specs.Nests.{is_in, is_do}
 use Rattle.hushlang_old.specs.OldTokens.{FoundWord, Token, Word, Ends, Joins, old_tokens}
-use Rattle.hushlang_old.specs.OldTrees.{Building, nothing_built, is_open, part_in, drops_number, command_of, command_ended, joined_by, opened, needs_command, gone_to, goes_on, reserved_read, with_word, is_void, is_assignment, changes_shell, command_begun, reserved_in, first_word, is_constant_word, is_constant_with, begun_behind, further_word, command_word, name_in, named, word_at, word_of, list_separated, end_at, has_command, read_token, read_tokens, tree_in, tree_of_tokens, are_open, old_tree_of, lacks_end}
+use Rattle.hushlang_old.specs.OldTrees.{Building, nothing_built, is_open, part_in, drops_number, command_of, command_ended, joined_by, opened, needs_command, gone_to, goes_on, reserved_read, with_word, is_void, is_assignment, changes_shell, command_begun, reserved_in, first_word, is_constant_word, is_constant_with, begun_behind, further_word, command_word, name_in, named, word_at, word_of, list_separated, end_at, has_command, joined_in, read_token, read_tokens, tree_in, tree_behind, tree_of_tokens, is_fault, have_fault, tokens_have_fault, old_tree_of, has_fault}
 use Rattle.hushlang_old.specs.declared.part.Part.{Part}
 use Rattle.hushlang_old.specs.declared.part.Part.TheVariants as p
 use Rattle.hushlang_old.specs.declared.reserved.Reserved.{Reserved}
@@ -57,6 +57,10 @@ ended_words (word ∷ words) b h =
 
 command_ended_building : (b : Building) → IsBuilding b → IsBuilding (command_ended b)
 command_ended_building b h = ended_words b.words b h
+
+one_building : (x : Bool) (b c : Building) → IsBuilding b → IsBuilding c → IsBuilding (cond x b c)
+one_building true b c h k = h
+one_building false b c h k = k
 
 joined_building : (op : Op) (b : Building) → IsBuilding b → IsBuilding (joined_by op b)
 joined_building op b h = nesting.joined op (command_ended b).nest (command_ended_building b h)
@@ -138,7 +142,8 @@ token_by : (token : Token) (b : Building) → IsBuilding b → MayBe (read_token
 unfolding read_token
 token_by (Word w) b h = word_by (part_in b) w b h
 token_by Ends b h = end_by (part_in b) b h
-token_by (Joins op) b h = when_then (has_command b && not (nests.is_header (part_in b))) (Some (joined_by op b)) (joined_building op b h)
+token_by (Joins op) b h =
+    when_else (nests.is_header (part_in b)) (Some (joined_in op b)) (one_building (has_command b) (joined_by op b) b (joined_building op b h) h)
 
 next_by : (next : Option Building) (tokens : List Token) → ((b : Building) → IsBuilding b → MayBe (read_tokens tokens b)) → MayBe next → MayBe (elim next [ None ↦ None | Some b ↦ read_tokens tokens b ])
 next_by None tokens more h = tt
@@ -173,20 +178,28 @@ pub old_trees_are_proper : (newer : Bool) (text : List ℕ) (script : Script) �
 unfolding old_tree_of
 old_trees_are_proper newer text script e = subst IsTree e (text_by newer (old_tokens text))
 
--- ---- a text that has a tree has its end
+-- ---- a text that has a tree has no fault
 
 closed_by : (is : Bool) (tree script : Script) → cond is None (Some tree) ≡ Some script → is ≡ false
 closed_by false tree script e = refl
 closed_by true tree script e = absurd (let f = e in cc)
 
-built_closed : (built : Option Building) (script : Script) → elim built [ None ↦ None | Some b ↦ tree_in b ] ≡ Some script → elim built [ None ↦ false | Some b ↦ is_open b ] ≡ false
-built_closed None script e = refl
-built_closed (Some b) script e = closed_by (is_open b) (nests.script_in b.nest) script e
+abbrev read_next : Option Building → List Token → Option Building
+read_next next tokens = elim next [ None ↦ None | Some b ↦ read_tokens tokens b ]
 
-tokens_closed : (newer : Bool) (tokens : Option (List Token)) (script : Script) → elim tokens [ None ↦ None | Some ts ↦ tree_of_tokens newer ts ] ≡ Some script → elim tokens [ None ↦ false | Some ts ↦ are_open newer ts ] ≡ false
-tokens_closed newer None script e = refl
-tokens_closed newer (Some ts) script e = built_closed (read_tokens ts (nothing_built newer)) script e
+module _ (script : Script) where
+  next_faultless : (next : Option Building) (token : Token) (tokens : List Token) (b : Building) → ((c : Building) → tree_behind (read_tokens tokens c) ≡ Some script → have_fault tokens c ≡ false) → tree_behind (read_next next tokens) ≡ Some script → elim next [ None ↦ is_fault token b | Some c ↦ have_fault tokens c ] ≡ false
+  next_faultless None token tokens b more e = absurd (let f = e in cc)
+  next_faultless (Some c) token tokens b more e = more c e
 
-pub old_has_end : (newer : Bool) (text : List ℕ) (script : Script) → old_tree_of newer text ≡ Some script → lacks_end newer text ≡ false
-unfolding old_tree_of lacks_end
-old_has_end newer text script e = tokens_closed newer (old_tokens text) script e
+  faultless : (tokens : List Token) (b : Building) → tree_behind (read_tokens tokens b) ≡ Some script → have_fault tokens b ≡ false
+  faultless [] b e = closed_by (is_open b) (nests.script_in b.nest) script e
+  faultless (token ∷ tokens) b e = next_faultless (read_token token b) token tokens b (faultless tokens) e
+
+tokens_faultless : (newer : Bool) (tokens : Option (List Token)) (script : Script) → elim tokens [ None ↦ None | Some ts ↦ tree_of_tokens newer ts ] ≡ Some script → elim tokens [ None ↦ false | Some ts ↦ tokens_have_fault newer ts ] ≡ false
+tokens_faultless newer None script e = refl
+tokens_faultless newer (Some ts) script e = faultless script ts (nothing_built newer) e
+
+pub old_is_faultless : (newer : Bool) (text : List ℕ) (script : Script) → old_tree_of newer text ≡ Some script → has_fault newer text ≡ false
+unfolding old_tree_of has_fault
+old_is_faultless newer text script e = tokens_faultless newer (old_tokens text) script e

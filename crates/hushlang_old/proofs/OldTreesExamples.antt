@@ -1,12 +1,12 @@
 -- Worked examples of the texts that U-Boot's old shell reads, computed. A sandbox of U-Boot 2023.01 does with each what this
 -- says; the texts are among those that the comparison with it runs.
-use Rattle.std.proofs.Common.{◌≡◌, ℕ, true, false, List, [], ◌∷◌, ◌++◌, map, drop, refl, replicate, Some, None, is_some, Option}
+use Rattle.std.proofs.Common.{◌≡◌, ℕ, true, false, List, [], ◌∷◌, ◌++◌, map, refl, replicate, Some, None, is_some, Option}
 use Rattle.std.specs.Prelude.{codes}
 use Rattle.std.specs.List.{flat_map}
 use Rattle.hushlang.specs.Tree.{Script, Empty, Runs, Starts, Alone, Joins, Simple, Assign, If, Arm, Else, NoElse, Loop, For, Bytes, Mark, Var, Status, Word}
 use Rattle.hushlang.specs.Trees.{tree_of}
 use Rattle.hushlang.specs.Expansion.{atoms, fields}
-use Rattle.hushlang_old.specs.OldTrees.{old_tree_of, lacks_end}
+use Rattle.hushlang_old.specs.OldTrees.{old_tree_of, has_fault}
 
 abbrev Text : Type 0
 Text = List ℕ
@@ -29,7 +29,7 @@ alike text = (text, text)
 abbrev lists : List Pair
 lists =
     alike [] ∷ alike (codes "a b; c\nd") ∷ alike (codes "a && b || c; d") ∷ alike (codes "a # b;c\nd#e") ∷ alike (codes " \ta\t b ;; \n; c;")
-    ∷ (codes "a &&\nb || ; c", codes "a; b; c") ∷ (codes "if a; then b && fi", codes "if a; then b; fi") ∷ []
+    ∷ (codes "&& a || && b; || c && || d", codes "a || b; c && d") ∷ (codes "if || a; then && b; fi || && c", codes "if a; then b; fi || c") ∷ (codes "a &&\nb || ; c", codes "a; b; c") ∷ (codes "if a; then b && fi", codes "if a; then b; fi") ∷ []
 
 lists_read : by_shell lists ≡ by_profile lists
 unfolding old_tree_of tree_of
@@ -129,7 +129,7 @@ broken_words_refused = refl
 -- commands and assignments
 abbrev broken_commands : List Text
 broken_commands =
-    codes "&& a" ∷ codes "a && && b" ∷ codes "\"\" a" ∷ codes "x=$a load" ∷ codes "x=1 load $a" ∷ codes "x=1 load a $?" ∷ codes "HUSH_VERSION=1" ∷ codes "x=1 HUSH_NO_EVAL=1"
+    codes "\"\" a" ∷ codes "x=$a load" ∷ codes "x=1 load $a" ∷ codes "x=1 load a $?" ∷ codes "HUSH_VERSION=1" ∷ codes "x=1 HUSH_NO_EVAL=1"
     ∷ codes "in" ∷ codes "fi" ∷ codes "'done'" ∷ []
 
 broken_commands_refused : map (old_tree_of false) broken_commands ≡ nothing_of broken_commands
@@ -148,18 +148,21 @@ broken_compounds_refused : map (old_tree_of false) broken_compounds ≡ nothing_
 unfolding old_tree_of
 broken_compounds_refused = refl
 
--- a text whose end is missing; what is wrong before it is another fault, which is not told here
-abbrev without_end : List Text
-without_end =
-    codes "if a; then b" ∷ codes "if a" ∷ codes "if a; then b; else c # fi" ∷ codes "if a; then if b; then c; fi; d" ∷ codes "while a; do" ∷ codes "for x in a b" ∷ codes "for x in a; do b; done; until c\nd" ∷ []
+-- texts with a fault: their end is missing, or a word may not be where it is and a blank or a newline is behind it
+abbrev faulty : List Text
+faulty =
+    codes "if a; then b" ∷ codes "if a" ∷ codes "if a; then b; else c # fi" ∷ codes "if a; then if b; then c; fi; d" ∷ codes "while a; do" ∷ codes "for x in a b" ∷ codes "for x in a; do b; done; until c\nd" ∷ codes "if a && "
+    ∷ codes "fi" ∷ codes "a; \"done\" b; c" ∷ codes "a\nthen\tb" ∷ codes "if a; fi" ∷ codes "if a; then b; else c; elif d; then e; fi" ∷ codes "while a; then b; done" ∷ codes "for x in a; do b; fi" ∷ codes "if a; then b; fi fi" ∷ codes "if a; then b; fi c # d"
+    ∷ codes "for fi in a; do b; done" ∷ codes "for x in if a; do b; done" ∷ []
 
-abbrev with_end : List Text
-with_end =
-    codes "" ∷ codes "a; b" ∷ codes "if a; then b; fi" ∷ codes "fi" ∷ codes "'a" ∷ codes "if 'a" ∷ codes "if a; then b; fi fi" ∷ codes "if a; b; fi; if c" ∷ codes "for" ∷ codes "for x" ∷ codes "if ${a:-b}; then" ∷ codes "if a && " ∷ []
+-- texts without one, and those of which it is not known
+abbrev faultless : List Text
+faultless =
+    codes "" ∷ codes "a; b" ∷ codes "if a; then b; fi" ∷ codes "'a" ∷ codes "if 'a" ∷ codes "if a; b; fi; if c" ∷ codes "fi; a" ∷ codes "fi&&a" ∷ codes "if a; then b; fi c;" ∷ codes "for" ∷ codes "for x" ∷ codes "if ${a:-b}; then" ∷ codes "if; then b fi" ∷ codes "\\fi" ∷ codes "a fi" ∷ codes "for x a" ∷ codes "for x in a; b" ∷ []
 
-ends_missing : map (lacks_end false) without_end ++ map (lacks_end false) with_end ≡ map (λ text. true) without_end ++ map (λ text. false) (drop 1 with_end) ++ true ∷ []
-unfolding lacks_end
-ends_missing = refl
+faults : map (has_fault false) (faulty ++ faultless) ≡ map (λ text. true) faulty ++ map (λ text. false) faultless
+unfolding has_fault
+faults = refl
 
 -- compound commands are nested 64 deep, and no deeper
 abbrev nested : ℕ → Text
@@ -169,10 +172,10 @@ nesting : map is_some (old_tree_of false (nested 64) ∷ old_tree_of false (nest
 unfolding old_tree_of
 nesting = refl
 
--- a text that ends within them lacks its end; one that is not followed does not
+-- a text that ends within them has a fault; one that is not followed has none
 abbrev not_ended : ℕ → Text
 not_ended levels = flat_map {X = ℕ} (λ level. codes "if ") (replicate levels 0)
 
-nesting_not_ended : map (λ text. lacks_end false text) (not_ended 64 ∷ not_ended 65 ∷ []) ≡ true ∷ false ∷ []
-unfolding lacks_end
+nesting_not_ended : map (λ text. has_fault false text) (not_ended 64 ∷ not_ended 65 ∷ []) ≡ true ∷ false ∷ []
+unfolding has_fault
 nesting_not_ended = refl

@@ -13,12 +13,13 @@ use Rattle.hushlang_old.specs.Gathered as gathered
 use Rattle.hushlang_old.specs.Gathered.{Gathered}
 use Rattle.hushlang_old.specs.OldFields.{has_bytes, is_newline, is_space_or_tab}
 
--- a word: its pieces, none of which is quotes; whether it has quotes; and whether it has a backslash, which keeps it from
--- being reserved
+-- a word: its pieces, none of which is quotes; whether it has quotes; whether it has a backslash, which keeps it from being
+-- reserved; and whether a blank or a newline is behind it, and no `;` or operator
 pub record FoundWord : Type 0 where
   pub pieces : List Piece
   pub quoted : Bool
   pub escaped : Bool
+  pub apart : Bool
 
 pub data Token : Type 0 where
   Word : (word : FoundWord) → Token
@@ -70,18 +71,18 @@ with_byte byte r = record r { word = gathered.with_byte byte r.word }
 abbrev pub with_piece : Piece → Reading → Reading
 with_piece piece r = record r { word = gathered.with_piece piece r.word }
 
-abbrev pub found : Reading → List Token
-found r =
+abbrev pub found : (apart : Bool) → Reading → List Token
+found apart r =
     if r.quoted || gathered.has_read r.word
-    then Word (record { pieces = gathered.all_pieces r.word; quoted = r.quoted; escaped = r.escaped }) ∷ [] else []
+    then Word (record { pieces = gathered.all_pieces r.word; quoted = r.quoted; escaped = r.escaped; apart = apart }) ∷ [] else []
 
 -- the word on the way ends (`done_word`)
-abbrev pub word_ended : Reading → Reading
-word_ended r = record r { tokens = r.tokens ++ found r; word = gathered.nothing; quoted = false; escaped = false }
+abbrev pub word_ended : (apart : Bool) → Reading → Reading
+word_ended apart r = record r { tokens = r.tokens ++ found apart r; word = gathered.nothing; quoted = false; escaped = false }
 
 -- a token that is no word
-abbrev pub with_token : Token → Reading → Reading
-with_token token r = record (word_ended r) { tokens = (r.tokens ++ found r) ++ token ∷ [] }
+abbrev pub with_token : (apart : Bool) → Token → Reading → Reading
+with_token apart token r = record (word_ended apart r) { tokens = (r.tokens ++ found apart r) ++ token ∷ [] }
 
 -- ---- the classes of bytes
 
@@ -103,10 +104,10 @@ ends_list byte = is_newline byte || byte == ascii.semicolon
 -- a byte outside all quotes that is neither a quote, a backslash nor `$`
 abbrev pub read_bare : ℕ → Reading → Reading
 read_bare byte r =
-    if ends_list byte then with_token Ends r
-    else (if is_space_or_tab byte then word_ended r
-    else (if byte == ascii.ampersand then at_place (Joint And) (word_ended r)
-    else (if byte == ascii.bar then at_place (Joint Or) (word_ended r)
+    if ends_list byte then with_token (is_newline byte) Ends r
+    else (if is_space_or_tab byte then word_ended true r
+    else (if byte == ascii.ampersand then at_place (Joint And) (word_ended false r)
+    else (if byte == ascii.bar then at_place (Joint Or) (word_ended false r)
     else (if byte == ascii.hash && not (gathered.has_read r.word) then at_place Comment r
     else with_byte byte r))))
 
@@ -160,14 +161,14 @@ read_brace name byte r =
     else at_place (if is_brace_byte byte then Brace (name ++ byte ∷ []) else Refused) r
 
 abbrev pub read_comment : ℕ → Reading → Reading
-read_comment byte r = if is_newline byte then with_token Ends (at_place Open r) else r
+read_comment byte r = if is_newline byte then with_token true Ends (at_place Open r) else r
 
 abbrev pub sign_of : Op → ℕ
 sign_of And = ascii.ampersand
 sign_of Or = ascii.bar
 
 abbrev pub read_joint : Op → ℕ → Reading → Reading
-read_joint op byte r = if byte == sign_of op then with_token (Joins op) (at_place Open r) else at_place Refused r
+read_joint op byte r = if byte == sign_of op then with_token false (Joins op) (at_place Open r) else at_place Refused r
 
 abbrev pub read_at : Place → ℕ → Reading → Reading
 read_at Open byte r = read_open byte r
@@ -195,7 +196,7 @@ tokens_read Open false tokens = Some tokens
 tokens_read place double tokens = None
 
 abbrev pub tokens_in : Reading → Option (List Token)
-tokens_in r = tokens_read r.place r.double (r.tokens ++ found r ++ Ends ∷ [])
+tokens_in r = tokens_read r.place r.double (r.tokens ++ found true r ++ Ends ∷ [])
 
 -- a newline is added at the end of a text (`parse_string_outer`)
 abbrev pub tokens_behind : (text : List ℕ) → Reading → Option (List Token)

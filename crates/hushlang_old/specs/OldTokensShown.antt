@@ -13,7 +13,7 @@ use Rattle.hushlang_old.specs.declared.old_tokens.Place.TheVariants as places
 use Rattle.hushlang_old.specs.declared.old_tokens.TextReading.{TextReading}
 
 abbrev pub word : FoundWord → says.FoundWord
-word w = record { pieces = map view.piece w.pieces.items; quoted = w.quoted; escaped = w.escaped }
+word w = record { pieces = map view.piece w.pieces.items; quoted = w.quoted; escaped = w.escaped; apart = w.apart }
 
 abbrev pub token : Token → says.Token
 token (code.Word w) = says.Word (word w)

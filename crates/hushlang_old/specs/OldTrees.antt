@@ -1,7 +1,7 @@
 -- The tree of a text as U-Boot's old shell reads it (common/cli_hush.c, `reserved_word`, `done_command`, `done_pipe`), token by
 -- token. A block without a command has one without words: it does nothing and keeps the status. A text that has a
--- construct that is not followed here has no tree: a fault; a condition without a command; an operator without a command before
--- it; a word straight behind a compound command; `then` straight before `elif`; an assignment before a command
+-- construct that is not followed here has no tree: a fault; a condition without a command; a word straight behind a compound
+-- command; `then` straight before `elif`; an assignment before a command
 -- where either has a variable; and the names `HUSH_VERSION` and `HUSH_NO_EVAL`, by which the shell changes. 2023.01 and 2025.01
 -- read the same; but what `exit` does in 2025.01 depends on where it stands, and that is in its tree.
 use Rattle.std.specs.Prelude.{ℕ, ◌==◌, Bool, true, false, not, ◌&&◌, ◌||◌, List, [], ◌∷◌, ◌++◌, map, take, drop, if◌then◌else◌, Option, Some, None, is_some, unwrap_or, codes, bytes_eq}
@@ -255,8 +255,12 @@ end_at part b = Some (list_separated b)
 abbrev pub has_command : Building → Bool
 has_command b = b.closed || elim b.words [ [] ↦ false | w ∷ words ↦ true ]
 
+-- behind no command an operator does nothing
+abbrev pub joined_in : Op → Building → Building
+joined_in op b = if has_command b then joined_by op b else b
+
 abbrev pub join_in : Op → Building → Option Building
-join_in op b = if has_command b && not (nests.is_header (part_in b)) then Some (joined_by op b) else None
+join_in op b = if nests.is_header (part_in b) then None else Some (joined_in op b)
 
 unfoldable pub read_token : Token → Building → Option Building
 read_token (Word w) b = word_at (part_in b) w b
@@ -284,13 +288,52 @@ unfoldable pub old_tree_of : (newer : Bool) → (text : List ℕ) → Option Scr
 unfolding old_tokens read read_open word_of_if word_of_loop reserved_bytes assignment read_token
 old_tree_of newer text = elim (old_tokens text) [ None ↦ None | Some tokens ↦ tree_of_tokens newer tokens ]
 
--- whether the text ends in a compound command that is open
-abbrev pub is_open_behind : Option Building → Bool
-is_open_behind built = elim built [ None ↦ false | Some b ↦ is_open b ]
+-- ---- faults
 
-abbrev pub are_open : (newer : Bool) → List Token → Bool
-are_open newer tokens = is_open_behind (read_tokens tokens (nothing_built newer))
+-- whether a reserved word may not be in this part of a compound command (`reserved_word`, its `syntax`)
+abbrev pub strays : Part → Reserved → Bool
+strays p.Condition r.Then = false
+strays (p.Arm further) r.Elif = false
+strays (p.Arm further) r.Else = false
+strays (p.Arm further) r.Fi = false
+strays p.Else r.Fi = false
+strays p.Test r.Do = false
+strays p.Body r.Done = false
+strays p.Each r.Done = false
+strays part word = not (nests.begins word)
 
-unfoldable pub lacks_end : (newer : Bool) → (text : List ℕ) → Bool
+abbrev pub is_stray : Part → Option Reserved → Bool
+is_stray part None = false
+is_stray part (Some word) = strays part word
+
+abbrev pub lacks_words : Building → Bool
+lacks_words b = elim b.words [ [] ↦ true | word ∷ words ↦ false ]
+
+-- a word that is a fault: any straight behind a compound command; and a reserved word that may not be there, is the name of a
+-- `for`, or is the first of its words
+abbrev pub is_wrong : Part → FoundWord → Building → Bool
+is_wrong p.Name w b = is_some (reserved_in w)
+is_wrong p.In w b = false
+is_wrong p.Words w b = lacks_words b && is_some (reserved_in w)
+is_wrong p.Do w b = false
+is_wrong part w b = b.closed || lacks_words b && is_stray part (reserved_in w)
+
+-- whether a token that is not followed is a fault. One straight in front of a `;` or an operator is told, and then the shell reads
+-- on (`parse_stream`), which is not followed
+abbrev pub is_fault : Token → Building → Bool
+is_fault (Word w) b = w.apart && is_wrong (part_in b) w b
+is_fault Ends b = false
+is_fault (Joins op) b = false
+
+-- whether the first token that is not followed is a fault; or if there is none, whether a compound command is open at the end
+abbrev pub have_fault : List Token → Building → Bool
+have_fault [] b = is_open b
+have_fault (token ∷ tokens) b = elim (read_token token b) [ None ↦ is_fault token b | Some next ↦ have_fault tokens next ]
+
+abbrev pub tokens_have_fault : (newer : Bool) → List Token → Bool
+tokens_have_fault newer tokens = have_fault tokens (nothing_built newer)
+
+-- whether a text that `run` starts has a fault: nothing of it is run
+unfoldable pub has_fault : (newer : Bool) → (text : List ℕ) → Bool
 unfolding old_tokens read read_open word_of_if word_of_loop reserved_bytes assignment read_token
-lacks_end newer text = elim (old_tokens text) [ None ↦ false | Some tokens ↦ are_open newer tokens ]
+has_fault newer text = elim (old_tokens text) [ None ↦ false | Some tokens ↦ tokens_have_fault newer tokens ]

@@ -249,14 +249,37 @@ impl Building {
         ensures { IfOk result (λ followed. says.join_in op (shown.building self.old)
             ≡ shown.when followed (shown.building self.new)) }
     {
-        if !self.closed && self.words.is_empty() {
-            return Ok(false);
-        }
         if is_header(self.nest.part()) {
             return Ok(false);
         }
-        self.join_by(op)?;
+        if self.closed || !self.words.is_empty() {
+            self.join_by(op)?;
+        }
         Ok(true)
+    }
+
+    /// Whether a word is a fault.
+    fn is_wrong(&self, word: &FoundWord) -> bool
+        ensures { result ≡ says.is_wrong (says.part_in (shown.building self.now))
+            (tokens.word word.now) (shown.building self.now) }
+    {
+        let part = self.nest.part();
+        match part {
+            Part::Name => reserved_in(word).is_some(),
+            Part::Words => self.words.is_empty() && reserved_in(word).is_some(),
+            Part::In | Part::Do => false,
+            _ => self.closed || (self.words.is_empty() && is_stray(part, reserved_in(word))),
+        }
+    }
+
+    /// Whether a token that is not followed is a fault.
+    pub(crate) fn is_fault(&self, token: &Token) -> bool
+        ensures { result ≡ says.is_fault (tokens.token token.now) (shown.building self.now) }
+    {
+        match token {
+            Token::Word(word) => word.apart && self.is_wrong(word),
+            Token::Ends | Token::Joins(_) => false,
+        }
     }
 
     /// The and-or list on the way ends at a separator.
@@ -332,6 +355,30 @@ fn needs_command(part: Part, word: Reserved, separated: bool) -> bool
         (Part::Arm(_), Reserved::Elif) => !separated,
         (Part::Test, Reserved::Do) => true,
         _ => false,
+    }
+}
+
+/// Whether a reserved word may not be in this part of a compound command.
+fn strays(part: Part, word: Reserved) -> bool
+    ensures { result ≡ says.strays part word }
+{
+    match (part, word) {
+        (Part::Condition, Reserved::Then) => false,
+        (Part::Arm(_), Reserved::Elif | Reserved::Else | Reserved::Fi) => false,
+        (Part::Else, Reserved::Fi) => false,
+        (Part::Test, Reserved::Do) => false,
+        (Part::Body | Part::Each, Reserved::Done) => false,
+        _ => !begins(word),
+    }
+}
+
+/// Whether a word is a reserved one that may not be in this part of a compound command.
+fn is_stray(part: Part, word: Option<Reserved>) -> bool
+    ensures { result ≡ says.is_stray part word }
+{
+    match word {
+        Some(word) => strays(part, word),
+        None => false,
     }
 }
 

@@ -9,12 +9,14 @@ use hushlang::{Op, Piece};
 use std::alloc::{AllocError, Global};
 use std::mem;
 
-/// A word: its pieces, none of which is quotes; whether it has quotes; and whether it has a backslash.
+/// A word: its pieces, none of which is quotes; whether it has quotes; whether it has a backslash; and
+/// whether a blank or a newline is behind it.
 #[derive(Drop)]
 pub(crate) struct FoundWord {
     pub(crate) pieces: Vec<Piece>,
     pub(crate) quoted: bool,
     pub(crate) escaped: bool,
+    pub(crate) apart: bool,
 }
 
 /// A token.
@@ -134,10 +136,10 @@ impl TextReading {
         }
     }
 
-    /// Ends the word on the way.
-    fn end_word(&mut self) -> Result<(), AllocError>
+    /// Ends the word on the way. `apart` says whether a blank or a newline is behind it.
+    fn end_word(&mut self, apart: bool) -> Result<(), AllocError>
         ensures { OnOk result
-            (shown.reading self.new ≡ says.word_ended (shown.reading self.old)) }
+            (shown.reading self.new ≡ says.word_ended apart (shown.reading self.old)) }
     {
         let found = self.quoted || self.word.has_read();
         let pieces = self.word.take()?;
@@ -146,6 +148,7 @@ impl TextReading {
                 pieces,
                 quoted: self.quoted,
                 escaped: self.escaped,
+                apart,
             }))?;
         }
         self.quoted = false;
@@ -154,11 +157,11 @@ impl TextReading {
     }
 
     /// Ends the word on the way, and adds a token that is no word.
-    fn push_token(&mut self, token: Token) -> Result<(), AllocError>
+    fn push_token(&mut self, apart: bool, token: Token) -> Result<(), AllocError>
         ensures { OnOk result (shown.reading self.new
-            ≡ says.with_token (shown.token token) (shown.reading self.old)) }
+            ≡ says.with_token apart (shown.token token) (shown.reading self.old)) }
     {
-        self.end_word()?;
+        self.end_word(apart)?;
         self.tokens.push(token)?;
         Ok(())
     }
@@ -169,18 +172,18 @@ impl TextReading {
             (shown.reading self.new ≡ says.read_bare byte (shown.reading self.old)) }
     {
         if byte == b'\n' || byte == b';' {
-            return self.push_token(Token::Ends);
+            return self.push_token(byte == b'\n', Token::Ends);
         }
         if byte == b' ' || byte == b'\t' {
-            return self.end_word();
+            return self.end_word(true);
         }
         if byte == b'&' {
-            self.end_word()?;
+            self.end_word(false)?;
             self.place = Place::Joint(Op::And);
             return Ok(());
         }
         if byte == b'|' {
-            self.end_word()?;
+            self.end_word(false)?;
             self.place = Place::Joint(Op::Or);
             return Ok(());
         }
@@ -341,7 +344,7 @@ impl TextReading {
     {
         if byte == b'\n' {
             self.place = Place::Open;
-            return self.push_token(Token::Ends);
+            return self.push_token(true, Token::Ends);
         }
         Ok(())
     }
@@ -353,7 +356,7 @@ impl TextReading {
     {
         if byte == sign_of(op) {
             self.place = Place::Open;
-            return self.push_token(Token::Joins(op));
+            return self.push_token(false, Token::Joins(op));
         }
         self.place = Place::Refused;
         Ok(())
@@ -399,7 +402,7 @@ impl TextReading {
         let Place::Open = self.place else {
             return Ok(None);
         };
-        self.push_token(Token::Ends)?;
+        self.push_token(true, Token::Ends)?;
         Ok(Some(mem::replace(&mut self.tokens, Vec::new(self.alloc))))
     }
 

@@ -2,7 +2,7 @@
 use Rattle.std.specs.Prelude.{ℕ, List, Bool, true, false, Option, Some, None}
 use Rattle.hushlang.specs.Tree.{Script}
 use Rattle.hushlang.specs.Trees.{tree_of}
-use Rattle.hushlang_old.specs.OldTrees.{old_tree_of, lacks_end}
+use Rattle.hushlang_old.specs.OldTrees.{old_tree_of, has_fault}
 use Rattle.hushlang_modern.specs.ModernTrees.{ModernText, Read, Unread, modern_text}
 use Rattle.hushlang_modern.specs.declared.stop.Stop.TheVariants.{Fails, Panics, Unsupported}
 use Rattle.rehearse_terms.specs.declared.shell.Shell.{Shell}
@@ -27,10 +27,10 @@ tree_in Old2023 text = old_tree_of false text
 tree_in Old2025 text = old_tree_of true text
 tree_in Modern2025 text = tree_read (modern_text text)
 
--- whether a text has no tree since its end is missing. To U-Boot's shells that is a fault (`parse_stream_outer`, `syntax`; in the
--- modern one `parse_stream`, also if a name in braces has a byte that is in no name): nothing of the text is run, and its status is 1
-abbrev pub lacks_end_in : Shell → List ℕ → Bool
-lacks_end_in Profile text = false
-lacks_end_in Old2023 text = lacks_end false text
-lacks_end_in Old2025 text = lacks_end true text
-lacks_end_in Modern2025 text = has_failed (modern_text text)
+-- whether a text has a fault to U-Boot's shells, as one without its end has (`parse_stream_outer`, `syntax`; in the modern one
+-- `parse_stream`): if `run` starts it, nothing of it is run, and its status is 1
+abbrev pub has_fault_in : Shell → List ℕ → Bool
+has_fault_in Profile text = false
+has_fault_in Old2023 text = has_fault false text
+has_fault_in Old2025 text = has_fault true text
+has_fault_in Modern2025 text = has_failed (modern_text text)

@@ -3,4 +3,4 @@
 
 mod trees_by_shell;
 
-pub use trees_by_shell::{read_text, text_lacks_end};
+pub use trees_by_shell::{read_text, text_has_fault};

@@ -3,11 +3,11 @@ ghost use Rattle.std.specs.Prelude.{◌≡◌, IfOk, option_map};
 ghost use Rattle.hushlang.specs.TreesShown as view;
 ghost use Rattle.hushlang.specs.Trees.{tree_of};
 ghost use Rattle.hushlang_modern.specs.ModernTrees.{modern_text};
-ghost use Rattle.hushlang_shells.specs.TreesByShell.{has_failed, lacks_end_in, tree_in, tree_read};
+ghost use Rattle.hushlang_shells.specs.TreesByShell.{has_failed, has_fault_in, tree_in, tree_read};
 
 use hushlang::{Script, SyntaxError, parse};
 use hushlang_modern::{ModernText, Stop, read_modern};
-use hushlang_old::{lacks_end, read_old};
+use hushlang_old::{has_fault, read_old};
 use rehearse_terms::Shell;
 use std::alloc::{AllocError, Global};
 
@@ -56,15 +56,15 @@ pub fn read_text(alloc: Global, shell: Shell, text: &[u8]) -> Result<Option<Scri
     }
 }
 
-/// Whether a text has no tree since its end is missing, and the shell takes that for a fault. Errors:
+/// Whether a text that `run` starts has a fault to the shell, by which nothing of it is run. Errors:
 /// memory ran out.
-pub fn text_lacks_end(alloc: Global, shell: Shell, text: &[u8]) -> Result<bool, AllocError>
-    ensures { IfOk result (λ lacks. lacks ≡ lacks_end_in shell text.now) }
+pub fn text_has_fault(alloc: Global, shell: Shell, text: &[u8]) -> Result<bool, AllocError>
+    ensures { IfOk result (λ lacks. lacks ≡ has_fault_in shell text.now) }
 {
     match shell {
         Shell::Profile => Ok(false),
-        Shell::Old2023 => lacks_end(alloc, false, text),
-        Shell::Old2025 => lacks_end(alloc, true, text),
+        Shell::Old2023 => has_fault(alloc, false, text),
+        Shell::Old2025 => has_fault(alloc, true, text),
         Shell::Modern2025 => fails_in_modern(alloc, text),
     }
 }

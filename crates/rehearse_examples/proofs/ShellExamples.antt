@@ -107,14 +107,19 @@ file_in_front_of_a_word : listed (bootcmd (record (limits only_load 2 10000) { s
 unfolding listed
 file_in_front_of_a_word = refl
 
--- a text of `run` whose end is missing has the status 1, and nothing of it is run
+-- a text of `run` with a fault has the status 1, and nothing of it is run
 text_without_end : in_each (codes "setenv t 'echo b; if true; then echo a'; run t; echo $?; run t || echo c") ≡ ([], Syntax (codes "t")) ∷ (codes "1\nc\n", End 0) ∷ (codes "1\nc\n", End 0) ∷ []
 unfolding told_of
 text_without_end = refl
 
-other_fault_of_a_text : in_each (codes "setenv t 'echo b; fi'; run t") ≡ ([], Syntax (codes "t")) ∷ ([], Unsupported (codes "t")) ∷ ([], Unsupported (codes "t")) ∷ []
+other_fault_of_a_text : in_each (codes "setenv t 'echo b; fi'; run t") ≡ ([], Syntax (codes "t")) ∷ ([], End 1) ∷ ([], End 1) ∷ []
 unfolding told_of
 other_fault_of_a_text = refl
+
+-- one before a `;` is not followed
+fault_before_a_semicolon : in_each (codes "setenv t 'fi; echo b'; run t") ≡ ([], Syntax (codes "t")) ∷ ([], Unsupported (codes "t")) ∷ ([], Unsupported (codes "t")) ∷ []
+unfolding told_of
+fault_before_a_semicolon = refl
 
 -- a text that is not read ends the run before it acts
 unread_text : in_each (codes "if true; then") ≡ ([], Syntax (codes "bootcmd")) ∷ ([], Unsupported (codes "bootcmd")) ∷ ([], Unsupported (codes "bootcmd")) ∷ []

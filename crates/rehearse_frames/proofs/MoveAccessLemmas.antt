@@ -4,7 +4,7 @@ use Rattle.device_list.specs.declared.finish.BoardEnd.{BoardEnd}
 use Rattle.hushlang.specs.Tree as tree
 use Rattle.hushlang.specs.Tree.{Script, AndOr, Joined, Command, Arms, IsProper, IsProperCommand, HoldsCommand}
 use Rattle.hushlang.specs.Expansion.{size, most_bytes}
-use Rattle.hushlang_shells.specs.TreesByShell.{tree_in, lacks_end_in}
+use Rattle.hushlang_shells.specs.TreesByShell.{tree_in, has_fault_in}
 use Rattle.hushlang_shells.proofs.TreeByShellLemmas.{trees_in_are_proper}
 use Rattle.builtins.specs.Builtins.{Builtin, SetEnv, Run, Test, Echo, True, False, Leave, builtin_of}
 use Rattle.commands.specs.Computed.{Computed}
@@ -168,7 +168,7 @@ module _ (limits : Limits) (wanted : List Text) (w : OutcomeWord) where
       ≡ (elim o [ None ↦ status_written | Some v ↦ started_accesses limits (full limits) (of_full limits) v (with w s) ++ behind_text (started_text limits (full limits) name v (with w s)) (of_names limits names) ])
       ++ Rest fs (elim o [ None ↦ Normal (set_status 1 (with w s)) | Some v ↦ text_end limits.shell (started_text limits (full limits) name v (with w s)) (run_all limits (full limits) names) ])
   text_so None name names fs s = refl
-  text_so (Some v) name names fs s = started_so (lacks_end_in limits.shell v) v name names fs s
+  text_so (Some v) name names fs s = started_so (has_fault_in limits.shell v) v name names fs s
 
   names_so : (names : List Text) (fs : List Frame) (s : State) → of_beginning_names limits.shell names s ++ After (begin_names limits.shell names fs s) ≡ of_names limits names (with w s) ++ Rest fs (run_all limits (full limits) names (with w s))
   names_so [] fs s = refl

@@ -4,7 +4,7 @@ use Rattle.device_list.specs.declared.finish.BoardEnd.{BoardEnd}
 use Rattle.hushlang.specs.Tree as tree
 use Rattle.hushlang.specs.Tree.{Script, Command, Arms}
 use Rattle.hushlang.specs.Expansion.{size, most_bytes}
-use Rattle.hushlang_shells.specs.TreesByShell.{tree_in, lacks_end_in}
+use Rattle.hushlang_shells.specs.TreesByShell.{tree_in, has_fault_in}
 use Rattle.builtins.specs.Builtins.{Builtin, SetEnv, Run, Test, Echo, True, False, Leave, builtin_of}
 use Rattle.commands.specs.Computed.{Computed}
 use Rattle.commands.specs.BuiltInCommands.{ChangesVariables, carried, deed_of, variables_changed, text_written, echo, setenv}
@@ -257,7 +257,7 @@ module _ (limits : Limits) (i j : ℕ) (k l : List LoggedCommand) where
 
   begins_text : (shell : Shell) (text : Option Text) (name : Text) (names : List Text) (fs : List Frame) → Moves (begin_text shell text name names fs) (λ s. of_beginning_text shell text)
   begins_text shell None name names fs known s t near w = sets_status 1 fs known s t near w
-  begins_text shell (Some text) name names fs known s t near w = by (lacks_end_in shell text) w
+  begins_text shell (Some text) name names fs known s t near w = by (has_fault_in shell text) w
     where
       by : (b : Bool) → ReadsWithin known (elim b [ true ↦ Writes Status ∷ Reads Status ∷ [] | false ↦ of_beginning_tree (tree_in shell text) ])
           → NextAlike (known_after known (elim b [ true ↦ Writes Status ∷ Reads Status ∷ [] | false ↦ of_beginning_tree (tree_in shell text) ]))

@@ -3,7 +3,7 @@ use Rattle.std.proofs.Common.{◌≡◌, ◌∙◌, refl, sym, ap, ℕ, zero, su
 use Rattle.hushlang.specs.Tree as tree
 use Rattle.hushlang.specs.Tree.{Script, AndOr, Joined, Command, Arms, IsProper, IsProperList, IsProperJoined, IsProperCommand, AreProperArms, HoldsCommand}
 use Rattle.hushlang.specs.Expansion.{size, most_bytes}
-use Rattle.hushlang_shells.specs.TreesByShell.{tree_in, lacks_end_in}
+use Rattle.hushlang_shells.specs.TreesByShell.{tree_in, has_fault_in}
 use Rattle.hushlang_shells.proofs.TreeByShellLemmas.{trees_in_are_proper}
 use Rattle.builtins.specs.Builtins.{Builtin, SetEnv, Run, Test, Echo, True, False, Leave, builtin_of}
 use Rattle.commands.specs.Computed.{Computed}
@@ -66,7 +66,7 @@ module _ (limits : Limits) where
     tree_answers (Some (tree.Runs l ls)) name p t h = same (tree.Runs l ls) (p (tree.Runs l ls) refl) t h
 
     started_answers : (name v : Text) (t : State) → limits.step_bound < n + t.steps → started_text limits text name v t ≡ started_text limits text' name v t
-    started_answers name v t h = same_if (lacks_end_in limits.shell v) (Normal (set_status 1 t)) (run_text limits text name v t) (Normal (set_status 1 t)) (run_text limits text' name v t) refl (tree_answers (tree_in limits.shell v) name (trees_in_are_proper limits.shell v) t h)
+    started_answers name v t h = same_if (has_fault_in limits.shell v) (Normal (set_status 1 t)) (run_text limits text name v t) (Normal (set_status 1 t)) (run_text limits text' name v t) refl (tree_answers (tree_in limits.shell v) name (trees_in_are_proper limits.shell v) t h)
 
     -- ---- texts
 
@@ -77,7 +77,7 @@ module _ (limits : Limits) where
     tree_same (Some (tree.Runs l ls)) p t h = same_u (tree.Runs l ls) (p (tree.Runs l ls) refl) t h
 
     started_same : (v : Text) (t : State) → limits.step_bound < n + t.steps → started_accesses limits text u v t ≡ started_accesses limits text' u' v t
-    started_same v t h = either (lacks_end_in limits.shell v) status_written (text_accesses limits text u v t) status_written (text_accesses limits text' u' v t) refl (tree_same (tree_in limits.shell v) (trees_in_are_proper limits.shell v) t h)
+    started_same v t h = either (has_fault_in limits.shell v) status_written (text_accesses limits text u v t) status_written (text_accesses limits text' u' v t) refl (tree_same (tree_in limits.shell v) (trees_in_are_proper limits.shell v) t h)
 
     named_same : (o : Option Text) (name : Text) (f g : State → List Access) (t : State) → limits.step_bound < n + t.steps → ((x : State) → t.steps ≤ x.steps → f x ≡ g x)
         → ◌≡◌ {A = List Access} (elim o [ None ↦ status_written | Some v ↦ started_accesses limits text u v t ++ behind_text (started_text limits text name v t) f ])

@@ -3,7 +3,7 @@
 use Rattle.std.specs.Prelude.{ℕ, nat_lt, nat_eq, Bool, true, false, List, [], ◌∷◌, ◌++◌, length, Option, Some, None}
 use Rattle.hushlang.specs.Tree as tree
 use Rattle.hushlang.specs.Tree.{Script, Command, Arms}
-use Rattle.hushlang_shells.specs.TreesByShell.{tree_in, lacks_end_in}
+use Rattle.hushlang_shells.specs.TreesByShell.{tree_in, has_fault_in}
 use Rattle.builtins.specs.Builtins.{Builtin, SetEnv, Run, Test, Echo, True, False, Leave, builtin_of}
 use Rattle.device_list.specs.DeviceList.{Effect, effect_of, computed_by}
 use Rattle.rehearse_terms.specs.State.{Text, get, State}
@@ -73,11 +73,11 @@ of_beginning_tree None = []
 of_beginning_tree (Some tree.Empty) = status_written
 of_beginning_tree (Some (tree.Runs list more)) = []
 
--- a text whose end is missing sets the status, and its `run` ends by it
+-- a text with a fault sets the status, and its `run` ends by it
 abbrev pub of_beginning_text : Shell → Option Text → List Access
 of_beginning_text shell None = status_written
 of_beginning_text shell (Some text) =
-    elim (lacks_end_in shell text) [
+    elim (has_fault_in shell text) [
       | true ↦ Writes Status ∷ Reads Status ∷ []
       | false ↦ of_beginning_tree (tree_in shell text)
     ]

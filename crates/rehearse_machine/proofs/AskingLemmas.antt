@@ -9,7 +9,7 @@ use Rattle.bootstore_state.specs.Moment.{RunningFrame}
 use Rattle.bootstore_state.specs.declared.frame.FrameKind.{FrameKind}
 use Rattle.bootstore_state.specs.declared.frame.FrameKind.TheVariants as kinds
 use Rattle.std.specs.Prelude.{slice_get}
-use Rattle.hushlang_shells.specs.TreesByShell.{tree_in, lacks_end_in}
+use Rattle.hushlang_shells.specs.TreesByShell.{tree_in, has_fault_in}
 use Rattle.rehearse_terms.specs.State.{Text, get, State}
 use Rattle.rehearse_rules.specs.Parameters.{parameters_in}
 use Rattle.device_list.specs.Called.{Called, BuiltIn, NoCommand, Device, called_by, sets_in}
@@ -179,7 +179,7 @@ module _ (limits : Limits) where
   text_never : (o : Option Text) (name : Text) (f : RunningFrame) (ps : List RunningFrame) (s : State) → NeverAsks (place_text limits.shell o name f ps s)
   text_never None name f ps s = tt
   text_never (Some text) name f ps s =
-      either_never (lacks_end_in limits.shell text) (GoOn ps (set_status 1 s)) (place_tree limits.shell (tree_in limits.shell text) name f ps s) tt
+      either_never (has_fault_in limits.shell text) (GoOn ps (set_status 1 s)) (place_tree limits.shell (tree_in limits.shell text) name f ps s) tt
       (tree_never (tree_in limits.shell text) name f ps s)
 
   name_never : (o : Option Text) (f : RunningFrame) (ps : List RunningFrame) (s : State) → NeverAsks (place_name limits.shell o f ps s)

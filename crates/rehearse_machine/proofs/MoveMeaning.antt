@@ -4,7 +4,7 @@ use Rattle.device_list.specs.declared.finish.BoardEnd.{BoardEnd}
 use Rattle.hushlang.specs.Tree as tree
 use Rattle.hushlang.specs.Tree.{Script, Command, Arms, IsProper, IsProperCommand, HoldsCommand}
 use Rattle.hushlang.specs.Expansion.{fields, joined, size, most_bytes}
-use Rattle.hushlang_shells.specs.TreesByShell.{tree_in, lacks_end_in}
+use Rattle.hushlang_shells.specs.TreesByShell.{tree_in, has_fault_in}
 use Rattle.rehearse_terms.specs.Outcomes.{OutcomeWord, Success}
 use Rattle.rehearse_terms.specs.State.{Text, get, State}
 use Rattle.rehearse_rules.specs.Parameters.{parameters_in}
@@ -115,7 +115,7 @@ module _ (limits : Limits) where
 
     text-is : (o : Option Text) (name : Text) (names : List Text) (fs : List Frame) (s : State) → comes_to limits w (begin_text limits.shell o name names fs s) ≡ continue limits fs (elim o [ None ↦ Normal (set_status 1 (with w s)) | Some v ↦ text_end limits.shell (started_text limits (full limits) name v (with w s)) (run_all limits (full limits) names) ])
     text-is None name names fs s = refl
-    text-is (Some v) name names fs s = started-is (lacks_end_in limits.shell v) v name names fs s
+    text-is (Some v) name names fs s = started-is (has_fault_in limits.shell v) v name names fs s
 
     names-is : (names : List Text) (fs : List Frame) (s : State) → comes_to limits w (begin_names limits.shell names fs s) ≡ continue limits fs (run_all limits (full limits) names (with w s))
     names-is [] fs s = refl

@@ -13,7 +13,7 @@ use Rattle.bootstore_state.specs.declared.frame.At.{At}
 use Rattle.bootstore_state.specs.Moment.{RunningFrame}
 use Rattle.bootstore_state.specs.Record.{Record, changed, with_status, without_frame}
 use Rattle.rehearse_terms.specs.Outcomes.{OutcomeWord}
-use Rattle.hushlang_shells.specs.TreesByShell.{tree_in, lacks_end_in}
+use Rattle.hushlang_shells.specs.TreesByShell.{tree_in, has_fault_in}
 use Rattle.rehearse_terms.specs.State.{Text, State, get}
 use Rattle.bootstore_state.specs.StoredState.{state_at}
 use Rattle.rehearse_rules.specs.Execution.{Ending, set_status}
@@ -78,7 +78,7 @@ module _ (shell : Shell) (old : Record) (f : RunningFrame) (name bytes : Text) (
       subst (λ (x : Record). Does steps.Going old x named) (sym (d ∙ ap (changed (with_status 1)) e))
       (λ w. with_text None w none, record { marked = refl; begun = omega arith })
 
-  -- a text by whether its end is missing
+  -- a text by whether it has a fault
   abbrev by_end : Bool → Text → State → PlaceNext
   by_end lacks text s =
       elim lacks [
@@ -86,19 +86,19 @@ module _ (shell : Shell) (old : Record) (f : RunningFrame) (name bytes : Text) (
         | false ↦ place_tree shell (tree_in shell text) name f (under old.present) s
       ]
 
-  pub no_script : (copy text : Text) → copy ≡ name → Some text ≡ finite.get old.present.environment bytes → tree_in shell text ≡ None → lacks_end_in shell text ≡ false → (w : OutcomeWord) → StopOn (unread shell copy) (state_at old.present w) ≡ named (state_at old.present w)
+  pub no_script : (copy text : Text) → copy ≡ name → Some text ≡ finite.get old.present.environment bytes → tree_in shell text ≡ None → has_fault_in shell text ≡ false → (w : OutcomeWord) → StopOn (unread shell copy) (state_at old.present w) ≡ named (state_at old.present w)
   no_script copy text c e t l w =
       ap (λ (x : Text). StopOn (unread shell x) (state_at old.present w)) c
       ∙ sym (ap (λ (x : Option Script). place_tree shell x name f (under old.present) (state_at old.present w)) t)
       ∙ sym (ap (λ (x : Bool). by_end x text (state_at old.present w)) l)
       ∙ with_text (Some text) w e
 
-  pub no_end : (mid new : Record) (text : Text) → mid ≡ changed without_frame old → new ≡ changed (with_status 1) mid → Some text ≡ finite.get old.present.environment bytes → lacks_end_in shell text ≡ true → Does steps.Going old new named
+  pub no_end : (mid new : Record) (text : Text) → mid ≡ changed without_frame old → new ≡ changed (with_status 1) mid → Some text ≡ finite.get old.present.environment bytes → has_fault_in shell text ≡ true → Does steps.Going old new named
   no_end mid new text e d t l =
       subst (λ (x : Record). Does steps.Going old x named) (sym (d ∙ ap (changed (with_status 1)) e))
       (λ w. sym (ap (λ (x : Bool). by_end x text (state_at old.present w)) l) ∙ with_text (Some text) w t, record { marked = refl; begun = omega arith })
 
-  pub text_comes : (r : Result Step StoreError) (new : Record) (text : Text) (script : Script) → Some text ≡ finite.get old.present.environment bytes → tree_in shell text ≡ Some script → lacks_end_in shell text ≡ false → Comes r old new (λ s. GoOn (text_frame script ∷ in_turn (suc f.place.turn) 0 f ∷ under old.present) (begun_text script s)) → Comes r old new named
+  pub text_comes : (r : Result Step StoreError) (new : Record) (text : Text) (script : Script) → Some text ≡ finite.get old.present.environment bytes → tree_in shell text ≡ Some script → has_fault_in shell text ≡ false → Comes r old new (λ s. GoOn (text_frame script ∷ in_turn (suc f.place.turn) 0 f ∷ under old.present) (begun_text script s)) → Comes r old new named
   text_comes r new text script e t l comes =
       comes_at r old new (λ s. GoOn (text_frame script ∷ in_turn (suc f.place.turn) 0 f ∷ under old.present) (begun_text script s)) named
       (λ w. sym (ap (λ (x : Option Script). place_tree shell x name f (under old.present) (state_at old.present w)) t) ∙ sym (ap (λ (x : Bool). by_end x text (state_at old.present w)) l) ∙ with_text (Some text) w e) comes
@@ -126,26 +126,26 @@ module _ (shell : Shell) (old read : Record) (same : read ≡ old) (f : RunningF
   pub unset_found : (mid new : Record) → mid ≡ changed without_frame read → new ≡ changed (with_status 1) mid → None ≡ option_map (tree_in shell) value → Does steps.Going old new wanted
   unset_found mid new e d none = unset shell old f name bytes found bytes_are mid new (e ∙ ap (changed without_frame) same) d (none_found shell value none)
 
-  refused_at : (copy : Text) → copy ≡ name → (o : Option Text) → o ≡ value → Some None ≡ option_map (tree_in shell) o → Some false ≡ option_map (lacks_end_in shell) o → (w : OutcomeWord) → StopOn (unread shell copy) (state_at old.present w) ≡ wanted (state_at old.present w)
+  refused_at : (copy : Text) → copy ≡ name → (o : Option Text) → o ≡ value → Some None ≡ option_map (tree_in shell) o → Some false ≡ option_map (has_fault_in shell) o → (w : OutcomeWord) → StopOn (unread shell copy) (state_at old.present w) ≡ wanted (state_at old.present w)
   refused_at copy c None v e l w = absurd (let g = e in cc)
   refused_at copy c (Some text) v e l w = no_script shell old f name bytes found bytes_are copy text c v (sym (ap within e)) (sym (ap is_missing l)) w
 
-  without_end_at : (mid new : Record) → mid ≡ changed without_frame old → new ≡ changed (with_status 1) mid → (o : Option Text) → o ≡ value → Some true ≡ option_map (lacks_end_in shell) o → Does steps.Going old new wanted
+  without_end_at : (mid new : Record) → mid ≡ changed without_frame old → new ≡ changed (with_status 1) mid → (o : Option Text) → o ≡ value → Some true ≡ option_map (has_fault_in shell) o → Does steps.Going old new wanted
   without_end_at mid new e d None v l = absurd (let g = l in cc)
   without_end_at mid new e d (Some text) v l = no_end shell old f name bytes found bytes_are mid new text e d v (sym (ap is_missing l))
 
-  pub no_end_found : (mid new : Record) → mid ≡ changed without_frame read → new ≡ changed (with_status 1) mid → Some true ≡ option_map (lacks_end_in shell) value → Does steps.Going old new wanted
+  pub no_end_found : (mid new : Record) → mid ≡ changed without_frame read → new ≡ changed (with_status 1) mid → Some true ≡ option_map (has_fault_in shell) value → Does steps.Going old new wanted
   no_end_found mid new e d l = without_end_at mid new (e ∙ ap (changed without_frame) same) d value refl l
 
-  pub no_script_found : (copy : Text) (ending : Ending) → ending ≡ unread shell copy → copy ≡ name → Some None ≡ option_map (tree_in shell) value → Some false ≡ option_map (lacks_end_in shell) value → ((w : OutcomeWord) → StopOn ending (state_at read.present w) ≡ wanted (state_at old.present w)) × Keeps old read
+  pub no_script_found : (copy : Text) (ending : Ending) → ending ≡ unread shell copy → copy ≡ name → Some None ≡ option_map (tree_in shell) value → Some false ≡ option_map (has_fault_in shell) value → ((w : OutcomeWord) → StopOn ending (state_at read.present w) ≡ wanted (state_at old.present w)) × Keeps old read
   no_script_found copy ending ends c e l =
       subst (λ (x : Record). ((w : OutcomeWord) → StopOn ending (state_at x.present w) ≡ wanted (state_at old.present w)) × Keeps old x) (sym same)
       (λ w. ap (λ (x : Ending). StopOn x (state_at old.present w)) ends ∙ refused_at copy c value refl e l w, record { marked = refl; begun = refl })
 
-  comes_at_once : (r : Result Step StoreError) (new : Record) (script : Script) (o : Option Text) → o ≡ value → Some (Some script) ≡ option_map (tree_in shell) o → Some false ≡ option_map (lacks_end_in shell) o → Comes r old new (λ s. GoOn (text_frame script ∷ in_turn (suc f.place.turn) 0 f ∷ under old.present) (begun_text script s)) → Comes r old new wanted
+  comes_at_once : (r : Result Step StoreError) (new : Record) (script : Script) (o : Option Text) → o ≡ value → Some (Some script) ≡ option_map (tree_in shell) o → Some false ≡ option_map (has_fault_in shell) o → Comes r old new (λ s. GoOn (text_frame script ∷ in_turn (suc f.place.turn) 0 f ∷ under old.present) (begun_text script s)) → Comes r old new wanted
   comes_at_once r new script None v e l comes = absurd (let g = e in cc)
   comes_at_once r new script (Some text) v e l comes = text_comes shell old f name bytes found bytes_are r new text script v (sym (ap within e)) (sym (ap is_missing l)) comes
 
-  pub text_found_comes : (r : Result Step StoreError) (new : Record) (script : Script) → Some (Some script) ≡ option_map (tree_in shell) value → Some false ≡ option_map (lacks_end_in shell) value → Comes r read new (λ s. GoOn (text_frame script ∷ in_turn (suc f.place.turn) 0 f ∷ under read.present) (begun_text script s)) → Comes r old new wanted
+  pub text_found_comes : (r : Result Step StoreError) (new : Record) (script : Script) → Some (Some script) ≡ option_map (tree_in shell) value → Some false ≡ option_map (has_fault_in shell) value → Comes r read new (λ s. GoOn (text_frame script ∷ in_turn (suc f.place.turn) 0 f ∷ under read.present) (begun_text script s)) → Comes r old new wanted
   text_found_comes r new script e l comes =
       comes_at_once r new script value refl e l (subst (λ (x : Record). Comes r x new (λ s. GoOn (text_frame script ∷ in_turn (suc f.place.turn) 0 f ∷ under x.present) (begun_text script s))) same comes)

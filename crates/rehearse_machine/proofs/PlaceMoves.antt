@@ -13,7 +13,7 @@ use Rattle.bootstore_state.specs.declared.frame.FrameKind.TheVariants as kinds
 use Rattle.bootstore_state.specs.Moment.{RunningFrame}
 use Rattle.bootstore_state.specs.Record.{without_first}
 use Rattle.rehearse_terms.specs.Outcomes.{Outcome, Success, Failure}
-use Rattle.hushlang_shells.specs.TreesByShell.{tree_in, lacks_end_in}
+use Rattle.hushlang_shells.specs.TreesByShell.{tree_in, has_fault_in}
 use Rattle.rehearse_terms.specs.State.{Text, get, State}
 use Rattle.rehearse_rules.specs.Parameters.{parameters_in}
 use Rattle.device_list.specs.Called.{Called, BuiltIn, NoCommand, Device, called_by, sets_in}
@@ -210,7 +210,7 @@ module _ (limits : Limits) (f : RunningFrame) (fs : List RunningFrame) (s : Stat
   text-is : (o : Option Text) (name : Text) → next_of (place_text limits.shell o name f fs s) ≡ begin_text limits.shell o name (drop (suc f.place.turn) f.words) (frames_of fs) s
   text-is None name = refl
   text-is (Some text) name =
-      if_next (lacks_end_in limits.shell text) (GoOn fs (set_status 1 s)) (place_tree limits.shell (tree_in limits.shell text) name f fs s) (Go (frames_of fs) (set_status 1 s))
+      if_next (has_fault_in limits.shell text) (GoOn fs (set_status 1 s)) (place_tree limits.shell (tree_in limits.shell text) name f fs s) (Go (frames_of fs) (set_status 1 s))
       (begin_tree limits.shell (tree_in limits.shell text) name (drop (suc f.place.turn) f.words) (frames_of fs) s) refl (tree-is (tree_in limits.shell text) name)
 
   name-is : (o : Option Text) → slice_get f.words f.place.turn ≡ o → next_of (place_name limits.shell o f fs s) ≡ begin_names limits.shell (drop f.place.turn f.words) (frames_of fs) s

@@ -4,7 +4,7 @@ use Rattle.device_list.specs.declared.finish.BoardEnd.{BoardEnd}
 use Rattle.hushlang.specs.Tree as tree
 use Rattle.hushlang.specs.Tree.{Script, Joined, Command, Arms, IsProperCommand, AreProperArms, HoldsCommand}
 use Rattle.hushlang.specs.Expansion.{joined, size, most_bytes}
-use Rattle.hushlang_shells.specs.TreesByShell.{tree_in, lacks_end_in}
+use Rattle.hushlang_shells.specs.TreesByShell.{tree_in, has_fault_in}
 use Rattle.rehearse_terms.specs.State.{Text, get, State, Variables}
 use Rattle.rehearse_rules.specs.Parameters.{parameters_in}
 use Rattle.device_list.specs.Called.{Called, BuiltIn, NoCommand, Device, called_by, sets_in}
@@ -72,7 +72,7 @@ module _ (limits : Limits) where
   text-quiet : (o : Option Text) (name : Text) (names : List Text) (fs : List Frame) (s : State) → IsQuiet s (begin_text limits.shell o name names fs s)
   text-quiet None name names fs s = refl
   text-quiet (Some text) name names fs s =
-      either-quiet s (lacks_end_in limits.shell text) (Go fs (set_status 1 s)) (begin_tree limits.shell (tree_in limits.shell text) name names fs s) refl
+      either-quiet s (has_fault_in limits.shell text) (Go fs (set_status 1 s)) (begin_tree limits.shell (tree_in limits.shell text) name names fs s) refl
       (tree-quiet (tree_in limits.shell text) name names fs s)
 
   names-quiet : (names : List Text) (fs : List Frame) (s : State) → IsQuiet s (begin_names limits.shell names fs s)
@@ -202,7 +202,7 @@ module _ (limits : Limits) where
   text_progress : (o : Option Text) (name : Text) (names : List Text) (fs : List Frame) (s : State) → Progress s (suc (text_weight limits.shell o (suc (names_weight limits.shell s.memory.environment names (weight limits.shell s.memory.environment fs) + weight limits.shell s.memory.environment fs)) (weight limits.shell s.memory.environment fs))) (begin_text limits.shell o name names fs s)
   text_progress None name names fs s = inr (refl, refl, omega arith)
   text_progress (Some text) name names fs s =
-      started_progress (lacks_end_in limits.shell text) (weight limits.shell s.memory.environment fs)
+      started_progress (has_fault_in limits.shell text) (weight limits.shell s.memory.environment fs)
       (tree_weight (tree_in limits.shell text) (suc (names_weight limits.shell s.memory.environment names (weight limits.shell s.memory.environment fs) + weight limits.shell s.memory.environment fs)))
       s (Go fs (set_status 1 s)) (begin_tree limits.shell (tree_in limits.shell text) name names fs s) (inr (refl, refl, omega arith)) (tree_progress (tree_in limits.shell text) name names fs s)
 

@@ -4,7 +4,7 @@ use Rattle.device_list.specs.declared.finish.BoardEnd.{BoardEnd}
 use Rattle.hushlang.specs.Tree as tree
 use Rattle.hushlang.specs.Tree.{Script, Command, Arms, IsProper, IsProperCommand, AreProperArms, HoldsCommand}
 use Rattle.hushlang.specs.Expansion.{fields, joined, size, most_bytes}
-use Rattle.hushlang_shells.specs.TreesByShell.{tree_in, lacks_end_in}
+use Rattle.hushlang_shells.specs.TreesByShell.{tree_in, has_fault_in}
 use Rattle.rehearse_terms.specs.State.{Text, get, State}
 use Rattle.rehearse_rules.specs.Parameters.{parameters_in}
 use Rattle.device_list.specs.Called.{Called, BuiltIn, NoCommand, Device, called_by, sets_in}
@@ -56,7 +56,7 @@ module _ (limits : Limits) where
   text-proper : (o : Option Text) (name : Text) (names : List Text) (fs : List Frame) (s : State) → AreProperFrames fs → IsProperNext (begin_text limits.shell o name names fs s)
   text-proper None name names fs s p = p
   text-proper (Some text) name names fs s p =
-      either (lacks_end_in limits.shell text) (Go fs (set_status 1 s)) (begin_tree limits.shell (tree_in limits.shell text) name names fs s) p
+      either (has_fault_in limits.shell text) (Go fs (set_status 1 s)) (begin_tree limits.shell (tree_in limits.shell text) name names fs s) p
       (tree-proper (tree_in limits.shell text) name names fs s (trees_in_are_proper limits.shell text) p)
 
   names-proper : (names : List Text) (fs : List Frame) (s : State) → AreProperFrames fs → IsProperNext (begin_names limits.shell names fs s)

@@ -3,7 +3,7 @@ use Rattle.std.proofs.Common.{ℕ, zero, suc, Bool, true, false, List, [], ◌�
 use Rattle.hushlang.specs.Tree as tree
 use Rattle.hushlang.specs.Tree.{Script, AndOr, Joined, Command, Arms, IsProper, IsProperList, IsProperJoined, IsProperCommand, AreProperArms, HoldsCommand}
 use Rattle.hushlang.specs.Expansion.{size, most_bytes}
-use Rattle.hushlang_shells.specs.TreesByShell.{tree_in, lacks_end_in}
+use Rattle.hushlang_shells.specs.TreesByShell.{tree_in, has_fault_in}
 use Rattle.rehearse_terms.specs.State.{Text, get, State}
 use Rattle.rehearse_terms.specs.declared.shell.Shell.{Shell}
 use Rattle.rehearse_rules.specs.Parameters.{parameters_in}
@@ -57,7 +57,7 @@ module _ (limits : Limits) where
     same_text name v t h = same_tree (tree_in limits.shell v) name (trees_in_are_proper limits.shell v) t h
 
     same_started : (name v : Text) (t : State) → limits.step_bound < n + t.steps → started_text limits text name v t ≡ started_text limits text' name v t
-    same_started name v t h = same_if (lacks_end_in limits.shell v) (Normal (set_status 1 t)) (run_text limits text name v t) (Normal (set_status 1 t)) (run_text limits text' name v t) refl (same_text name v t h)
+    same_started name v t h = same_if (has_fault_in limits.shell v) (Normal (set_status 1 t)) (run_text limits text name v t) (Normal (set_status 1 t)) (run_text limits text' name v t) refl (same_text name v t h)
 
     same_named : (o : Option Text) (name : Text) (f g : State → Answer) (t : State) → limits.step_bound < n + t.steps → ((u : State) → t.steps ≤ u.steps → f u ≡ g u) → named_answer limits text o name f t ≡ named_answer limits text' o name g t
     same_named None name f g t h k = refl

@@ -2,7 +2,7 @@
 use Rattle.std.specs.Prelude.{ℕ, true, false, suc, ◌+◌, List, [], ◌∷◌, Option, Some, None}
 use Rattle.hushlang.specs.Tree as tree
 use Rattle.hushlang.specs.Tree.{Script, AndOr, Joined, Command, Arms}
-use Rattle.hushlang_shells.specs.TreesByShell.{tree_in, lacks_end_in}
+use Rattle.hushlang_shells.specs.TreesByShell.{tree_in, has_fault_in}
 use Rattle.rehearse_terms.specs.State.{Text, Variables, get}
 use Rattle.rehearse_terms.specs.declared.shell.Shell.{Shell}
 use Rattle.rehearse_machine.specs.Frames.{Frame, Lists, Linked, IfCondition, LoopCondition, LoopBody, ForBody, RunNames, RunText, CommandEnd}
@@ -53,7 +53,7 @@ tree_weight (Some (tree.Runs l ls)) x = suc (list_depth l)
 
 abbrev pub text_weight : Shell → Option Text → ℕ → ℕ → ℕ
 text_weight shell None x m = m
-text_weight shell (Some text) x m = elim (lacks_end_in shell text) [ true ↦ m | false ↦ tree_weight (tree_in shell text) x ]
+text_weight shell (Some text) x m = elim (has_fault_in shell text) [ true ↦ m | false ↦ tree_weight (tree_in shell text) x ]
 
 abbrev pub names_weight : Shell → Variables → List Text → ℕ → ℕ
 names_weight shell environment [] m = m

@@ -10,7 +10,7 @@ use Rattle.bootstore_state.specs.declared.frame.FrameKind.{FrameKind}
 use Rattle.bootstore_state.specs.declared.frame.FrameKind.TheVariants as kinds
 use Rattle.bootstore_state.specs.Moment.{RunningFrame}
 use Rattle.rehearse_terms.specs.Outcomes.{Outcome, Success, Failure}
-use Rattle.hushlang_shells.specs.TreesByShell.{tree_in, lacks_end_in}
+use Rattle.hushlang_shells.specs.TreesByShell.{tree_in, has_fault_in}
 use Rattle.rehearse_terms.specs.State.{Text, get, State}
 use Rattle.rehearse_terms.specs.declared.shell.Shell.{Shell}
 use Rattle.rehearse_terms.specs.declared.shell.Shell.TheVariants.{Profile, Old2023, Old2025, Modern2025}
@@ -238,7 +238,7 @@ place_tree shell (Some t) name f fs s = GoOn (text_frame t ∷ in_turn (suc f.pl
 abbrev pub place_text : Shell → Option Text → Text → RunningFrame → List RunningFrame → State → PlaceNext
 place_text shell None name f fs s = GoOn fs (set_status 1 s)
 place_text shell (Some text) name f fs s =
-    elim (lacks_end_in shell text) [
+    elim (has_fault_in shell text) [
       | true ↦ GoOn fs (set_status 1 s)
       | false ↦ place_tree shell (tree_in shell text) name f fs s
     ]

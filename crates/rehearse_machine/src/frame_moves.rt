@@ -103,8 +103,8 @@ pub(crate) fn move_run<'d, S: Store>(
 }
 
 /// Starts the text of the next name of a `run`, or ends the `run` if no name is left. A name that
-/// is not set, or a text whose end is missing, ends it with status 1. Another text that the shell
-/// cannot read ends the whole run.
+/// is not set, or a text with a fault, ends it with status 1. Another text that the shell cannot read
+/// ends the whole run.
 fn next_name<'d, S: Store>(
     store: &mut S,
     frame: &Frame,
@@ -123,7 +123,7 @@ fn next_name<'d, S: Store>(
             store.set_status(1)?;
             Ok(Step::Going)
         }
-        TextFound::NoEnd => {
+        TextFound::Faulty => {
             store.pop()?;
             store.set_status(1)?;
             Ok(Step::Going)

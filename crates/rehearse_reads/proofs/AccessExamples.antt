@@ -3,7 +3,7 @@ use Rattle.std.proofs.Common.{◌≡◌, refl, true, false, List, [], ◌∷◌,
 use Rattle.std.specs.Fmt.{digits}
 use Rattle.hushlang.specs.Expansion.{fields, joined, atoms}
 use Rattle.hushlang.specs.Trees.{tree_of}
-use Rattle.hushlang_old.specs.OldTrees.{lacks_end, old_tree_of}
+use Rattle.hushlang_old.specs.OldTrees.{has_fault, old_tree_of}
 use Rattle.hushlang_old.specs.OldFields.{old_fields, old_turns, inserted, word_text, command_text, read, reread}
 use Rattle.hushlang_shells.specs.TreesByShell.{tree_in}
 use Rattle.device_list.specs.DeviceList.{Variable, Literal, Devices, only}
@@ -38,7 +38,7 @@ before word = start variables word
 
 -- what a text reads and writes in a shell, from a state
 unfoldable reached_in : Shell → State → Text → List Access
-unfolding tree_of old_tree_of lacks_end fields joined atoms digits old_fields old_turns inserted word_text command_text read reread
+unfolding tree_of old_tree_of has_fault fields joined atoms digits old_fields old_turns inserted word_text command_text read reread
 reached_in shell s text = elim (tree_in shell text) [ None ↦ [] | Some t ↦ accesses (limits shell) 5 t s ]
 
 -- with a word of successes, in ubtool's own shell

@@ -2,7 +2,7 @@
 use Rattle.std.proofs.Common.{◌≡◌, sym, ap, subst, ℕ, zero, suc, Bool, true, false, List, [], ◌∷◌, ◌++◌, Option, Some, None, nat_eq}
 use Rattle.hushlang.specs.Tree as tree
 use Rattle.hushlang.specs.Tree.{Script, AndOr, Joined, Command, Arms}
-use Rattle.hushlang_shells.specs.TreesByShell.{tree_in, lacks_end_in}
+use Rattle.hushlang_shells.specs.TreesByShell.{tree_in, has_fault_in}
 use Rattle.builtins.specs.Builtins.{Builtin, SetEnv, Run, Test, Echo, True, False, Leave, builtin_of}
 use Rattle.commands.specs.Computed.{Computed}
 use Rattle.commands.specs.BuiltInCommands.{ChangesVariables, carried, deed_of, setenv, echo, variables_changed, text_written}
@@ -59,7 +59,7 @@ module _ (limits : Limits) (i j : ℕ) (k l : List LoggedCommand) where
     Alike-text name text = Alike-tree (tree_in limits.shell text) name
 
     Alike-started : (name text : Text) → AlwaysDoes (started_text limits script name text) (started_accesses limits script of_script text)
-    Alike-started name text = alike_if (lacks_end_in limits.shell text) (λ s. Normal (set_status 1 s)) (run_text limits script name text) (λ s. status_written) (text_accesses limits script of_script text) (status_alike 1) (Alike-text name text)
+    Alike-started name text = alike_if (has_fault_in limits.shell text) (λ s. Normal (set_status 1 s)) (run_text limits script name text) (λ s. status_written) (text_accesses limits script of_script text) (status_alike 1) (Alike-text name text)
 
     Alike-named : (found : Option Text) (name : Text) (next : State → Answer) (u : State → List Access) → AlwaysDoes next u → KeepsAll limits next
         → AlwaysDoes (λ s. elim found [ None ↦ Normal (set_status 1 s) | Some text ↦ text_end limits.shell (started_text limits script name text s) next ])

@@ -6,7 +6,7 @@ use Rattle.std.specs.List.{flat_map}
 use Rattle.hushlang.specs.Tree as tree
 use Rattle.hushlang.specs.Tree.{Script, AndOr, Joined, Command, Arms}
 use Rattle.hushlang.specs.Expansion.{size, most_bytes}
-use Rattle.hushlang_shells.specs.TreesByShell.{tree_in, lacks_end_in}
+use Rattle.hushlang_shells.specs.TreesByShell.{tree_in, has_fault_in}
 use Rattle.builtins.specs.Builtins.{Builtin, SetEnv, Run, Test, Echo, True, False, Leave, builtin_of}
 use Rattle.commands.specs.Computed.{Computed, Gives, Exists, Sets, Deletes, SetsNumber}
 use Rattle.commands.specs.VariableNames.{is_bad_name}
@@ -233,7 +233,7 @@ module _ (limits : Limits) where
 
     abbrev pub started_accesses : (text : Text) → State → List Access
     started_accesses text s =
-        elim (lacks_end_in limits.shell text) [ true ↦ status_written | false ↦ text_accesses text s ]
+        elim (has_fault_in limits.shell text) [ true ↦ status_written | false ↦ text_accesses text s ]
 
     -- `run` reads each variable when its turn comes, in the environment alone
     abbrev pub run_accesses : List Text → State → List Access

@@ -5,7 +5,7 @@ use Rattle.hushlang.specs.Tree as tree
 use Rattle.hushlang.specs.Tree.{Script, AndOr, Joined, Command, Arms}
 use Rattle.hushlang.specs.Expansion.{size, most_bytes}
 use Rattle.hushlang.specs.declared.tree.Op.{Op}
-use Rattle.hushlang_shells.specs.TreesByShell.{tree_in, lacks_end_in}
+use Rattle.hushlang_shells.specs.TreesByShell.{tree_in, has_fault_in}
 use Rattle.builtins.specs.Builtins.{Builtin, SetEnv, Run, Test, Echo, True, False, Leave, builtin_of}
 use Rattle.commands.specs.Computed.{Computed}
 use Rattle.device_list.specs.DeviceList.{Effect, effect_of, computed_by}
@@ -200,7 +200,7 @@ module _ (limits : Limits) (s : State) where
 
   text_covers : (shell : Shell) (o : Option Text) → Covers [] (of_beginning_text shell o)
   text_covers shell None = covers_status
-  text_covers shell (Some text) = by (lacks_end_in shell text)
+  text_covers shell (Some text) = by (has_fault_in shell text)
     where
       by : (b : Bool) → Covers [] (elim b [ true ↦ Writes Status ∷ Reads Status ∷ [] | false ↦ of_beginning_tree (tree_in shell text) ])
       by true = covers_write Status [] (covers_itself [])

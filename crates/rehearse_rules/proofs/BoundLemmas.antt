@@ -5,7 +5,7 @@ use Rattle.hushlang.specs.Tree as tree
 use Rattle.hushlang.specs.Tree.{Script, AndOr, Joined, Command, Arms, IsProper, IsProperList, IsProperJoined, IsProperCommand, HasArm, AreProperArms, HoldsCommand}
 use Rattle.hushlang.specs.Expansion.{size, most_bytes}
 use Rattle.rehearse_terms.specs.Outcomes.{OutcomeWord, Outcome, Success, Failure}
-use Rattle.hushlang_shells.specs.TreesByShell.{tree_in, lacks_end_in}
+use Rattle.hushlang_shells.specs.TreesByShell.{tree_in, has_fault_in}
 use Rattle.rehearse_terms.specs.State.{Text, get, State, start}
 use Rattle.rehearse_rules.specs.Parameters.{parameters_in}
 use Rattle.device_list.specs.Called.{Called, BuiltIn, Device, NoCommand, called_by, sets_in}
@@ -125,7 +125,7 @@ module _ (limits : Limits) where
     text-ends name v t h r = tree-ends (tree_in limits.shell v) name t (λ a e. trees_in_are_proper limits.shell v a e) h r
 
     started-ends : (name v : Text) (t : State) → IsWithin t → limits.step_bound < n + t.steps → Ends (started_text limits script name v t)
-    started-ends name v t h r = Ends-if (lacks_end_in limits.shell v) (Normal (set_status 1 t)) (run_text limits script name v t) (λ e. h) (λ e. text-ends name v t h r)
+    started-ends name v t h r = Ends-if (has_fault_in limits.shell v) (Normal (set_status 1 t)) (run_text limits script name v t) (λ e. h) (λ e. text-ends name v t h r)
 
     named-ends : (o : Option Text) (name : Text) (next : State → Answer) (t : State) → IsWithin t → limits.step_bound < n + t.steps → ((u : State) → IsWithin u → limits.step_bound < n + u.steps → Ends (next u)) → Ends (elim o [ None ↦ Normal (set_status 1 t) | Some v ↦ text_end limits.shell (started_text limits script name v t) next ])
     named-ends None name next t h r j = h

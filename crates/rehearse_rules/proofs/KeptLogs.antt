@@ -17,7 +17,7 @@ use Rattle.rehearse_rules.specs.Needs.{effect_now}
 use Rattle.rehearse_rules.specs.Runs.{state_of}
 use Rattle.rehearse_terms.specs.State.{Text, get, LoggedCommand, State}
 use Rattle.rehearse_rules.specs.Parameters.{parameters_in}
-use Rattle.hushlang_shells.specs.TreesByShell.{tree_in, lacks_end_in}
+use Rattle.hushlang_shells.specs.TreesByShell.{tree_in, has_fault_in}
 
 module _ (P : List LoggedCommand → Type 0) where
   -- it holds of the log
@@ -108,7 +108,7 @@ module _ (P : List LoggedCommand → Type 0) where
       keeps-text name text s h = keeps-tree (tree_in limits.shell text) name s h
 
       keeps-started : (name text : Text) → KeepsLog (started_text limits script name text)
-      keeps-started name text s h = keeps-if (lacks_end_in limits.shell text) (Normal (set_status 1 s)) (run_text limits script name text s) h (keeps-text name text s h)
+      keeps-started name text s h = keeps-if (has_fault_in limits.shell text) (Normal (set_status 1 s)) (run_text limits script name text s) h (keeps-text name text s h)
 
       keeps-named : (text : Option Text) (name : Text) (next : State → Answer) (s : State) → KeepsLog next → Holds s → Holds (state_of (elim text [ None ↦ Normal (set_status 1 s) | Some v ↦ text_end limits.shell (started_text limits script name v s) next ]))
       keeps-named None name next s k h = h

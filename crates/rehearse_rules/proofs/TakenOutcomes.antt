@@ -9,7 +9,7 @@ use Rattle.hushlang.specs.Tree.{Script, AndOr, Joined, Command, Arms}
 use Rattle.rehearse_terms.specs.State.{Text, get, Memory, State, LoggedCommand, asked_of}
 use Rattle.rehearse_rules.specs.Parameters.{parameters_in}
 use Rattle.hushlang.specs.Expansion.{size, most_bytes}
-use Rattle.hushlang_shells.specs.TreesByShell.{tree_in, lacks_end_in}
+use Rattle.hushlang_shells.specs.TreesByShell.{tree_in, has_fault_in}
 use Rattle.device_list.specs.Called.{Called, BuiltIn, Device, NoCommand, called_by, sets_in}
 use Rattle.commands.specs.BuiltInCommands.{ChangesVariables, WritesText, RunsTexts, Tests, Exits, variables_changed, text_written}
 use Rattle.rehearse_rules.specs.ByShell.{unread, leaves_in, status_of_exit, asks_in, truth_in, fields_in, turns_in, skips_rest, status_of_nothing, status_of_no_block, status_of_loop, follows, assigned_in, reads_again, status_of_text, follows_turns, status_of_for, status_of_skipped, left_status}
@@ -420,7 +420,7 @@ module _ (limits : Limits) where
     Keeps-text name text s = Keeps-tree (tree_in limits.shell text) name s
 
     pub Keeps-started : (name text : Text) → KeepsAll (started_text limits script name text)
-    Keeps-started name text s = Keeps-if limits.device_bound s (lacks_end_in limits.shell text) (λ t. Normal (set_status 1 t)) (run_text limits script name text) (Keeps-normal limits.device_bound s (λ m. record m { status = 1 })) (Keeps-text name text s)
+    Keeps-started name text s = Keeps-if limits.device_bound s (has_fault_in limits.shell text) (λ t. Normal (set_status 1 t)) (run_text limits script name text) (Keeps-normal limits.device_bound s (λ m. record m { status = 1 })) (Keeps-text name text s)
 
     pub Keeps-named : (text : Option Text) (name : Text) (next : State → Answer) (s : State) → KeepsAll next → Keeps limits.device_bound s (λ t. elim text [ None ↦ Normal (set_status 1 t) | Some v ↦ text_end limits.shell (started_text limits script name v t) next ])
     Keeps-named None name next s h = Keeps-normal limits.device_bound s (λ m. record m { status = 1 })

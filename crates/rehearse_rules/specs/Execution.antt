@@ -8,7 +8,7 @@ use Rattle.hushlang.specs.Expansion.{size, most_bytes}
 use Rattle.hushlang.specs.declared.tree.Op.{Op}
 use Rattle.hushlang.specs.declared.tree.Op.TheVariants.{And, Or}
 use Rattle.rehearse_terms.specs.Outcomes.{Outcome, Success, Failure, OutcomeWord}
-use Rattle.hushlang_shells.specs.TreesByShell.{tree_in, lacks_end_in}
+use Rattle.hushlang_shells.specs.TreesByShell.{tree_in, has_fault_in}
 use Rattle.rehearse_terms.specs.State.{Text, Variables, get, with_value, Memory, LoggedCommand, answer_in, State}
 use Rattle.rehearse_terms.specs.declared.shell.Shell.{Shell}
 use Rattle.rehearse_terms.specs.declared.shell.Shell.TheVariants.{Profile, Old2023, Old2025, Modern2025}
@@ -280,10 +280,10 @@ module _ (limits : Limits) where
         | Some t ↦ script t (elim t [ tree.Empty ↦ set_status 0 s | tree.Runs list more ↦ s ])
       ]
 
-  -- a text that `run` starts. Of one whose end is missing nothing is run, and the status is 1
+  -- a text that `run` starts. Of one with a fault nothing is run, and the status is 1
   abbrev pub started_text : (script : Script → State → Answer) → (name text : Text) → State → Answer
   started_text script name text s =
-      elim (lacks_end_in limits.shell text) [ true ↦ Normal (set_status 1 s) | false ↦ run_text script name text s ]
+      elim (has_fault_in limits.shell text) [ true ↦ Normal (set_status 1 s) | false ↦ run_text script name text s ]
 
   -- the texts of these variables in turn, up to the first that fails or is not set
   abbrev pub run_all : (script : Script → State → Answer) → List Text → State → Answer
