@@ -20,6 +20,12 @@ class Fault(Exception):
     """Why a line is refused."""
 
 
+def must(hold, fault="bad line"):
+    """Refuses the line, if this does not hold."""
+    if not hold:
+        raise Fault(fault)
+
+
 @dataclasses.dataclass
 class Effect:
     """What a list says of a call. A setting is a pair: `=` and a name, or an `@` and a place; and so its value."""
@@ -27,7 +33,7 @@ class Effect:
     steady: bool = False
     always: str = ""
     needs: str = ""
-    normal: bool = False
+    normal: str = ""
     sets: list = dataclasses.field(default_factory=list)
 
 
@@ -45,76 +51,67 @@ class BoardList:
     def read_line(self, line):
         """Takes a line, or raises its fault."""
         line = line.strip(" \t\r")
-        words = line.replace("\t", " ").split()
-        if not words or words[0].startswith("#"):
-            return
-        word, *behind = words
-        if word == "given" and behind and "=" in behind[0]:
-            self.read_given(re.sub("^given[ \t]+", "", line))
-        elif word == "before" and len(behind) == 1 and "=" not in behind[0]:
-            if not re.fullmatch("[A-Za-z0-9_.][A-Za-z0-9_.-]*", behind[0]):
-                raise Fault("bad line")
-            self.before.append(behind[0])
-        elif word == "call" and ":" in behind:
-            self.read_call(re.findall("(?:[^ \t']|'[^']*(?:'|$))+", line)[1:])
-        elif word == "absent" and len(behind) == 1 and "=" not in behind[0]:
-            self.read_call([behind[0], "**", ":", "always", "1"])
-        elif word == "known" and len(behind) == 1 and behind[0] in ("env", "itest", "setexpr"):
-            self.known.add(behind[0])
-        elif words == ["steady", "test"]:
-            self.test.steady = True
-        else:
-            self.read_command(words)
+        match line.split():
+            case []:
+                return
+            case [word, *_] if word.startswith("#"):
+                return
+            case ["given", word, *_] if "=" in word:
+                self.read_given(re.sub("^given[ \t]+", "", line))
+            case ["before", name] if "=" not in name:
+                must(re.fullmatch("[A-Za-z0-9_.][A-Za-z0-9_.-]*", name))
+                self.before.append(name)
+            case ["call", *words] if ":" in words:
+                self.read_call(re.findall("(?:[^ \t']|'[^']*(?:'|$))+", line)[1:])
+            case ["absent", name] if "=" not in name:
+                self.read_call([name, "**", ":", "always", "1"])
+            case ["known", "env" | "itest" | "setexpr" as name]:
+                self.known.add(name)
+            case ["steady", "test"]:
+                self.test.steady = True
+            case words:
+                self.read_command(words)
 
     def read_given(self, text):
         """A line `given`."""
         name, _, value = text.partition("=")
-        outside = value.split("'")[::2]
-        if name == "" or name.startswith("-") or "'" in name or value.count("'") % 2 or re.search("[ \t]", "".join(outside)):
-            raise Fault("bad line")
+        must(name and name[0] != "-" and "'" not in name and value.count("'") % 2 == 0)
+        must(not re.search("[ \t]", "".join(value.split("'")[::2])))
         values = self.given.setdefault(name, [])
         if value.replace("'", "") not in values:
             values.append(value.replace("'", ""))
-            if len(values) > 1 and len(self.alternatives()) > 64:
-                raise Fault("more than 64 alternatives")
+            must(len(values) == 1 or len(self.alternatives()) <= 64, "more than 64 alternatives")
 
     def read_command(self, words):
         """A line of a command, or of its calls with one first word."""
-        def is_word(number):
-            return len(words) >= number and not any("=" in word for word in words[1:number])
-        finish, steady, first = "", False, ""
-        if words[0] in FINISHES and is_word(2):
-            finish = FINISHES[words.pop(0)]
-        if words[0] == "steady" and is_word(2):
-            steady = bool(words.pop(0))
-        if words[0] == "sub" and is_word(3):
-            first = words.pop(2)
-            words.pop(0)
-        sets = [setting(word, 1 if first else 0) for word in words[1:]]
-        if words[0] in BUILT_IN:
-            raise Fault("built-in command")
-        effect = self.commands.setdefault((words[0], first), Effect())
+        def begins(number):
+            return len(words) >= number and "=" not in "".join(words[1:number])
+        finish = FINISHES[words.pop(0)] if words[0] in FINISHES and begins(2) else ""
+        steady = words[0] == "steady" and begins(2) and bool(words.pop(0))
+        is_sub = words[0] == "sub" and begins(3)
+        first = words.pop(2) if is_sub else ""
+        name, *said = words[is_sub:]
+        sets = [setting(word, 1 if is_sub else 0) for word in said]
+        must(name not in BUILT_IN, "built-in command")
+        effect = self.commands.setdefault((name, first), Effect())
         effect.finish = effect.finish or finish
-        effect.steady = effect.steady or steady
+        effect.steady |= steady
         effect.sets += sets
 
     def read_call(self, words):
         """A line of calls."""
         colon = words.index(":") if ":" in words else 0
-        if colon == 0 or any("'" in word for word in words[:colon]) or "**" in words[:colon - 1]:
-            raise Fault("bad line")
+        must(colon and not any("'" in word for word in words[:colon]) and "**" not in words[:colon - 1])
         effect = clauses(words[colon + 1:])
-        if "*" in words[0]:
-            raise Fault("bad line")
-        if words[0] in BUILT_IN and [words[0], *words[colon + 1:]] != ["test", "normal", "1"]:
-            raise Fault("built-in command")
+        must("*" not in words[0])
+        must(words[0] not in BUILT_IN or [words[0], *words[colon + 1:]] == ["test", "normal", "1"], "built-in command")
         self.calls.setdefault(words[0], []).append((words[1:colon], effect))
 
     def effect_of(self, words):
         """What the list says of a call, or none."""
         for pattern, effect in self.calls.get(words[0], []):
             if fits(pattern, words[1:]):
-                return dataclasses.replace(self.test, normal=True) if words[0] == "test" else effect
+                return dataclasses.replace(self.test, normal="1") if words[0] == "test" else effect
         whole = self.test if words[0] == "test" else self.commands.get((words[0], ""))
         return self.commands.get((words[0], words[1]), whole) if len(words) > 1 else whole
 
@@ -123,12 +120,9 @@ def setting(word, called):
     """A setting; `called` is 0 in the lines of a name, 1 in a `sub` line, 2 in a line of calls."""
     left, sign, value = word.partition("=")
     by_place, of_word = called and left.startswith("@"), called == 2 and value.startswith("@")
-    if not sign or called == 2 and ("'" in left or value.count("'") % 2) or of_word and not PLACE.fullmatch(value):
-        raise Fault("bad line")
-    if not PLACE.fullmatch(left) if by_place else left == "" or left.startswith("-"):
-        raise Fault("bad line")
-    if called == 2:
-        value = value.replace("'", "")
+    must(sign and (called < 2 or "'" not in left and value.count("'") % 2 == 0) and (not of_word or PLACE.fullmatch(value)))
+    must(PLACE.fullmatch(left) if by_place else left and left[0] != "-")
+    value = value.replace("'", "") if called == 2 else value
     return left if by_place else "=" + left, value if of_word else "=" + value
 
 
@@ -140,29 +134,21 @@ def is_plain(word):
 def clauses(words):
     """What is behind the colon of a line of calls."""
     effect = Effect()
-
-    def behind(may_be):
-        if not words or not may_be(words[0]):
-            raise Fault("bad line")
-        return words.pop(0)
     while words:
         word = words.pop(0)
         if word in FINISHES and not effect.finish:
             effect.finish = FINISHES[word]
         elif word == "steady" and not effect.steady:
             effect.steady = True
-        elif word == "always" and not effect.always:
-            effect.always = behind(lambda it: it in ("0", "1"))
-        elif word == "normal" and not effect.normal:
-            effect.normal = bool(behind(lambda it: it == "1"))
-        elif word == "needs" and not effect.needs:
-            effect.needs = behind(lambda it: is_plain(it) and it not in BUILT_IN)
-            if words and is_plain(words[0]):
+        elif word in ("always", "normal", "needs") and not getattr(effect, word):
+            must(words and words[0] in {"always": "01", "normal": "1"}.get(word, words[0]))
+            must(word != "needs" or is_plain(words[0]) and words[0] not in BUILT_IN)
+            setattr(effect, word, words.pop(0))
+            if word == "needs" and words and is_plain(words[0]):
                 effect.needs += " " + words.pop(0)
         else:
             effect.sets.append(setting(word, 2))
-    if effect.normal and effect.always:
-        raise Fault("bad line")
+    must(not (effect.normal and effect.always))
     return effect
 
 
@@ -185,9 +171,8 @@ class Run:
     def of(self, commands):
         """The record of these commands."""
         first = [name for name in self.board.before if name in self.env]
-        for command in itertools.chain.from_iterable(self.env[name].split(";") for name in first):
-            self.perform(command)
-        for command in commands:
+        texts = (self.env[name].split(";") for name in first)
+        for command in itertools.chain(itertools.chain.from_iterable(texts), commands):
             self.perform(command)
         for name in "abp":
             self.text += f"var {name}={self.env[name]}\n" if name in self.env else f"unset {name}\n"
@@ -203,12 +188,10 @@ class Run:
         elif re.match("[a-z]+=", words[0]):
             # (a value with an `=` that is run as a text is an assignment)
             self.status = 0
+        elif effect := self.board.effect_of(words):
+            self.call(effect, words)
         else:
-            effect = self.board.effect_of(words)
-            if effect is None:
-                self.ending = f"stop unknown {words[0]}"
-            else:
-                self.call(effect, words)
+            self.ending = f"stop unknown {words[0]}"
 
     def call(self, effect, words):
         """Does a call of a device command."""
@@ -240,15 +223,12 @@ class Run:
     def set_all(self, sets, words):
         """Does what a success sets."""
         def meant(text):
-            if text.startswith("="):
-                return text[1:]
-            place = len(words) - 1 if text == "@last" else int(text[1:])
-            return words[place] if 1 <= place < len(words) else None
+            place = len(words) - 1 if text == "@last" else 0 if text[0] == "=" else int(text[1:])
+            return text[1:] if text[0] == "=" else words[place] if 1 <= place < len(words) else None
         for left, right in sets:
             name, value = meant(left), meant(right)
-            if name is None or value is None or left.startswith("@") and (name == "" or name.startswith("-") or "=" in name):
-                continue
-            self.env[name] = value
+            if None not in (name, value) and (left[0] == "=" or name and name[0] != "-" and "=" not in name):
+                self.env[name] = value
 
 
 def listing(board, environment, steady, most, commands):
@@ -266,7 +246,7 @@ def listing(board, environment, steady, most, commands):
 
 
 def printed(folder, number, steady, most):
-    """What is printed for the list with this number, and whether it is a listing."""
+    """What is printed for the list with this number, or the fault for which it is refused."""
     board, faults = BoardList(), []
     lines, commands, choice = (pathlib.Path(f"{folder}/{kind}{number}").read_bytes().decode()
                                for kind in ("list", "script", "choice"))
@@ -274,25 +254,26 @@ def printed(folder, number, steady, most):
         try:
             board.read_line(line)
         except Fault as fault:
-            faults.append(f"ubtool: device list line {at}: {fault}")
-    if faults:
-        # that there are too many alternatives counts before all other faults
-        return next((it for it in faults if it.endswith("alternatives")), faults[0]), False
+            faults.append(f"device list line {at}: {fault}")
+    # (that there are too many alternatives counts before all other faults)
+    must(not faults, next((it for it in faults if it.endswith("alternatives")), *faults[:1]) if faults else "")
     all_given, choice = board.alternatives(), choice.strip()
-    if choice == "" and len(all_given) > 1:
-        return f"ubtool: the device list has {len(all_given)} alternatives: name one by --given", False
-    if choice != "" and not 1 <= int(choice) <= len(all_given):
-        return f"ubtool: no alternative {choice}: the device list has {len(all_given)}", False
-    environment = {name: value for name, value in all_given[int(choice or 1) - 1].items() if value}
-    return listing(board, environment, steady, most, commands.split("\n")), True
+    must(choice or len(all_given) == 1, f"the device list has {len(all_given)} alternatives: name one by --given")
+    choice = choice or "1"
+    must(1 <= int(choice) <= len(all_given), f"no alternative {choice}: the device list has {len(all_given)}")
+    environment = {name: value for name, value in all_given[int(choice) - 1].items() if value}
+    return listing(board, environment, steady, most, commands.split("\n"))
 
 
 def main():
     """Prints it for each list."""
     count, folder, steady, *most = sys.argv[1:]
     for number in range(1, int(count) + 1):
-        text, is_listing = printed(folder, number, steady == "1", int(most[0]) if most else None)
-        print(f"== {number}\n{text}\nstatus {0 if is_listing else 1}")
+        try:
+            said, status = printed(folder, number, steady == "1", int(most[0]) if most else None), 0
+        except Fault as fault:
+            said, status = f"ubtool: {fault}", 1
+        print(f"== {number}\n{said}\nstatus {status}")
 
 
 main()
