@@ -10,6 +10,7 @@ import signal
 import subprocess
 import sys
 import time
+from graphlib import TopologicalSorter
 from pathlib import Path
 
 ROOT = os.path.dirname(os.path.dirname(os.path.abspath(__file__)))
@@ -151,17 +152,8 @@ class Crate:
 
 def every_crate():
     """Each crate of the repository, lowest first."""
-    kit, uses, found = kit_folder(), libraries(), {}
-
-    def add(name):
-        for it in uses[name]:
-            if it in uses and it not in found:
-                add(it)
-        found.setdefault(name, Crate(name, uses, kit))
-
-    for it in uses:
-        add(it)
-    return found
+    kit, uses = kit_folder(), libraries()
+    return {it: Crate(it, uses, kit) for it in TopologicalSorter(uses).static_order() if it in uses}
 
 
 def copy_programs():
