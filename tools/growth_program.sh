@@ -1,10 +1,6 @@
 #!/usr/bin/env bash
 # growth_program.sh PROGRAM: runs the built program ubtool once for each growth of memory that it makes, with that one
-# growth refused, for each of its commands. It does its work with status 0, or tells the line `ubtool: out of memory`
-# alone: with status 2 and no output until the words are read, then with status 1 (and with the name that it was called
-# by in front) and a front of the output, of a
-# listing whole records, after which it goes on, of endings and causes nothing. If it refused, the image is as it was, else
-# it is the wanted one; and nothing is written before the last read.
+# growth refused, for each of its commands. What it then does, docs/ROBUSTNESS.md tells.
 . "$(dirname "$0")/../tests/lib"
 set -e
 program=$(realpath "$1")
@@ -16,9 +12,7 @@ gcc -O2 -shared -fPIC -o refuse.so "$repository/tools/refuse.c" -ldl
 gcc -O2 -shared -fPIC -o calls.so "$repository/tools/refuse_io.c" -ldl
 mkdir given
 cd given
-for flag in 00 01; do
-    head -c 507 /dev/zero | to_image_of little "$flag"
-done >env.img
+for flag in 00 01; do head -c 507 /dev/zero | to_image_of little "$flag"; done >env.img
 printf 'env.img 0x0 0x200\nenv.img 0x200 0x200\n' >fw_env.config
 printf '# d\nload v=1\nfinal boot\n' >devices.txt
 "$program" setenv -c fw_env.config bootcmd \
@@ -31,7 +25,7 @@ mkdir lists
 printf 'load v=1' >lists/a
 printf 'final boot\n' >lists/b
 cp env.img image
-bytes '3b 06 98 45 61 3d 31 00 00' >single
+entries a=1 | to_image >single
 cd ..
 ln -s "$program" fw_setenv
 

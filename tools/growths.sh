@@ -1,16 +1,9 @@
 #!/usr/bin/env bash
 # growths.sh PROGRAM [PART..]: runs each part of the built program crates/tests_libraries/out/tests_libraries, or these
-# parts, once for each growth of memory that it makes, with that one growth refused, until a run meets no refusal.
-#
-# In `store`, `calls` and `rehearse` the program prints a line NAME:STATE for the beginning and after each change, and a
-# line `refused NAME:STATE` after a change that was refused for want of memory, and is then made again. So, of each run:
-#   - without the lines of refusals it prints what it prints with ample memory;
-#   - a refused change leaves the state of the line before it, but for the name of the change.
-# In `script`, whichever growth is refused, the variables are those after the first lines of the script: never fewer
-# lines than at the growth before, or none, if a growth before or after the lines is refused. Refused growths reach the last
-# line.
-# In `long`, a script of 1,000 commands and then seven device commands, growth number 100,000 alone is refused. If every
-# run were run from its start, there would be so many; this one ends before, with each command begun once.
+# parts, once for each growth of memory that it makes, with that one growth refused, until a run meets no refusal. What each
+# part shows, docs/ROBUSTNESS.md tells. In `store`, `calls` and `rehearse` the program prints a line NAME:STATE for the beginning
+# and after each change, and a line `refused NAME:STATE` after a change that was refused, and is then made again: that is the
+# state of the line before it, and without these lines it prints what it prints with ample memory.
 . "$(dirname "$0")/../tests/lib"
 set -e
 program=$(realpath "$1")
@@ -30,7 +23,7 @@ meets() {
     [ "$(cat met)" != 'not met' ]
 }
 
-# changes: the parts whose changes are made again.
+# changes: a part whose changes are made again.
 changes() {
     local refusals=0
     "$program" growths "$part" >ample
@@ -46,7 +39,7 @@ changes() {
     echo "$part: $((number - 1)) growths refused in turn, $refusals of them in a call that was then made again"
 }
 
-# script: the script that stops at its line.
+# script: the script that stops at its line. The lines that it does are never fewer than at the growth before.
 script() {
     local lines=0 found place
     printf 'refused: %s g=8 h=9\n' 'a=1 b=2' 'a=1 b=2 c=3' 'b=2 c=3' 'b=2 c=3 d=4' 'b=5 c=3 d=4' 'b=5 c=3 d=4 e=6' >states
@@ -66,10 +59,11 @@ script() {
     done
     [ "$(cat output)" = 'applied: b=5 c=3 d=4 e=6 f=7 g=8 h=9' ] || fail "without a refusal: $(cat output)"
     [ "$lines" -eq 6 ] || fail "no refusal in the last line, but behind $((lines - 1)) lines"
-    echo "$part: $((number - 1)) growths refused in turn: a script stops at its line, and the lines before it stay, or nothing changes"
+    echo "$part: $((number - 1)) growths refused in turn: a script stops at its line," \
+        'and the lines before it stay, or nothing changes'
 }
 
-# long: the script with a late growth refused.
+# long: the script with a late growth refused; if every run were run from its start, there would be so many.
 long() {
     number=100000
     ! meets || fail 'it was met'
