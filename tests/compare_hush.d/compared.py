@@ -58,10 +58,9 @@ class Script:
             self.said["2023.01"] += f"{line}\n"
         else:
             # (as `printf '%b'` reads it)
-            said = {"n": b"\n", "\\": b"\\"}
-            parts = re.split(r"\\(n|\\|x[0-9a-fA-F]{2})", line)
-            self.entries += b"".join((said.get(it) or bytes([int(it[1:], 16)])) if at % 2 else it.encode()
-                                     for at, it in enumerate(parts)) + b"\0"
+            said = {b"n": b"\n", b"\\": b"\\"}
+            self.entries += re.sub(rb"\\(n|\\|x[0-9a-fA-F]{2})", lambda it: said.get(it[1]) or bytes([int(it[1][1:], 16)]),
+                                   line.encode()) + b"\0"
 
     def write(self):
         """Writes its image, and the one that a board stores, with backslashes doubled; U-Boot imports `imported` itself."""
@@ -122,9 +121,8 @@ def differences(first, second):
     """The lines that the one text or the other has alone, as `diff` writes them."""
     if first == second:
         return ""
-    Path("first").write_text(first, encoding="latin-1")
     Path("second").write_text(second, encoding="latin-1")
-    said = subprocess.run(["diff", "first", "second"], stdout=subprocess.PIPE, check=False).stdout.decode("latin-1")
+    said = subprocess.run(["diff", "-", "second"], input=first, stdout=subprocess.PIPE, encoding="latin-1", check=False).stdout
     return "".join(f"{it}\n" for it in said.split("\n") if it[:1] in ("<", ">"))
 
 
@@ -162,11 +160,8 @@ def compare(scripts, shell, column):
 
 def few(most, listing):
     """The runs of a listing in which at most so many device commands fail, and its last line."""
-    kept, lines = False, []
-    for line in re.findall("[^\n]*\n", listing):
-        kept = "".join(line.split()[1:2]).count("1") <= most if line.startswith("run ") else kept
-        lines += [line] if kept or line == "done\n" else []
-    return "".join(lines)
+    parts = re.split("^(?=run |done$)", listing, flags=re.M)
+    return "".join(it for it in parts if it[:4] == "done" or it[:4] == "run " and it.split()[1].count("1") <= most)
 
 
 def compare_few(scripts, shell):
@@ -196,13 +191,8 @@ def compare_old(scripts):
 
 def runs_of(listing):
     """Of each run of a listing its lines, those of device commands among them, and the last one."""
-    found = []
-    for line in listing.split("\n"):
-        if line.startswith("run "):
-            found.append([])
-        if found and line not in ("done", ""):
-            found[-1].append(line)
-    return [("\n".join(it), [line for line in it if line.startswith("dev ")], it[-1]) for it in found]
+    records = re.findall("^run .*(?:\n(?!run |done$).+)*", listing, re.M)
+    return [(it, re.findall("^dev .*", it, re.M), it.rpartition("\n")[2]) for it in records]
 
 
 def beside(ours, their):
@@ -221,10 +211,9 @@ def beside(ours, their):
 def with_shell(shell, folder, count):
     """How ubtool's listings with --shell are beside those of the shell's sandbox, without messages: a verdict for each number. After
     `exit` in `bootcmd` the modern shell lists `prompt` for `end`."""
-    images = folder if folder.startswith("random.") else "."
     verdicts = []
     for number in range(1, count + 1):
-        image = f"{images}/{number}.stored"
+        image = f"{folder if folder.startswith('random.') else '.'}/{number}.stored"
         their = re.sub("^prompt ", "end ", theirs(folder, number, "echoed"), flags=re.M)
         verdicts.append(beside(rehearsed(image, "--shell", shell), their))
         if verdicts[-1] not in ("same", "stops"):
