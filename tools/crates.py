@@ -5,6 +5,7 @@ crates/*/out.
 Usage: tools/crates.py CRATE: these words for the crate, one a line."""
 import hashlib
 import os
+import re
 import shutil
 import signal
 import subprocess
@@ -28,9 +29,8 @@ def kit_folder():
 
 def libraries():
     """For each crate the libraries that crates.txt names for it: the repository's and the kit's."""
-    with open(f"{ROOT}/crates.txt", encoding="utf-8") as file:
-        lines = [line.partition(":") for line in file if line.strip() and not line.startswith("#")]
-    return {name: uses.split() for name, _, uses in lines}
+    lines = Path(f"{ROOT}/crates.txt").read_text(encoding="utf-8")
+    return {name: uses.split() for name, uses in re.findall("^([^#:\n]+):(.*)", lines, re.M)}
 
 
 def below(crate, uses):
@@ -58,8 +58,7 @@ def prover_words(crate, uses, jobs=1):
 
 def provers(memory):
     """How many provers, of so much memory in bytes, may run at one time: one a core, if there is memory for them."""
-    with open("/proc/meminfo", encoding="ascii") as file:
-        free = next(int(line.split()[1]) * 1024 for line in file if line.startswith("MemAvailable:"))
+    free = 1024 * int(re.search(r"MemAvailable: *(\d+)", Path("/proc/meminfo").read_text(encoding="ascii"))[1])
     return max(min(len(os.sched_getaffinity(0)), free // memory), 1)
 
 
@@ -72,6 +71,8 @@ class Crate:
         self.below = [it for it in self.uses if it in uses]
         self.all_below = below(name, uses)
         self.folder = f"{ROOT}/crates/{name}"
+        # (the sum of all that it was made from when it was built here; rt removes it with the library when it builds its own)
+        self.kept_sum = f"{self.folder}/out/rlib/built"
         self.is_program = os.path.exists(f"{self.folder}/src/main.rt")
         self.jobs = self.used = 0
         self.ran = None
@@ -86,11 +87,6 @@ class Crate:
         """How many lines of code it has: about how much work it is."""
         return sum(Path(it).read_bytes().count(b"\n") for it in self.files() if it.endswith(".rt"))
 
-    def kept_sum(self):
-        """The file with the sum of all that the crate was made from when it was built here."""
-        # (rt removes this file with the library when it builds its own)
-        return f"{self.folder}/out/rlib/built"
-
     def sum_of_files(self, *more):
         """A sum of the kit, of the crate's own files, and of more files."""
         made = hashlib.sha256(" ".join(self.uses).encode())
@@ -100,7 +96,7 @@ class Crate:
 
     def sum_of_all(self, crates):
         """A sum of all that the crate is made from. The crates that it stands on are built."""
-        return self.sum_of_files(*(crates[it].kept_sum() for it in self.below))
+        return self.sum_of_files(*(crates[it].kept_sum for it in self.below))
 
     def commands(self):
         """The commands that prove the crate and build it: a library; or a program, which is compiled and linked."""
@@ -141,13 +137,13 @@ class Crate:
         it stands on are built."""
         made = f"{self.folder}/out/{self.name if self.is_program else f'rlib/{self.name}.rlib'}"
         try:
-            return os.path.exists(made) and Path(self.kept_sum()).read_text(encoding="utf-8") == self.sum_of_all(crates)
+            return os.path.exists(made) and Path(self.kept_sum).read_text(encoding="utf-8") == self.sum_of_all(crates)
         except OSError:
             return False
 
     def keep_sum(self, made_from):
         """Keeps the sum of all that the crate was made from, beside what was built."""
-        Path(self.kept_sum()).write_text(made_from, encoding="utf-8")
+        Path(self.kept_sum).write_text(made_from, encoding="utf-8")
 
 
 def every_crate():

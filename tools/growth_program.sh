@@ -59,8 +59,7 @@ each_growth() {
         if [ "$status" -eq 0 ]; then
             [ "$output" = "$ample" ] || fail 'another output'
             cmp -s env.img changed || fail 'another changed image'
-            cp image env.img
-            rm -f new.img
+            cp image env.img && rm -f new.img
             continue
         fi
         [ "$status" -le "$before" ] || fail "status $status"
@@ -95,14 +94,13 @@ goes_on() {
     [ "$output$rest" = "$ample" ] || fail 'another rest of the listing'
 }
 
-# begin WORD..: the same beside the other commands.
 begun=()
+# begin WORD..: the same beside the other commands.
 begin() {
     each_growth "${#begun[@]}" "$called" "$input" "$@" &
     begun+=($!)
 }
-called=$program
-input=single
+called=$program input=single
 begin rehearse -c fw_env.config -d devices.txt
 begin rehearse -c fw_env.config -d devices.txt a v
 begin endings -c fw_env.config -d devices.txt
@@ -123,8 +121,7 @@ begin setenv -c fw_env.config t
 begin setenv -c fw_env.config -s changes.txt
 begin setenv -c fw_env.config -l . b 1
 begin printenv -c fw_env.config -l . t
-called=../fw_setenv
-input=changes.txt
+called=../fw_setenv input=changes.txt
 begin -c fw_env.config -s -
 for process in "${begun[@]}"; do
     wait "$process" || failed=1

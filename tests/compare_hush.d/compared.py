@@ -208,9 +208,9 @@ def beside(ours, their):
     return "stops" if stopped else "same" if len(ours) == len(their) else f"{len(ours)} runs and {len(their)}"
 
 
-def with_shell(shell, folder, count):
-    """How ubtool's listings with --shell are beside those of the shell's sandbox, without messages: a verdict for each number. After
-    `exit` in `bootcmd` the modern shell lists `prompt` for `end`."""
+def with_shell(shell, folder, count, kind="scripts"):
+    """How ubtool's listings with --shell are beside those of the shell's sandbox, without messages: a verdict for each number;
+    and how many are the same and stop. After `exit` in `bootcmd` the modern shell lists `prompt` for `end`."""
     verdicts = []
     for number in range(1, count + 1):
         image = f"{folder if folder.startswith('random.') else '.'}/{number}.stored"
@@ -219,16 +219,16 @@ def with_shell(shell, folder, count):
         if verdicts[-1] not in ("same", "stops"):
             entries = Path(image).read_bytes()[4:].replace(b"\0", b"\n").decode("latin-1")
             same(f"with --shell {shell}: {entries}", verdicts[-1], "")
-    return verdicts
+    alike, stops = verdicts.count("same"), verdicts.count("stops")
+    print(f"compared with --shell {shell}: {alike} {kind} the same, {stops} that stop", flush=True)
+    return verdicts, alike, stops
 
 
 def compare_shell(shell, folder, scripts):
     """All scripts with --shell, and what the page says of how many are the same and stop."""
-    verdicts = with_shell(shell, folder, len(scripts))
-    alike, stops = verdicts.count("same"), verdicts.count("stops")
+    verdicts, alike, stops = with_shell(shell, folder, len(scripts))
     holds(f"--shell {shell}: {alike} the same, {stops} that stop, in the table",
           re.search(f"^\\| `{re.escape(shell)}` \\| {alike} of {alike + stops} \\| {stops}", TABLE, re.M))
-    print(f"compared with --shell {shell}: {alike} scripts the same, {stops} that stop", flush=True)
     return verdicts
 
 
@@ -247,10 +247,8 @@ def compare_random(shell, version, kind):
     os.mkdir(folder)
     subprocess.run([f"{PARTS}/random_scripts", count, os.environ.get("UBTOOL_SEED", "1")], cwd=folder, check=True)
     run_shell(folder, version, kind, count)
-    verdicts = with_shell(shell, folder, int(count))
-    alike = verdicts.count("same")
+    _, alike, _ = with_shell(shell, folder, int(count), "random scripts")
     holds(f"--shell {shell}: {alike} of {count} random scripts the same", 5 * alike >= int(count))
-    print(f"compared with --shell {shell}: {alike} random scripts the same, {verdicts.count('stops')} that stop", flush=True)
 
 
 def main():
