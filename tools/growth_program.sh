@@ -80,14 +80,9 @@ each_growth() {
 
 # goes_on: the listing that was broken off goes on behind its last record, or anew.
 goes_on() {
-    local word line last='' after='' rest
-    while read -r line; do
-        last=$line
-        case $line in
-        'run '*) word=${line#run } ;;
-        'end '* | 'cut '* | 'stop '* | 'booted '* | 'restarted '* | 'halted '*) after=$word ;;
-        esac
-    done <<<"${output%$'\n'}"
+    local after last rest
+    after=$(sed -n 's/^run //p' output | tail -n 1)
+    last=$(tail -n 1 output)
     [[ -z $output || $last =~ ^(end|cut|stop|booted|restarted|halted)\  ]] || fail "a record in part: $last"
     "$program" "${words[@]}" ${after:+--after "$after"} >rest
     texts rest
