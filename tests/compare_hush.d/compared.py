@@ -78,14 +78,9 @@ def rehearsed(image, *words):
 
 def take_scripts():
     """All scripts of all files, numbered from 1, with what ubtool lists of them."""
-    blocks = [[]]
-    for file in sorted(PARTS.glob("*.scripts")):
-        for line in [*file.read_text(encoding="utf-8").split("\n"), ""]:
-            if line == "" and blocks[-1]:
-                blocks.append([])
-            elif line and not line.startswith("#"):
-                blocks[-1].append(line)
-    scripts = [Script(number, lines) for number, lines in enumerate(filter(None, blocks), 1)]
+    texts = [re.sub("^#.*\n", "", file.read_text(encoding="utf-8"), flags=re.M) for file in sorted(PARTS.glob("*.scripts"))]
+    blocks = [block.split("\n") for text in texts for block in re.split("\n\n+", text.strip("\n"))]
+    scripts = [Script(number, lines) for number, lines in enumerate(blocks, 1)]
     for it in scripts:
         it.write()
         image = f"{it.number}.{it.kind}"
