@@ -267,6 +267,39 @@ a word of profile, in old
   ! ubtool: no run has the word 00
   [1]
 
+`exit` in an `if` and behind it, in modern
+  $ script exits 'bootcmd=if load; then exit 3; fi; echo $?; exit 4'
+  $ ubtool rehearse -c exits.config -d devices --shell modern z
+  run 0
+  dev 0 load
+  text 251\n
+  unset z
+  end 4
+  run 1
+  dev 1 load
+  text 0\n
+  unset z
+  end 4
+  done
+
+its ending, in modern
+  $ ubtool endings -c exits.config -d devices --shell modern
+  ends 2 first 0 fewest 0 0 end 4
+  all 2 states 1
+
+the same, in old
+  $ ubtool rehearse -c exits.config -d devices --shell old z
+  run 0
+  dev 0 load
+  unset z
+  end 0
+  run 1
+  dev 1 load
+  text 1\n
+  unset z
+  end 4
+  done
+
 a shell 'modern-2023'
   $ ubtool rehearse -c shells.config -d devices --shell modern-2023
   ! error: invalid value 'modern-2023' for '--shell <NAME>'
