@@ -3,7 +3,7 @@ use Rattle.std.proofs.Common.{◌≡◌, ◌∙◌, refl, sym, ap, subst, ℕ, s
 use Rattle.hushlang.specs.Tree.{Script, Joined, Arms}
 use Rattle.rehearse_terms.specs.Outcomes.{OutcomeWord, WordKind, Run, Long}
 use Rattle.rehearse_terms.specs.State.{Text, State, LoggedCommand, get}
-use Rattle.rehearse_rules.specs.Execution.{Limits, Answer, Normal, Exit, Ended, Dry, Ending, End, take_outcome, run_all, turns, for_each, block_skipped, go_on}
+use Rattle.rehearse_rules.specs.Execution.{Limits, Answer, Normal, Exit, Ended, Dry, Ending, End, take_outcome, run_all, turns, block_skipped, go_on}
 use Rattle.rehearse_rules.specs.Runs.{taken_kind}
 use Rattle.rehearse_rules.proofs.TakenOutcomes.{KeepsAll, Keeps-script, Keeps-joined, Keeps-arms, Keeps-exec, Keeps-run, Keeps-turns, Keeps-for, Keeps-if, Keeps-stays, after_condition, Keeps-after_condition, Keeps-skip}
 use Rattle.rehearse_machine.specs.Came.{Over, settled}

@@ -23,7 +23,7 @@ use Rattle.rehearse_rules.proofs.CompoundLemmas.{compound_normal, compound_ended
 use Rattle.rehearse_rules.proofs.GrowingSteps.{Grew, AtLeast-track, Grew-block}
 use Rattle.rehearse_rules.proofs.TakenOutcomes.{KeepsAll, Keeps-script, Keeps-exec}
 use Rattle.rehearse_machine.specs.Frames.{Frame, Lists, Linked, IfCondition, LoopCondition, LoopBody, ForBody, RunNames, RunText, Next, Go, Ask, Stop, tell_or_ask, finish_next, leave, begin_assign, begin_for, begin_arms, begin_tree, begin_text, begin_names, begin_exit, fitting, ask, begin_called, begin_fields, counted, begin_command, answered, move, begin_turns, begin_words, CommandEnd, leave_compound, behind_block}
-use Rattle.rehearse_machine.specs.Meaning.{with, full, script, one, joined_of, arms_of, again, resume, AreProperFrames}
+use Rattle.rehearse_machine.specs.Meaning.{with, full, script, one, joined_of, arms_of, again, AreProperFrames}
 use Rattle.rehearse_machine.proofs.MoveMeaning.{failed_with_1, turn_more}
 use Rattle.rehearse_machine.proofs.StepBoundLemmas.{closed_exec}
 use Rattle.rehearse_machine.proofs.BoundLemmas.{Cut-block}
