@@ -205,12 +205,14 @@ def beside(ours, their):
 
 def with_shell(shell, folder, count, kind="scripts"):
     """How ubtool's listings with --shell are beside those of the shell's sandbox, without messages: a verdict for each number;
-    and how many are the same and stop. After `exit` in `bootcmd` the modern shell lists `prompt` for `end`."""
+    and how many are the same and stop. After `exit` in `bootcmd` the modern shell lists `prompt` for
+    `end`. Where it gives up it lists `panic`, without the name of the text."""
     verdicts = []
     for number in range(1, count + 1):
         image = f"{folder if folder.startswith('random.') else '.'}/{number}.stored"
         their = re.sub("^prompt ", "end ", theirs(folder, number, "echoed"), flags=re.M)
-        verdicts.append(beside(rehearsed(image, "--shell", shell), their))
+        ours = re.sub("^stop panic .*", "panic", rehearsed(image, "--shell", shell), flags=re.M)
+        verdicts.append(beside(ours, their))
         if verdicts[-1] not in ("same", "stops"):
             entries = Path(image).read_bytes()[4:].replace(b"\0", b"\n").decode("latin-1")
             same(f"with --shell {shell}: {entries}", verdicts[-1], "")

@@ -45,11 +45,11 @@ function many(number, thing) {
 }
 
 # class_of(ENDING): good where the board boots, again where it starts anew or is switched off, bad where it is left at the
-# prompt, open where the rehearsal does not know.
+# prompt or its shell gives up, open where the rehearsal does not know.
 function class_of(ending) {
     if (ending ~ /^(restarted|halted) /) return "again"
     if (ending ~ /^booted /) return "good"
-    return ending ~ /^end / ? "bad" : "open"
+    return ending ~ /^(end|stop panic) / ? "bad" : "open"
 }
 
 # said_of(ENDING): the ending in words, as HTML.
@@ -64,6 +64,7 @@ function said_of(ending,    words) {
     if (words[2] == "unknown") return "Stops at " code(words[3]) ", which is no command of the device list"
     if (words[2] == "syntax") return "Stops at the text of " code(words[3]) ", which is no script"
     if (words[2] == "unsupported") return "Stops at " code(words[3]) ": what the shell does there is not followed"
+    if (words[2] == "panic") return "Resets or hangs the board at the text of " code(words[3]) ", by which the shell gives up"
     return "Stops at words that grow too large"
 }
 

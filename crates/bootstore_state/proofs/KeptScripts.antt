@@ -10,7 +10,7 @@ use Rattle.std.specs.declared.alloc.Global.{Global}
 use Rattle.std.specs.declared.rc.Rc.{Rc}
 use Rattle.std.specs.declared.vec.Vec.{Vec}
 use Rattle.hushlang.specs.declared.tree.Script.{Script as Code}
-use Rattle.hushlang_shells.specs.TreesByShell.{tree_in}
+use Rattle.hushlang_shells.specs.TreesByShell.{TextRead, Runs, started_in}
 use Rattle.rehearse_terms.specs.declared.shell.Shell.{Shell}
 use Rattle.bootstore_state.specs.Moment.{Bytes}
 use Rattle.bootstore_state.specs.Scripts.{AreOfTexts, script_shown}
@@ -21,17 +21,17 @@ abbrev Kept : Type 0
 Kept = Vec ℕ Global × Rc Code Global
 
 abbrev IsRight : Shell → Kept → Type 0
-IsRight shell e = tree_in shell e.0.items ≡ Some (script_shown e.1)
+IsRight shell e = started_in shell e.0.items ≡ Runs (script_shown e.1)
 
 -- what a look-up finds is the script of the text
-pub script_found : (shell : Shell) (es : List Kept) (text : Bytes) (s : Rc Code Global) → AreOfTexts shell es → Some s ≡ lookup (is_name text) es → Some (script_shown s) ≡ tree_in shell text
+pub script_found : (shell : Shell) (es : List Kept) (text : Bytes) (s : Rc Code Global) → AreOfTexts shell es → Some s ≡ lookup (is_name text) es → Runs (script_shown s) ≡ started_in shell text
 script_found shell [] text s right found = absurd (let f = found in cc)
 script_found shell (e ∷ es) text s right found = at (script_found shell es text s (All-tail (IsRight shell) e es right)) (is_name text e.0) refl found
   where
-    at : (Some s ≡ lookup (is_name text) es → Some (script_shown s) ≡ tree_in shell text) → (b : Bool) → is_name text e.0 ≡ b → Some s ≡ cond b (Some e.1) (lookup (is_name text) es) → Some (script_shown s) ≡ tree_in shell text
+    at : (Some s ≡ lookup (is_name text) es → Runs (script_shown s) ≡ started_in shell text) → (b : Bool) → is_name text e.0 ≡ b → Some s ≡ cond b (Some e.1) (lookup (is_name text) es) → Runs (script_shown s) ≡ started_in shell text
     at rest true here f =
-        ap (λ (o : Option (Rc Code Global)). elim o [ None ↦ Some (script_shown s) | Some r ↦ Some (script_shown r) ]) f
-        ∙ sym (All-head (IsRight shell) e es right) ∙ ap (tree_in shell) (sym (same_name text e.0.items here))
+        ap (λ (o : Option (Rc Code Global)). elim o [ None ↦ Runs (script_shown s) | Some r ↦ Runs (script_shown r) ]) f
+        ∙ sym (All-head (IsRight shell) e es right) ∙ ap (started_in shell) (sym (same_name text e.0.items here))
     at rest false here f = rest f
 
 -- one more is kept
@@ -42,5 +42,5 @@ scripts_kept shell (e ∷ es) k s right one = at (scripts_kept shell es k s (All
     at : AreOfTexts shell (insert_entry key_cmp es k s) → (r : Ordering) → key_cmp k e.0 ≡ r
         → AreOfTexts shell (match_ordering r ((k, s) ∷ e ∷ es) ((e.0, s) ∷ es) (e ∷ insert_entry key_cmp es k s))
     at rest Less t = All-cons (IsRight shell) (k, s) (e ∷ es) one right
-    at rest Equal t = All-cons (IsRight shell) (e.0, s) es (ap (tree_in shell) (sym (same_key k.items e.0.items t)) ∙ one) (All-tail (IsRight shell) e es right)
+    at rest Equal t = All-cons (IsRight shell) (e.0, s) es (ap (started_in shell) (sym (same_key k.items e.0.items t)) ∙ one) (All-tail (IsRight shell) e es right)
     at rest Greater t = All-cons (IsRight shell) e (insert_entry key_cmp es k s) (All-head (IsRight shell) e es right) rest

@@ -1,9 +1,10 @@
--- How the logic stores what a script says: each part as a tree of numbers that gives it back.
-use Rattle.std.specs.Prelude.{◌≡◌, ◌≢◌, ℕ, List}
-use Rattle.std.proofs.Common.{ap, arith}
-use Rattle.std.specs.Coded.{Coded, coded×, coded_ℕ, coded_bool, coded_list}
+-- How the logic stores what a script says: each part as a tree of numbers that gives it back. And so what becomes of a text.
+use Rattle.std.specs.Prelude.{◌≡◌, ◌≢◌, ◌⊎◌, ℕ, zero, suc, List}
+use Rattle.std.proofs.Common.{ap, arith, inl, inr, refl}
+use Rattle.std.specs.Coded.{Coded, code_by, coded×, coded⊎, coded_ℕ, coded_bool, coded_list}
 use base.Stored.{Gv, gnil, gnum, gcons}
 use Rattle.hushlang.specs.contracts.tree.Op as op
+use Rattle.hushlang_shells.specs.TreesByShell as read
 use Rattle.hushlang.specs.Tree.{Piece, Bytes, Mark, Var, Status, Word, Script, Empty, Runs, AndOr, Starts, Joined, Alone, Joins, Command, Simple, Assign, If, Loop, For, Arms, NoElse, Else, Arm}
 
 abbrev head : Gv → Gv
@@ -153,3 +154,24 @@ mutual
 
 abbrev pub coded_script : Coded Script
 coded_script = record { code = script_code; inj = script_inj }
+
+abbrev as_sum : read.TextRead → Script ⊎ ℕ
+as_sum (read.Runs script) = inl script
+as_sum read.Fails = inr 0
+as_sum read.Panics = inr 1
+as_sum read.Unread = inr 2
+
+abbrev of_sum : Script ⊎ ℕ → read.TextRead
+of_sum (inl script) = read.Runs script
+of_sum (inr zero) = read.Fails
+of_sum (inr (suc zero)) = read.Panics
+of_sum (inr (suc (suc n))) = read.Unread
+
+pub of_as_sum : (found : read.TextRead) → of_sum (as_sum found) ≡ found
+of_as_sum (read.Runs script) = refl
+of_as_sum read.Fails = refl
+of_as_sum read.Panics = refl
+of_as_sum read.Unread = refl
+
+abbrev pub coded_read : Coded read.TextRead
+coded_read = code_by (Script ⊎ ℕ) (coded⊎ coded_script coded_ℕ) as_sum of_sum of_as_sum

@@ -12,6 +12,6 @@ mod table;
 pub use frame::{At, Frame, FrameKind};
 pub use log::{LogEntry, has_succeeded};
 pub use present::{Present, Scope};
-pub use scripts::{Scripts, TextFound, read_script};
+pub use scripts::{Scripts, TextFound};
 pub use store::{Store, StoreError};
 pub use table::{Place, Table, Variables};

@@ -1,15 +1,15 @@
 //! The scripts of texts. A text that was read is not read again while its script is kept.
-ghost use Rattle.std.specs.Prelude.{◌≡◌, ◌+◌, ◌≤◌, true, Some, None, IfOk, option_map};
+ghost use Rattle.std.specs.Prelude.{◌≡◌, ◌+◌, ◌≤◌, true, Some, IfOk, option_map};
 ghost use Rattle.std.specs.FinMap.{get};
 ghost use Rattle.hushlang.specs.TreesShown as view;
-ghost use Rattle.hushlang_shells.specs.TreesByShell.{has_fault_in, tree_in};
-ghost use Rattle.bootstore_state.specs.Scripts.{AreOfTexts, fault_found, most_kept, one_proof, script_shown, text_found};
+ghost use Rattle.hushlang_shells.specs.TreesByShell as read;
+ghost use Rattle.bootstore_state.specs.Scripts.{AreOfTexts, most_kept, one_proof, text_found};
 ghost use Rattle.bootstore_state.specs.Table.{variables_of};
 
 use crate::store::StoreError;
 use crate::table::Table;
 use hushlang::Script;
-use hushlang_shells::{read_text, text_has_fault};
+use hushlang_shells::{TextRead, read_started};
 use rehearse_terms::Shell;
 use std::alloc::Global;
 use std::collections::BTreeMap;
@@ -18,17 +18,19 @@ use std::rc::Rc;
 /// The most bytes of texts whose scripts are kept at one time.
 const KEPT_MAX: usize = 262_144;
 
-/// What the text of a variable is.
+/// What becomes of the text of a variable that `run` starts.
 #[derive(Drop)]
 pub enum TextFound {
     /// The variable is not set.
     Unset,
-    /// The shell cannot read the text, or what it does with it is not known.
-    NoScript,
-    /// The text has a fault, by which the shell runs nothing of it.
-    Faulty,
-    /// The script of the text.
+    /// The script of the text is run.
     Script(Rc<Script>),
+    /// The shell tells a fault: nothing of the text is run, and the status is 1.
+    Fails,
+    /// The shell gives up: the board resets or hangs.
+    Panics,
+    /// It is no script of ubtool's own grammar; or what U-Boot's shell does with it is not followed.
+    Unread,
 }
 
 /// Scripts by their texts, all read by the rules of one shell.
@@ -40,25 +42,6 @@ pub struct Scripts {
     bytes: usize,
     ghost texts: { AreOfTexts shell kept.entries } by { one_proof shell kept.entries },
     ghost bound: { bytes ≤ most_kept },
-}
-
-/// The script of a text, if the shell can read it. Errors: `Memory`.
-pub fn read_script(alloc: Global, shell: Shell, text: &[u8]) -> Result<Option<Script>, StoreError>
-    ensures { IfOk result (λ found. option_map view.script found ≡ tree_in shell text.now) }
-{
-    Ok(read_text(alloc, shell, text)?)
-}
-
-/// What a text is that has no script. Errors: `Memory`.
-fn without_script(alloc: Global, shell: Shell, text: &[u8]) -> Result<TextFound, StoreError>
-    ensures found { IfOk result (λ found. text_found found ≡ Some None) }
-    ensures ends { IfOk result (λ found. fault_found found ≡ Some (has_fault_in shell text.now)) }
-{
-    if text_has_fault(alloc, shell, text)? {
-        Ok(TextFound::Faulty)
-    } else {
-        Ok(TextFound::NoScript)
-    }
 }
 
 /// Whether two shells are the same.
@@ -99,7 +82,7 @@ impl Scripts {
 
     /// Keeps the script of a text, unless the text alone is too long. Errors: `Memory`.
     fn keep(&mut self, text: &[u8], script: &Rc<Script>) -> Result<(), StoreError>
-        requires { tree_in self.old.shell text.now ≡ Some (view.script script.now.value) }
+        requires { read.started_in self.old.shell text.now ≡ read.Runs (view.script script.now.value) }
     {
         if text.len() > KEPT_MAX {
             return Ok(());
@@ -122,41 +105,46 @@ impl Scripts {
         }
     }
 
-    /// The script of a text, if the shell can read it. It is read only if it is not kept. Errors: `Memory`.
-    fn script_of(&mut self, text: &[u8]) -> Result<Option<Rc<Script>>, StoreError>
-        ensures { IfOk result (λ found. option_map script_shown found ≡ tree_in self.old.shell text.now) }
+    /// A script that was read, which is kept. Errors: `Memory`.
+    fn script_read(&mut self, text: &[u8], script: Script) -> Result<TextFound, StoreError>
+        requires { read.started_in self.old.shell text.now ≡ read.Runs (view.script script) }
+        ensures { IfOk result (λ found. text_found found ≡ Some (read.Runs (view.script script))) }
     {
-        if let Some(script) = self.kept.get(text) {
-            return Ok(Some(script.clone()?));
-        }
-        let Some(script) = read_script(self.alloc, self.shell, text)? else {
-            return Ok(None);
-        };
         let script = Rc::new(self.alloc, script)?;
         self.keep(text, &script)?;
-        Ok(Some(script))
+        Ok(TextFound::Script(script))
     }
 
-    /// What the text of a variable is in this shell. Errors: `Memory`.
-    #[tactic(auto, using(hushlang_shells::proofs::TreeByShellLemmas::read_is_faultless))]
+    /// What becomes of a text that `run` starts. It is read only if its script is not kept. Errors:
+    /// `Memory`.
+    fn read(&mut self, text: &[u8]) -> Result<TextFound, StoreError>
+        ensures { IfOk result (λ found. text_found found ≡ Some (read.started_in self.old.shell text.now)) }
+    {
+        if let Some(script) = self.kept.get(text) {
+            return Ok(TextFound::Script(script.clone()?));
+        }
+        match read_started(self.alloc, self.shell, text)? {
+            TextRead::Runs(script) => self.script_read(text, script),
+            TextRead::Fails => Ok(TextFound::Fails),
+            TextRead::Panics => Ok(TextFound::Panics),
+            TextRead::Unread => Ok(TextFound::Unread),
+        }
+    }
+
+    /// What becomes of the text of a variable that `run` starts in this shell. Errors: `Memory`.
     pub fn text_of(
         &mut self,
         shell: Shell,
         variables: &Table,
         name: &[u8],
     ) -> Result<TextFound, StoreError>
-        ensures found { IfOk result (λ found. text_found found
-            ≡ option_map (tree_in shell) (get (variables_of variables.now) name.now)) }
-        ensures ends { IfOk result (λ found. fault_found found
-            ≡ option_map (has_fault_in shell) (get (variables_of variables.now) name.now)) }
+        ensures { IfOk result (λ found. text_found found
+            ≡ option_map (read.started_in shell) (get (variables_of variables.now) name.now)) }
     {
         let Some(text) = variables.get(name) else {
             return Ok(TextFound::Unset);
         };
         self.take_shell(shell);
-        match self.script_of(text)? {
-            None => without_script(self.alloc, shell, text),
-            Some(script) => Ok(TextFound::Script(script)),
-        }
+        self.read(text)
     }
 }

@@ -5,9 +5,9 @@ ghost use Rattle.bootstore_state.specs.Moment.{environment_of};
 ghost use Rattle.text.specs.TextsShown.{option_bytes};
 ghost use Rattle.bootstore_state.specs.Present.{moment_of};
 ghost use Rattle.bootstore_state.specs.Record.{Record, fresh, started, stepped, with_mark, gone_back, changed, with_environment, with_local, with_echo, with_device, with_status, with_frame, with_place, without_frame};
-ghost use Rattle.bootstore_state.specs.Scripts.{fault_found, text_found};
+ghost use Rattle.bootstore_state.specs.Scripts.{text_found};
 ghost use Rattle.rehearse_terms.specs.Bounds.{most_steps};
-ghost use Rattle.hushlang_shells.specs.TreesByShell.{has_fault_in, tree_in};
+ghost use Rattle.hushlang_shells.specs.TreesByShell.{started_in};
 
 use crate::frame::{At, Frame};
 use crate::log::LogEntry;
@@ -119,13 +119,11 @@ pub trait Store: Drop {
     fn back(&mut self)
         ensures { record_of self.new ≡ gone_back (record_of self.old) };
 
-    /// What the text of an environment variable is in this shell. Its script is shared, and kept for the next call
+    /// What becomes of the text of an environment variable that `run` starts in this shell. Its script is shared, and kept for the next call
     /// with the same text and the same shell.
     fn text_of(&mut self, shell: Shell, name: &[u8]) -> Result<TextFound, StoreError>
         ensures found { IfOk result (λ found. text_found found
-            ≡ option_map (tree_in shell) (get (record_of self.old).present.environment name.now)) }
-        ensures ends { IfOk result (λ found. fault_found found
-            ≡ option_map (has_fault_in shell) (get (record_of self.old).present.environment name.now)) }
+            ≡ option_map (started_in shell) (get (record_of self.old).present.environment name.now)) }
         ensures same { record_of self.new ≡ record_of self.old };
 
     /// The present state, from which the readers below read.

@@ -7,7 +7,7 @@ use Rattle.hushlang.specs.Words.{reserved}
 use Rattle.hushlang.specs.WordPieces.{pieces}
 use Rattle.hushlang.specs.Parsing.{whole, script, command, simple, keyword, next, behind, sees, expect, joined, joined_all, and_or, lists, lists_all, block, arm, arms, arms_all, if_command, body_of, loop_command, for_command, name, name_next, expect_in, in_next, all_words, separators, separator_next, closes_next, op_next, refusal, missing, at_last, word_next, assignment_next, assignments}
 use Rattle.hushlang.specs.Expansion.{atoms, fields}
-use Rattle.hushlang_old.specs.OldTrees.{old_tree_of}
+use Rattle.hushlang_old.specs.OldTrees.{old_tree_of, has_fault}
 use Rattle.hushlang_modern.specs.ModernTrees.{modern_text}
 use Rattle.hushcheck.specs.Calls.{Lacks, NotFollowed, Warns}
 use Rattle.hushcheck.specs.Names.{run_by_text}
@@ -24,16 +24,25 @@ unread_profile : is_unread (Some Profile) (codes "fi") ≡ false
 unread_profile = refl
 
 unread_old : is_unread (Some Old2023) (codes "if a; then b; fi fi") ≡ true
-unfolding old_tree_of
+unfolding old_tree_of has_fault
 unread_old = refl
 
 unread_newer : is_unread (Some Old2025) (codes "a & b") ≡ true
-unfolding old_tree_of
+unfolding old_tree_of has_fault
 unread_newer = refl
 
 unread_modern : is_unread (Some Modern2025) (codes "a | b") ≡ true
 unfolding modern_text
 unread_modern = refl
+
+-- also one that the shell answers with a fault, and one by which it gives up
+fault_in_modern : is_unread (Some Modern2025) (codes "echo ${a.b}") ≡ true
+unfolding modern_text
+fault_in_modern = refl
+
+panic_in_modern : is_unread (Some Modern2025) (codes "fi") ≡ true
+unfolding modern_text
+panic_in_modern = refl
 
 read_modern : is_unread (Some Modern2025) (codes "if a; then else b; fi") ≡ false
 unfolding modern_text

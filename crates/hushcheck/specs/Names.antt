@@ -12,7 +12,7 @@ use Rattle.hushlang.specs.Tree.{Script, Empty, Runs, AndOr, Starts, Joined, Alon
 use Rattle.hushlang.specs.TreesShown as view
 use Rattle.hushlang.specs.declared.tree.Script as code_script
 use Rattle.hushlang.specs.declared.token.SyntaxError.{SyntaxError}
-use Rattle.hushlang_shells.specs.TreesByShell.{tree_in}
+use Rattle.hushlang_shells.specs.TreesByShell.{TextRead, Runs, Fails, Panics, Unread, started_in}
 use Rattle.rehearse_terms.specs.declared.shell.Shell.{Shell}
 use Rattle.rehearse_terms.specs.declared.shell.Shell.TheVariants.{Profile, Old2023, Old2025, Modern2025}
 
@@ -77,13 +77,20 @@ abbrev pub run_by_read : Result Script SyntaxError → List Text
 run_by_read (Ok script) = run_by_script script
 run_by_read (Err error) = []
 
+-- the script of a text that is run
+abbrev pub script_run : TextRead → Option Script
+script_run (Runs script) = Some script
+script_run Fails = None
+script_run Panics = None
+script_run Unread = None
+
 -- what a shell of U-Boot reads in a text, if the call names one
 abbrev pub uboot_script : Option Shell → Text → Option Script
 uboot_script None text = None
 uboot_script (Some Profile) text = None
-uboot_script (Some Old2023) text = tree_in Old2023 text
-uboot_script (Some Old2025) text = tree_in Old2025 text
-uboot_script (Some Modern2025) text = tree_in Modern2025 text
+uboot_script (Some Old2023) text = script_run (started_in Old2023 text)
+uboot_script (Some Old2025) text = script_run (started_in Old2025 text)
+uboot_script (Some Modern2025) text = script_run (started_in Modern2025 text)
 
 abbrev pub or_uboot : Option Script → Result Script SyntaxError → Result Script SyntaxError
 or_uboot old (Ok script) = Ok script

@@ -6,7 +6,7 @@ use Rattle.std.specs.List.{flat_map}
 use Rattle.hushlang.specs.Tree.{Script, Empty, Runs, Starts, Alone, Joins, Simple, Assign, If, Arm, Else, NoElse, Loop, For, Bytes, Mark, Var, Status, Word}
 use Rattle.hushlang.specs.Trees.{tree_of}
 use Rattle.hushlang.specs.Expansion.{atoms, fields}
-use Rattle.hushlang_old.specs.OldTrees.{old_tree_of, has_fault}
+use Rattle.hushlang_old.specs.OldTrees.{old_tree_of, has_fault, lacks_end}
 
 abbrev Text : Type 0
 Text = List ℕ
@@ -163,6 +163,11 @@ faultless =
 faults : map (has_fault false) (faulty ++ faultless) ≡ map (λ text. true) faulty ++ map (λ text. false) faultless
 unfolding has_fault
 faults = refl
+
+-- a fault is not always that the end is missing
+ends_missing : map (lacks_end false) (codes "if a; then b" ∷ codes "while a; do" ∷ codes "for x in a b" ∷ codes "if a && " ∷ codes "fi" ∷ codes "a; if fi" ∷ codes "a" ∷ []) ≡ true ∷ true ∷ true ∷ true ∷ false ∷ false ∷ false ∷ []
+unfolding lacks_end
+ends_missing = refl
 
 -- compound commands are nested 64 deep, and no deeper
 abbrev nested : ℕ → Text

@@ -288,6 +288,17 @@ unfoldable pub old_tree_of : (newer : Bool) → (text : List ℕ) → Option Scr
 unfolding old_tokens read read_open word_of_if word_of_loop reserved_bytes assignment read_token
 old_tree_of newer text = elim (old_tokens text) [ None ↦ None | Some tokens ↦ tree_of_tokens newer tokens ]
 
+-- whether the text ends in a compound command that is open
+abbrev pub is_open_behind : Option Building → Bool
+is_open_behind built = elim built [ None ↦ false | Some b ↦ is_open b ]
+
+abbrev pub are_open : (newer : Bool) → List Token → Bool
+are_open newer tokens = is_open_behind (read_tokens tokens (nothing_built newer))
+
+unfoldable pub lacks_end : (newer : Bool) → (text : List ℕ) → Bool
+unfolding old_tokens read read_open word_of_if word_of_loop reserved_bytes assignment read_token
+lacks_end newer text = elim (old_tokens text) [ None ↦ false | Some tokens ↦ are_open newer tokens ]
+
 -- ---- faults
 
 -- whether a reserved word may not be in this part of a compound command (`reserved_word`, its `syntax`)

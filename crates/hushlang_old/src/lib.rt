@@ -25,7 +25,7 @@ pub use found_words::{only_bytes, without_first};
 pub use gathered::Gathered;
 pub use nest::{Gone, Nest};
 pub use old_tokens::{is_between, sign_of};
-pub use old_trees::{has_fault, read_old};
+pub use old_trees::{has_fault, lacks_end, read_old};
 pub use old_words::{old_fields, old_turns};
 pub use part::{Part, is_header};
 pub use rereading::unescaped;

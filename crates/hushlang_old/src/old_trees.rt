@@ -35,6 +35,15 @@ fn tree_behind(building: &mut Building, found: Vec<Token>) -> Result<Option<Scri
     Ok(building.take_tree())
 }
 
+/// Whether a compound command is open behind these tokens.
+fn is_open_behind(building: &mut Building, found: Vec<Token>) -> Result<bool, AllocError>
+    ensures { IfOk result (λ is. is
+        ≡ says.is_open_behind (says.read_tokens (tokens.tokens found) (shown.building building.old))) }
+{
+    let followed = read_all(building, found)?;
+    Ok(followed && building.is_open())
+}
+
 /// Whether the first of these tokens that is not followed is a fault; or if there is none, whether a
 /// compound command is open behind them.
 fn have_fault(building: &mut Building, found: Vec<Token>) -> Result<bool, AllocError>
@@ -64,6 +73,14 @@ fn tree_of_tokens(
     tree_behind(&mut building, found)
 }
 
+/// Whether tokens end in a compound command that is open.
+fn are_open(alloc: Global, newer: bool, found: Vec<Token>) -> Result<bool, AllocError>
+    ensures { IfOk result (λ is. is ≡ says.are_open newer (tokens.tokens found)) }
+{
+    let mut building = Building::new(alloc, newer);
+    is_open_behind(&mut building, found)
+}
+
 /// Whether tokens have a fault.
 fn tokens_have_fault(alloc: Global, newer: bool, found: Vec<Token>) -> Result<bool, AllocError>
     ensures { IfOk result (λ has. has ≡ says.tokens_have_fault newer (tokens.tokens found)) }
@@ -81,6 +98,17 @@ pub fn read_old(alloc: Global, newer: bool, text: &[u8]) -> Result<Option<Script
     match old_tokens(alloc, text)? {
         Some(tokens) => tree_of_tokens(alloc, newer, tokens),
         None => Ok(None),
+    }
+}
+
+/// Whether a text has no tree since it ends in a compound command that is open. Errors: memory ran out.
+#[tactic(auto, unfolding(crate::specs::OldTrees::lacks_end))]
+pub fn lacks_end(alloc: Global, newer: bool, text: &[u8]) -> Result<bool, AllocError>
+    ensures { IfOk result (λ lacks. lacks ≡ says.lacks_end newer text.now) }
+{
+    match old_tokens(alloc, text)? {
+        Some(tokens) => are_open(alloc, newer, tokens),
+        None => Ok(false),
     }
 }
 

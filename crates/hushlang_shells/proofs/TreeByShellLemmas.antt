@@ -1,30 +1,57 @@
--- In each shell the trees of texts hold a command in each block, and a text that has a tree has no fault.
-use Rattle.std.proofs.Common.{◌≡◌, ℕ, true, false, List, Some, refl}
+-- In each shell the trees of texts hold a command in each block.
+use Rattle.std.proofs.Common.{◌≡◌, ℕ, Bool, true, false, List, Option, Some, None, refl, subst}
 use Rattle.hushlang.specs.Tree.{Script, IsProper}
 use Rattle.hushlang.proofs.ProperLemmas.{trees_are_proper}
-use Rattle.hushlang_shells.specs.TreesByShell.{tree_read, has_failed, tree_in, has_fault_in}
-use Rattle.hushlang_old.proofs.OldTreeLemmas.{old_trees_are_proper, old_is_faultless}
-use Rattle.hushlang_modern.specs.ModernTrees.{ModernText, Read, Unread, modern_text}
+use Rattle.hushlang.specs.Trees.{tree_of}
+use Rattle.hushlang_old.specs.OldTrees.{old_tree_of, has_fault}
+use Rattle.hushlang_old.proofs.OldTreeLemmas.{old_trees_are_proper}
+use Rattle.hushlang_modern.specs.ModernTrees as modern
+use Rattle.hushlang_modern.specs.ModernTrees.{ModernText, modern_text}
+use Rattle.hushlang_modern.specs.declared.stop.Stop.TheVariants as stop
 use Rattle.hushlang_modern.proofs.ModernTreeLemmas.{modern_trees_are_proper}
+use Rattle.hushlang_shells.specs.TreesByShell.{TextRead, Runs, Fails, Panics, Unread, script_or, modern_read, ends_open, empty_when, fails_when, first_in, started_in}
 use Rattle.rehearse_terms.specs.declared.shell.Shell.{Shell}
 use Rattle.rehearse_terms.specs.declared.shell.Shell.TheVariants.{Profile, Old2023, Old2025, Modern2025}
 
-is_read : (text : ModernText) (script : Script) → tree_read text ≡ Some script → text ≡ Read script
-is_read (Read tree) script e = cc
-is_read (Unread stop) script e = absurd (let f = e in cc)
+-- what is run, if anything, holds a command in each block
+abbrev pub MayRun : TextRead → Type 0
+MayRun (Runs script) = IsProper script
+MayRun Fails = Unit {0}
+MayRun Panics = Unit {0}
+MayRun Unread = Unit {0}
 
-modern_is_faultless : (text : ModernText) (script : Script) → tree_read text ≡ Some script → has_failed text ≡ false
-modern_is_faultless (Read tree) script e = refl
-modern_is_faultless (Unread stop) script e = absurd (let f = e in cc)
+may_run_or : (otherwise : TextRead) → MayRun otherwise → (found : Option Script) → ((script : Script) → found ≡ Some script → IsProper script) → MayRun (script_or otherwise found)
+may_run_or otherwise may None proper = may
+may_run_or otherwise may (Some script) proper = proper script refl
 
-pub trees_in_are_proper : (shell : Shell) (text : List ℕ) (script : Script) → tree_in shell text ≡ Some script → IsProper script
-trees_in_are_proper Profile text script e = trees_are_proper text script e
-trees_in_are_proper Old2023 text script e = old_trees_are_proper false text script e
-trees_in_are_proper Old2025 text script e = old_trees_are_proper true text script e
-trees_in_are_proper Modern2025 text script e = modern_trees_are_proper text script (is_read (modern_text text) script e)
+may_run_empty : (ends : Bool) → MayRun (empty_when ends)
+may_run_empty true = tt
+may_run_empty false = tt
 
-pub read_is_faultless : (shell : Shell) (text : List ℕ) (script : Script) → tree_in shell text ≡ Some script → has_fault_in shell text ≡ false
-read_is_faultless Profile text script e = refl
-read_is_faultless Old2023 text script e = old_is_faultless false text script e
-read_is_faultless Old2025 text script e = old_is_faultless true text script e
-read_is_faultless Modern2025 text script e = modern_is_faultless (modern_text text) script e
+may_run_none : (fault : Bool) → MayRun (fails_when fault)
+may_run_none true = tt
+may_run_none false = tt
+
+may_run_modern : (found : ModernText) → ((script : Script) → found ≡ modern.Read script → IsProper script) → MayRun (modern_read found)
+may_run_modern (modern.Read script) proper = proper script refl
+may_run_modern (modern.Unread stop.Fails) proper = tt
+may_run_modern (modern.Unread stop.Panics) proper = tt
+may_run_modern (modern.Unread stop.Unsupported) proper = tt
+
+pub first_may_run : (shell : Shell) (text : List ℕ) → MayRun (first_in shell text)
+first_may_run Profile text = may_run_or Unread tt (tree_of text) (trees_are_proper text)
+first_may_run Old2023 text = may_run_or (empty_when (ends_open false text)) (may_run_empty (ends_open false text)) (old_tree_of false text) (old_trees_are_proper false text)
+first_may_run Old2025 text = may_run_or (empty_when (ends_open true text)) (may_run_empty (ends_open true text)) (old_tree_of true text) (old_trees_are_proper true text)
+first_may_run Modern2025 text = may_run_modern (modern_text text) (modern_trees_are_proper text)
+
+pub started_may_run : (shell : Shell) (text : List ℕ) → MayRun (started_in shell text)
+started_may_run Profile text = may_run_or Unread tt (tree_of text) (trees_are_proper text)
+started_may_run Old2023 text = may_run_or (fails_when (has_fault false text)) (may_run_none (has_fault false text)) (old_tree_of false text) (old_trees_are_proper false text)
+started_may_run Old2025 text = may_run_or (fails_when (has_fault true text)) (may_run_none (has_fault true text)) (old_tree_of true text) (old_trees_are_proper true text)
+started_may_run Modern2025 text = may_run_modern (modern_text text) (modern_trees_are_proper text)
+
+pub first_texts_are_proper : (shell : Shell) (text : List ℕ) (script : Script) → first_in shell text ≡ Runs script → IsProper script
+first_texts_are_proper shell text script e = subst MayRun e (first_may_run shell text)
+
+pub started_texts_are_proper : (shell : Shell) (text : List ℕ) (script : Script) → started_in shell text ≡ Runs script → IsProper script
+started_texts_are_proper shell text script e = subst MayRun e (started_may_run shell text)

@@ -1,1 +1,2 @@
+pub mod TextsShown
 pub mod TreesByShell

@@ -1,6 +1,8 @@
-//! The trees of texts, by the shell that reads them.
+//! What becomes of texts, by the shell that reads them.
 #![tactic(auto)]
 
+mod text_read;
 mod trees_by_shell;
 
-pub use trees_by_shell::{read_text, text_has_fault};
+pub use text_read::TextRead;
+pub use trees_by_shell::{read_first, read_started};

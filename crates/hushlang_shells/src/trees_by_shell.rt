@@ -1,70 +1,102 @@
-//! The tree of a text, by the shell that reads it.
-ghost use Rattle.std.specs.Prelude.{◌≡◌, IfOk, option_map};
-ghost use Rattle.hushlang.specs.TreesShown as view;
+//! What becomes of a text, by the shell that reads it.
+ghost use Rattle.std.specs.Prelude.{◌≡◌, IfOk, not};
+ghost use Rattle.std.specs.List.{list_any};
 ghost use Rattle.hushlang.specs.Trees.{tree_of};
 ghost use Rattle.hushlang_modern.specs.ModernTrees.{modern_text};
-ghost use Rattle.hushlang_shells.specs.TreesByShell.{has_failed, has_fault_in, tree_in, tree_read};
+ghost use Rattle.hushlang_old.specs.OldFields.{is_newline};
+ghost use Rattle.hushlang_shells.specs.TextsShown as shown;
+ghost use Rattle.hushlang_shells.specs.TreesByShell as says;
 
+use crate::text_read::TextRead;
 use hushlang::{Script, SyntaxError, parse};
 use hushlang_modern::{ModernText, Stop, read_modern};
-use hushlang_old::{has_fault, read_old};
+use hushlang_old::{has_fault, lacks_end, read_old};
 use rehearse_terms::Shell;
 use std::alloc::{AllocError, Global};
 
-/// The script of a text by ubtool's own grammar, if it is one.
-fn read_profile(alloc: Global, text: &[u8]) -> Result<Option<Script>, AllocError>
-    ensures { IfOk result (λ found. option_map view.script found ≡ tree_of text.now) }
+/// What becomes of a text by ubtool's own grammar.
+fn read_profile(alloc: Global, text: &[u8]) -> Result<TextRead, AllocError>
+    ensures { IfOk result (λ found. shown.text_read found ≡ says.script_or says.Unread (tree_of text.now)) }
 {
     match parse(alloc, text) {
-        Ok(script) => Ok(Some(script)),
+        Ok(script) => Ok(TextRead::Runs(script)),
         Err(error) => match error {
             SyntaxError::Memory => Err(AllocError),
-            _ => Ok(None),
+            _ => Ok(TextRead::Unread),
         },
     }
 }
 
-/// The script of a text as U-Boot's modern shell reads it, if it has one.
-fn read_in_modern(alloc: Global, text: &[u8]) -> Result<Option<Script>, AllocError>
-    ensures { IfOk result (λ found. option_map view.script found ≡ tree_read (modern_text text.now)) }
+/// What becomes of a text in U-Boot's modern shell.
+fn read_in_modern(alloc: Global, text: &[u8]) -> Result<TextRead, AllocError>
+    ensures { IfOk result (λ found. shown.text_read found ≡ says.modern_read (modern_text text.now)) }
 {
     match read_modern(alloc, text)? {
-        ModernText::Read(script) => Ok(Some(script)),
-        ModernText::Unread(_) => Ok(None),
+        ModernText::Read(script) => Ok(TextRead::Runs(script)),
+        ModernText::Unread(Stop::Fails) => Ok(TextRead::Fails),
+        ModernText::Unread(Stop::Panics) => Ok(TextRead::Panics),
+        ModernText::Unread(Stop::Unsupported) => Ok(TextRead::Unread),
     }
 }
 
-/// Whether U-Boot's modern shell finds a fault in a text that it only tells.
-fn fails_in_modern(alloc: Global, text: &[u8]) -> Result<bool, AllocError>
-    ensures { IfOk result (λ fails. fails ≡ has_failed (modern_text text.now)) }
+/// Whether a text has no newline.
+fn is_one_line(text: &[u8]) -> bool
+    ensures { result ≡ not (list_any is_newline text.now) }
 {
-    match read_modern(alloc, text)? {
-        ModernText::Unread(Stop::Fails) => Ok(true),
-        ModernText::Unread(_) | ModernText::Read(_) => Ok(false),
-    }
+    !text.contains(&b'\n')
 }
 
-/// The script of a text, if the shell can read it.
-pub fn read_text(alloc: Global, shell: Shell, text: &[u8]) -> Result<Option<Script>, AllocError>
-    ensures { IfOk result (λ found. option_map view.script found ≡ tree_in shell text.now) }
+/// What becomes of the text of `bootcmd` in U-Boot's old shell. `newer` says whether in that of
+/// 2025.01.
+#[tactic(auto, using(hushlang::proofs::ViewLemmas::what_it_says))]
+fn read_old_first(alloc: Global, newer: bool, text: &[u8]) -> Result<TextRead, AllocError>
+    ensures { IfOk result (λ found. shown.text_read found ≡ says.old_first newer text.now) }
+{
+    if let Some(script) = read_old(alloc, newer, text)? {
+        return Ok(TextRead::Runs(script));
+    }
+    if lacks_end(alloc, newer, text)? && is_one_line(text) {
+        return Ok(TextRead::Runs(Script {
+            lists: Vec::new(alloc),
+        }));
+    }
+    Ok(TextRead::Unread)
+}
+
+/// What becomes of a text that `run` starts, in U-Boot's old shell. `newer` says whether in that of
+/// 2025.01.
+fn read_old_started(alloc: Global, newer: bool, text: &[u8]) -> Result<TextRead, AllocError>
+    ensures { IfOk result (λ found. shown.text_read found ≡ says.old_started newer text.now) }
+{
+    if let Some(script) = read_old(alloc, newer, text)? {
+        return Ok(TextRead::Runs(script));
+    }
+    if has_fault(alloc, newer, text)? {
+        return Ok(TextRead::Fails);
+    }
+    Ok(TextRead::Unread)
+}
+
+/// What becomes of the text with which a run begins. Errors: memory ran out.
+pub fn read_first(alloc: Global, shell: Shell, text: &[u8]) -> Result<TextRead, AllocError>
+    ensures { IfOk result (λ found. shown.text_read found ≡ says.first_in shell text.now) }
 {
     match shell {
         Shell::Profile => read_profile(alloc, text),
-        Shell::Old2023 => read_old(alloc, false, text),
-        Shell::Old2025 => read_old(alloc, true, text),
+        Shell::Old2023 => read_old_first(alloc, false, text),
+        Shell::Old2025 => read_old_first(alloc, true, text),
         Shell::Modern2025 => read_in_modern(alloc, text),
     }
 }
 
-/// Whether a text that `run` starts has a fault to the shell, by which nothing of it is run. Errors:
-/// memory ran out.
-pub fn text_has_fault(alloc: Global, shell: Shell, text: &[u8]) -> Result<bool, AllocError>
-    ensures { IfOk result (λ lacks. lacks ≡ has_fault_in shell text.now) }
+/// What becomes of a text that `run` starts. Errors: memory ran out.
+pub fn read_started(alloc: Global, shell: Shell, text: &[u8]) -> Result<TextRead, AllocError>
+    ensures { IfOk result (λ found. shown.text_read found ≡ says.started_in shell text.now) }
 {
     match shell {
-        Shell::Profile => Ok(false),
-        Shell::Old2023 => has_fault(alloc, false, text),
-        Shell::Old2025 => has_fault(alloc, true, text),
-        Shell::Modern2025 => fails_in_modern(alloc, text),
+        Shell::Profile => read_profile(alloc, text),
+        Shell::Old2023 => read_old_started(alloc, false, text),
+        Shell::Old2025 => read_old_started(alloc, true, text),
+        Shell::Modern2025 => read_in_modern(alloc, text),
     }
 }

@@ -53,6 +53,7 @@ fn halt_of(alloc: Global, ending: Ending<'_>) -> Result<Halt, StoreError>
         Ending::Unknown(name) => Halt::Unknown(Vec::from_slice(alloc, name)?),
         Ending::Syntax(name) => Halt::Syntax(Vec::from_slice(alloc, name)?),
         Ending::Unsupported(name) => Halt::Unsupported(Vec::from_slice(alloc, name)?),
+        Ending::Panic(name) => Halt::Panic(Vec::from_slice(alloc, name)?),
         Ending::Size => Halt::Size,
         Ending::Finished(finish, name) => Halt::Finished(finish, Vec::from_slice(alloc, name)?),
     })

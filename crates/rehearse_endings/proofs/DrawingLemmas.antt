@@ -9,7 +9,7 @@ use Rattle.rehearse_terms.specs.State.{Text, State, LoggedCommand, asked_of}
 use Rattle.bootstore_state.specs.StoredState.{state_at}
 use Rattle.device_list.specs.declared.finish.BoardEnd.{BoardEnd}
 use Rattle.device_list.specs.Called.{sets_in}
-use Rattle.rehearse_rules.specs.Execution.{Limits, Answer, Ending, CutDevices, CutSteps, End, Unknown, Syntax, Unsupported, Size, Finished, Request, finish, take_outcome, set_environment, logged, succeeds}
+use Rattle.rehearse_rules.specs.Execution.{Limits, Answer, Ending, CutDevices, CutSteps, End, Unknown, Syntax, Unsupported, Panic, Size, Finished, Request, finish, take_outcome, set_environment, logged, succeeds}
 use Rattle.rehearse_machine.specs.Came.{Came, Over, Wants}
 use Rattle.rehearse_machine.specs.Places.{frames_of}
 use Rattle.rehearse_machine.specs.Meaning.{continue}
@@ -86,6 +86,7 @@ never_cut limits i k (Over CutSteps s) h = absurd (omega arith)
 never_cut limits i k (Over (Unknown name) s) h = h
 never_cut limits i k (Over (Syntax name) s) h = h
 never_cut limits i k (Over (Unsupported name) s) h = h
+never_cut limits i k (Over (Panic name) s) h = h
 never_cut limits i k (Over Size s) h = h
 never_cut limits i k (Over (Finished finish name) s) h = h
 never_cut limits i k (Wants s) h = h

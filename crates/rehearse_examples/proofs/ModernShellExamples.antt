@@ -2,7 +2,7 @@
 use Rattle.std.proofs.Common.{◌≡◌, List, [], ◌∷◌, codes, refl, map}
 use Rattle.rehearse_terms.specs.State.{Text}
 use Rattle.rehearse_terms.specs.declared.shell.Shell.TheVariants.{Modern2025}
-use Rattle.rehearse_rules.specs.Execution.{Limits, End, Unsupported}
+use Rattle.rehearse_rules.specs.Execution.{Limits, End, Panic, Unsupported}
 use Rattle.rehearse_rules.proofs.ExampleRehearsals.{only_load, limits, bootcmd, bootcmd_among, Told, told_of}
 
 abbrev in_modern : Limits
@@ -70,9 +70,21 @@ abbrev started : Text → Text → Told
 started t text = told_of (bootcmd_among in_modern ((codes "t", t) ∷ []) text)
 
 faults : started (codes "echo b; if true; then echo a") (codes "run t; echo $?; run t || echo c") ∷ started (codes "echo b; fi") (codes "run t") ∷ started (codes "false") (codes "run t; echo $?") ∷ []
-    ≡ (codes "1\nc\n", End 0) ∷ ([], Unsupported (codes "t")) ∷ (codes "1\n", End 0) ∷ []
+    ≡ (codes "1\nc\n", End 0) ∷ ([], Panic (codes "t")) ∷ (codes "1\n", End 0) ∷ []
 unfolding told_of
 faults = refl
+
+-- so it is with the text of `bootcmd`: the run ends with the status 1, or as the shell gives up
+first_faults : by_modern (codes "echo b; if true; then echo a" ∷ codes "echo \"a" ∷ codes "echo b; echo ${a.b}" ∷ codes "echo b; fi" ∷ codes "if true; then echo a; fi b" ∷ codes "for 1x in a; do echo b; done" ∷ codes "echo b\nfi" ∷ [])
+    ≡ ([], End 1) ∷ ([], End 1) ∷ ([], End 1) ∷ ([], Panic (codes "bootcmd")) ∷ ([], Panic (codes "bootcmd")) ∷ ([], Panic (codes "bootcmd")) ∷ ([], Panic (codes "bootcmd")) ∷ []
+unfolding told_of
+first_faults = refl
+
+-- and a text that is not followed ends the run
+texts_not_followed : started (codes "! true") (codes "echo a; run t") ∷ told_of (bootcmd in_modern (codes "echo a; ! true")) ∷ []
+    ≡ (codes "a\n", Unsupported (codes "t")) ∷ ([], Unsupported (codes "bootcmd")) ∷ []
+unfolding told_of
+texts_not_followed = refl
 
 -- NAME=VALUE of a `for` that fills a block of memory, of 24 bytes or 40; before any turn the run ends
 filled_blocks : by_modern (codes "for i in aaaaaaaaaaaaaaaaaaaaa; do echo b; done" ∷ codes "for i in a aaaaaaaaaaaaaaaaaaaaaa; do echo b; done" ∷ codes "for i in aaaaaaaaaaaaaaaaaaaaaaaaaaaaaaaaaaaaaa; do echo b; done" ∷ codes "for i in aaaaaa; do echo b; done" ∷ [])

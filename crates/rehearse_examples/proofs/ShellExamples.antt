@@ -112,19 +112,23 @@ text_without_end : in_each (codes "setenv t 'echo b; if true; then echo a'; run 
 unfolding told_of
 text_without_end = refl
 
-other_fault_of_a_text : in_each (codes "setenv t 'echo b; fi'; run t") ≡ ([], Syntax (codes "t")) ∷ ([], End 1) ∷ ([], End 1) ∷ []
+other_fault_of_a_text : in_each (codes "setenv t 'echo b; fi'; run t; echo $?") ≡ ([], Syntax (codes "t")) ∷ (codes "1\n", End 0) ∷ (codes "1\n", End 0) ∷ []
 unfolding told_of
 other_fault_of_a_text = refl
 
--- one before a `;` is not followed
-fault_before_a_semicolon : in_each (codes "setenv t 'fi; echo b'; run t") ≡ ([], Syntax (codes "t")) ∷ ([], Unsupported (codes "t")) ∷ ([], Unsupported (codes "t")) ∷ []
+-- of the text of `bootcmd` without its end nothing is run, and the status stays
+first_text_without_end : in_each (codes "echo b; if true; then echo a") ≡ ([], Syntax (codes "bootcmd")) ∷ ([], End 0) ∷ ([], End 0) ∷ []
 unfolding told_of
-fault_before_a_semicolon = refl
+first_text_without_end = refl
 
--- a text that is not read ends the run before it acts
-unread_text : in_each (codes "if true; then") ≡ ([], Syntax (codes "bootcmd")) ∷ ([], Unsupported (codes "bootcmd")) ∷ ([], Unsupported (codes "bootcmd")) ∷ []
+-- a text that is not read ends the run before it acts: also one whose lines before its last one would be run
+unread_text : in_each (codes "echo b\nif true; then") ≡ ([], Syntax (codes "bootcmd")) ∷ ([], Unsupported (codes "bootcmd")) ∷ ([], Unsupported (codes "bootcmd")) ∷ []
 unfolding told_of
 unread_text = refl
+
+other_fault_of_the_first_text : in_each (codes "echo b; fi") ≡ ([], Syntax (codes "bootcmd")) ∷ ([], Unsupported (codes "bootcmd")) ∷ ([], Unsupported (codes "bootcmd")) ∷ []
+unfolding told_of
+other_fault_of_the_first_text = refl
 
 -- `exit` ends nothing in 2023.01, and its status says whether its number is 0. In 2025.01 it ends the text
 exit_with_a_number : in_each (codes "exit 3; echo $?") ≡ ([], End 3) ∷ (codes "1\n", End 0) ∷ ([], End 3) ∷ []

@@ -6,7 +6,7 @@ use Rattle.bootstore_state.specs.Moment.{Moment}
 use Rattle.bootstore_state.specs.StoredState.{state_at}
 use Rattle.rehearse_terms.specs.Outcomes.{Outcome, Success, Failure, OutcomeWord}
 use Rattle.rehearse_terms.specs.State.{Text, State, LoggedCommand}
-use Rattle.rehearse_rules.specs.Execution.{Limits, Answer, Normal, Ended, Ending, End, CutDevices, CutSteps, Unknown, Syntax, Unsupported, Size, Finished, Request, finish, take_outcome, logged, set_environment}
+use Rattle.rehearse_rules.specs.Execution.{Limits, Answer, Normal, Ended, Ending, End, CutDevices, CutSteps, Unknown, Syntax, Unsupported, Panic, Size, Finished, Request, finish, take_outcome, logged, set_environment}
 use Rattle.rehearse_machine.specs.AskingCommand.{found_again}
 use Rattle.rehearse_machine.specs.Came.{Came, Over, Wants}
 use Rattle.rehearse_machine.specs.Frames.{Frame, Next, Go, Ask, Stop, finish_next, answered, move}
@@ -64,6 +64,7 @@ module _ (limits : Limits) (wanted : List Text) (i j : ℕ) (k l : List LoggedCo
   cut_before (Unknown name) h = h
   cut_before (Syntax name) h = h
   cut_before (Unsupported name) h = h
+  cut_before (Panic name) h = h
   cut_before Size h = h
   cut_before (Finished finish name) h = h
 

@@ -4,8 +4,8 @@ use Rattle.device_list.specs.declared.finish.BoardEnd.{BoardEnd}
 use Rattle.hushlang.specs.Tree as tree
 use Rattle.hushlang.specs.Tree.{Script, AndOr, Joined, Command, Arms, IsProper, IsProperCommand, HoldsCommand}
 use Rattle.hushlang.specs.Expansion.{size, most_bytes}
-use Rattle.hushlang_shells.specs.TreesByShell.{tree_in, has_fault_in}
-use Rattle.hushlang_shells.proofs.TreeByShellLemmas.{trees_in_are_proper}
+use Rattle.hushlang_shells.specs.TreesByShell.{TextRead, Runs, Fails, Panics, Unread, started_in}
+use Rattle.hushlang_shells.proofs.TreeByShellLemmas.{started_texts_are_proper}
 use Rattle.builtins.specs.Builtins.{Builtin, SetEnv, Run, Test, Echo, True, False, Leave, builtin_of}
 use Rattle.commands.specs.Computed.{Computed}
 use Rattle.commands.specs.BuiltInCommands.{ChangesVariables, carried, deed_of}
@@ -18,19 +18,19 @@ use Rattle.rehearse_terms.specs.declared.shell.Shell.TheVariants.{Profile, Old20
 use Rattle.rehearse_rules.specs.Parameters.{parameters_in}
 use Rattle.rehearse_rules.specs.ByShell.{unread, leaves_in, status_of_exit, asks_in, truth_in, fields_in, turns_in, skips_rest, status_of_loop, follows, assigned_in, reads_again, follows_turns, status_of_no_block}
 use Rattle.rehearse_rules.specs.Needs.{effect_now}
-use Rattle.rehearse_rules.specs.Execution.{Limits, Answer, Normal, Exit, Ended, Ending, CutDevices, CutSteps, Unknown, Size, Finished, Unsupported, Request, go_on, set_status, status_when, goes, holds, begin, finish, tell_or_take, told, told_again, logged, set_environment, device, text_end, run_all, command, simple, sized, assign, assign_local, turns, for_each, begin_turn, run_text, started_text, request_of, test_request, text_failed, turns_of, for_words, for_begun, block_skipped, compound, compound_left, Dry}
+use Rattle.rehearse_rules.specs.Execution.{Limits, Answer, Normal, Exit, Ended, Ending, CutDevices, CutSteps, Unknown, Size, Finished, Unsupported, Panic, Request, go_on, set_status, status_when, goes, holds, begin, finish, tell_or_take, told, told_again, logged, set_environment, device, text_end, run_all, command, simple, sized, assign, assign_local, turns, for_each, begin_turn, run_read, started_text, request_of, test_request, text_failed, turns_of, for_words, for_begun, block_skipped, compound, compound_left, Dry}
 use Rattle.rehearse_rules.proofs.CompoundLemmas.{compound_normal, compound_ended}
 use Rattle.rehearse_rules.proofs.GrowingSteps.{Grew, AtLeast-track, Grew-block}
 use Rattle.rehearse_rules.proofs.TakenOutcomes.{KeepsAll, Keeps-script, Keeps-exec}
-use Rattle.rehearse_machine.specs.Frames.{Frame, Lists, Linked, IfCondition, LoopCondition, LoopBody, ForBody, RunNames, RunText, Next, Go, Ask, Stop, tell_or_ask, finish_next, leave, begin_assign, begin_for, begin_arms, begin_tree, begin_text, begin_names, begin_exit, fitting, ask, begin_called, begin_fields, counted, begin_command, answered, move, begin_turns, begin_words, CommandEnd, leave_compound, behind_block}
-use Rattle.rehearse_machine.specs.Meaning.{with, full, script, one, joined_of, arms_of, again, AreProperFrames}
+use Rattle.rehearse_machine.specs.Frames.{Frame, Lists, Linked, IfCondition, LoopCondition, LoopBody, ForBody, RunNames, RunText, Next, Go, Ask, Stop, tell_or_ask, finish_next, leave, begin_assign, begin_for, begin_arms, begin_read, begin_text, begin_names, begin_exit, fitting, ask, begin_called, begin_fields, counted, begin_command, answered, move, begin_turns, begin_words, CommandEnd, leave_compound, behind_block}
+use Rattle.rehearse_machine.specs.Meaning.{with, full, script, one, joined_of, arms_of, again, resume, AreProperFrames}
 use Rattle.rehearse_machine.proofs.MoveMeaning.{failed_with_1, turn_more}
 use Rattle.rehearse_machine.proofs.StepBoundLemmas.{closed_exec}
 use Rattle.rehearse_machine.proofs.BoundLemmas.{Cut-block}
 use Rattle.rehearse_reads.specs.Keys.{Access, Reads, Writes, Environment, Status, all_read}
-use Rattle.rehearse_reads.specs.Accesses.{needs_reads, listed_accesses, behind, behind_text, status_written, word_reads, words_reads, sized_accesses, local_accesses, assign_accesses, turns_accesses, turn_accesses, each_accesses, for_accesses, begun_accesses, told_reads, answer_accesses, outcome_accesses, device_accesses, computed_accesses, tree_accesses, text_accesses, started_accesses, builtin_accesses, call_accesses, simple_accesses, modern_accesses, turns_of_accesses, for_words_accesses, left_accesses, compound_accesses, nothing_accesses}
+use Rattle.rehearse_reads.specs.Accesses.{needs_reads, listed_accesses, behind, behind_text, status_written, word_reads, words_reads, sized_accesses, local_accesses, assign_accesses, turns_accesses, turn_accesses, each_accesses, for_accesses, begun_accesses, told_reads, answer_accesses, outcome_accesses, device_accesses, computed_accesses, read_accesses, started_accesses, builtin_accesses, call_accesses, simple_accesses, modern_accesses, turns_of_accesses, for_words_accesses, left_accesses, compound_accesses, nothing_accesses}
 use Rattle.rehearse_frames.specs.ToCome.{names_read, of_full, of_script, of_one, of_joined, of_arms, of_again, of_condition, of_choice, of_names, of_frames, of_next, choice, condition, turns_left, of_compound}
-use Rattle.rehearse_frames.specs.MoveAccesses.{of_listed, of_leaving, of_exit, of_telling, of_beginning_for, of_beginning_arms, of_beginning_tree, of_beginning_text, of_beginning_names, of_asking, of_builtin, of_call, of_fields, of_command, of_move, of_beginning_turns, of_beginning_words, of_leaving_compound}
+use Rattle.rehearse_frames.specs.MoveAccesses.{of_listed, of_leaving, of_exit, of_telling, of_beginning_for, of_beginning_arms, of_beginning_read, of_beginning_text, of_beginning_names, of_asking, of_builtin, of_call, of_fields, of_command, of_move, of_beginning_turns, of_beginning_words, of_leaving_compound}
 use Rattle.rehearse_frames.specs.Laws.{MovesComeFirst, OutcomesComeFirst}
 use Rattle.rehearse_frames.proofs.NoneBegun.{nothing_behind, None-block}
 use Rattle.rehearse_frames.proofs.SameAccesses.{either, same_behind, turns_same, closed_accesses}
@@ -146,29 +146,22 @@ module _ (limits : Limits) (wanted : List Text) (w : OutcomeWord) where
       ∙ ap (λ (xs : List Access). xs ++ rest (full limits a t)) (closed_accesses limits limits.step_bound a p t (omega arith))
       ∙ ap (λ (x : Answer). of_script limits a t ++ rest x) (closed_exec limits limits.step_bound a p t (omega arith)))
 
-  tree_so : (o : Option Script) (name : Text) (names : List Text) (fs : List Frame) (s : State) → ((t : Script) → o ≡ Some t → IsProper t)
-      → of_beginning_tree o ++ After (begin_tree limits.shell o name names fs s)
-      ≡ ((elim o [ None ↦ [] | Some a ↦ tree_accesses limits (full limits) (of_full limits) a (with w s) ])
-      ++ behind_text (elim o [ None ↦ Ended (unread limits.shell name) (with w s) | Some a ↦ full limits a (elim a [ tree.Empty ↦ set_status 0 (with w s) | tree.Runs l ls ↦ with w s ]) ]) (of_names limits names))
-      ++ Rest fs (text_end limits.shell (elim o [ None ↦ Ended (unread limits.shell name) (with w s) | Some a ↦ full limits a (elim a [ tree.Empty ↦ set_status 0 (with w s) | tree.Runs l ls ↦ with w s ]) ]) (run_all limits (full limits) names))
-  tree_so None name names fs s p = stops_so fs (unread limits.shell name) s
-  tree_so (Some tree.Empty) name names fs s p = ap (λ (xs : List Access). Writes Status ∷ xs) (closed_so tree.Empty tt names fs (set_status 0 (with w s)))
-  tree_so (Some (tree.Runs l ls)) name names fs s p = closed_so (tree.Runs l ls) (p (tree.Runs l ls) refl) names fs (with w s)
-
-  started_so : (b : Bool) (v name : Text) (names : List Text) (fs : List Frame) (s : State)
-      → (elim b [ true ↦ Writes Status ∷ Reads Status ∷ [] | false ↦ of_beginning_tree (tree_in limits.shell v) ]) ++ After (elim b [ true ↦ Go fs (set_status 1 s) | false ↦ begin_tree limits.shell (tree_in limits.shell v) name names fs s ])
-      ≡ ((elim b [ true ↦ status_written | false ↦ text_accesses limits (full limits) (of_full limits) v (with w s) ])
-      ++ behind_text (elim b [ true ↦ Normal (set_status 1 (with w s)) | false ↦ run_text limits (full limits) name v (with w s) ]) (of_names limits names))
-      ++ Rest fs (text_end limits.shell (elim b [ true ↦ Normal (set_status 1 (with w s)) | false ↦ run_text limits (full limits) name v (with w s) ]) (run_all limits (full limits) names))
-  started_so true v name names fs s = ap (λ (n : ℕ). Writes Status ∷ Reads Status ∷ Rest fs (Normal (set_status n (with w s)))) (sym (failed_with_1 limits.shell))
-  started_so false v name names fs s = tree_so (tree_in limits.shell v) name names fs s (trees_in_are_proper limits.shell v)
+  read_so : (found : TextRead) (name : Text) (names : List Text) (fs : List Frame) (s : State) → ((t : Script) → found ≡ Runs t → IsProper t)
+      → of_beginning_read found ++ After (begin_read limits.shell found name names fs s)
+      ≡ (read_accesses limits (full limits) (of_full limits) found (with w s) ++ behind_text (run_read limits (full limits) name found (with w s)) (of_names limits names))
+      ++ Rest fs (text_end limits.shell (run_read limits (full limits) name found (with w s)) (run_all limits (full limits) names))
+  read_so Fails name names fs s p = ap (λ (n : ℕ). Writes Status ∷ Reads Status ∷ Rest fs (Normal (set_status n (with w s)))) (sym (failed_with_1 limits.shell))
+  read_so Panics name names fs s p = stops_so fs (Panic name) s
+  read_so Unread name names fs s p = stops_so fs (unread limits.shell name) s
+  read_so (Runs tree.Empty) name names fs s p = ap (λ (xs : List Access). Writes Status ∷ xs) (closed_so tree.Empty tt names fs (set_status 0 (with w s)))
+  read_so (Runs (tree.Runs l ls)) name names fs s p = closed_so (tree.Runs l ls) (p (tree.Runs l ls) refl) names fs (with w s)
 
   text_so : (o : Option Text) (name : Text) (names : List Text) (fs : List Frame) (s : State)
       → of_beginning_text limits.shell o ++ After (begin_text limits.shell o name names fs s)
       ≡ (elim o [ None ↦ status_written | Some v ↦ started_accesses limits (full limits) (of_full limits) v (with w s) ++ behind_text (started_text limits (full limits) name v (with w s)) (of_names limits names) ])
       ++ Rest fs (elim o [ None ↦ Normal (set_status 1 (with w s)) | Some v ↦ text_end limits.shell (started_text limits (full limits) name v (with w s)) (run_all limits (full limits) names) ])
   text_so None name names fs s = refl
-  text_so (Some v) name names fs s = started_so (has_fault_in limits.shell v) v name names fs s
+  text_so (Some v) name names fs s = read_so (started_in limits.shell v) name names fs s (started_texts_are_proper limits.shell v)
 
   names_so : (names : List Text) (fs : List Frame) (s : State) → of_beginning_names limits.shell names s ++ After (begin_names limits.shell names fs s) ≡ of_names limits names (with w s) ++ Rest fs (run_all limits (full limits) names (with w s))
   names_so [] fs s = refl

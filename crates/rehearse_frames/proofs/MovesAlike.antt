@@ -4,7 +4,7 @@ use Rattle.device_list.specs.declared.finish.BoardEnd.{BoardEnd}
 use Rattle.hushlang.specs.Tree as tree
 use Rattle.hushlang.specs.Tree.{Script, Command, Arms}
 use Rattle.hushlang.specs.Expansion.{size, most_bytes}
-use Rattle.hushlang_shells.specs.TreesByShell.{tree_in, has_fault_in}
+use Rattle.hushlang_shells.specs.TreesByShell.{TextRead, Runs, Fails, Panics, Unread, started_in}
 use Rattle.builtins.specs.Builtins.{Builtin, SetEnv, Run, Test, Echo, True, False, Leave, builtin_of}
 use Rattle.commands.specs.Computed.{Computed}
 use Rattle.commands.specs.BuiltInCommands.{ChangesVariables, carried, deed_of, variables_changed, text_written, echo, setenv}
@@ -18,8 +18,8 @@ use Rattle.rehearse_rules.specs.Needs.{effect_now}
 use Rattle.rehearse_rules.proofs.NeedsLemmas.{now_same}
 use Rattle.rehearse_rules.specs.Parameters.{parameters_in}
 use Rattle.rehearse_rules.specs.ByShell.{unread, reads_again, leaves_in, status_of_exit, asks_in, truth_in, fields_in, turns_in, skips_rest, status_of_nothing, status_of_no_block, status_of_loop, status_in_turn, follows, assigned_in, follows_turns, left_status}
-use Rattle.rehearse_rules.specs.Execution.{Limits, Ending, End, CutDevices, CutSteps, Unknown, Size, Finished, Unsupported, Request, remember, set_status, set_local, begin_turn, status_when, goes, holds, outcome_when, told, told_again, logged, set_environment, assign_local, text_failed, request_of, test_request, for_begun, block_skipped}
-use Rattle.rehearse_machine.specs.Frames.{Frame, Lists, Linked, IfCondition, LoopCondition, LoopBody, ForBody, RunNames, RunText, Next, Go, Ask, Stop, tell_or_ask, finish_next, leave, leave_run, begin_assign, begin_for, begin_arms, begin_tree, begin_text, begin_names, begin_exit, begun_text, fitting, ask, begin_called, begin_fields, counted, begin_command, answered, move, begin_turns, begin_words, CommandEnd, leave_compound, behind_block}
+use Rattle.rehearse_rules.specs.Execution.{Limits, Ending, End, CutDevices, CutSteps, Unknown, Size, Finished, Unsupported, Request, remember, set_status, set_local, begin_turn, status_when, goes, holds, outcome_when, told, told_again, logged, set_environment, assign_local, text_failed, request_of, test_request, for_begun, block_skipped, compound_left}
+use Rattle.rehearse_machine.specs.Frames.{Frame, Lists, Linked, IfCondition, LoopCondition, LoopBody, ForBody, RunNames, RunText, Next, Go, Ask, Stop, tell_or_ask, finish_next, leave, leave_run, begin_assign, begin_for, begin_arms, begin_read, begin_text, begin_names, begin_exit, begun_text, fitting, ask, begin_called, begin_fields, counted, begin_command, answered, move, begin_turns, begin_words, CommandEnd, leave_compound, behind_block}
 use Rattle.rehearse_reads.specs.Keys.{Key, Environment, Local, Status, Access, Reads, Writes, AgreeOn, AreAmong, all_read, ReadsWithin, known_after}
 use Rattle.rehearse_reads.specs.Accesses.{status_written, word_reads, words_reads, setenv_accesses, computed_accesses, needs_reads, told_reads, outcome_accesses, names_written, sized_accesses, local_accesses, assign_accesses, turn_accesses, nothing_accesses, begun_accesses, modern_accesses}
 use Rattle.rehearse_reads.specs.Alike.{AreAbreast, IsCutBy}
@@ -30,7 +30,7 @@ use Rattle.rehearse_reads.proofs.AlikeParts.{further_apart}
 use Rattle.rehearse_reads.proofs.AlikeDevices.{told_alike, met_alike}
 use Rattle.rehearse_reads.proofs.AlikeLoops.{near_turn, near_for, near_skipped}
 use Rattle.rehearse_machine.proofs.ProgressLemmas.{IsQuiet, either-quiet, assign-quiet, fields-quiet, for-quiet, words-quiet}
-use Rattle.rehearse_frames.specs.MoveAccesses.{of_leaving, of_exit, of_telling, of_beginning_for, of_beginning_arms, of_beginning_tree, of_beginning_text, of_beginning_names, of_asking, of_listed, of_builtin, of_call, of_fields, of_command, of_move, of_beginning_turns, of_beginning_words, of_leaving_compound}
+use Rattle.rehearse_frames.specs.MoveAccesses.{of_leaving, of_exit, of_telling, of_beginning_for, of_beginning_arms, of_beginning_read, of_beginning_text, of_beginning_names, of_asking, of_listed, of_builtin, of_call, of_fields, of_command, of_move, of_beginning_turns, of_beginning_words, of_leaving_compound}
 
 -- the steps that were begun before what is next, and the room that it needs for device commands
 abbrev pub next_steps : Next → ℕ
@@ -250,20 +250,16 @@ module _ (limits : Limits) (i j : ℕ) (k l : List LoggedCommand) where
       by Old2025 = goes_alike near
       by Modern2025 = goes_alike near
 
-  begins_tree : (shell : Shell) (found : Option Script) (name : Text) (names : List Text) (fs : List Frame) → Moves (begin_tree shell found name names fs) (λ s. of_beginning_tree found)
-  begins_tree shell None name names fs known s t near w = stops_alike near
-  begins_tree shell (Some tree.Empty) name names fs known s t near w = goes_alike (near_status limits i j k l known s t 0 near)
-  begins_tree shell (Some (tree.Runs x xs)) name names fs known s t near w = goes_alike near
+  begins_read : (shell : Shell) (found : TextRead) (name : Text) (names : List Text) (fs : List Frame) → Moves (begin_read shell found name names fs) (λ s. of_beginning_read found)
+  begins_read shell (Runs tree.Empty) name names fs known s t near w = goes_alike (near_status limits i j k l known s t 0 near)
+  begins_read shell (Runs (tree.Runs x xs)) name names fs known s t near w = goes_alike near
+  begins_read shell Fails name names fs known s t near w = goes_alike (near_status limits i j k l known s t 1 near)
+  begins_read shell Panics name names fs known s t near w = stops_alike near
+  begins_read shell Unread name names fs known s t near w = stops_alike near
 
   begins_text : (shell : Shell) (text : Option Text) (name : Text) (names : List Text) (fs : List Frame) → Moves (begin_text shell text name names fs) (λ s. of_beginning_text shell text)
   begins_text shell None name names fs known s t near w = sets_status 1 fs known s t near w
-  begins_text shell (Some text) name names fs known s t near w = by (has_fault_in shell text) w
-    where
-      by : (b : Bool) → ReadsWithin known (elim b [ true ↦ Writes Status ∷ Reads Status ∷ [] | false ↦ of_beginning_tree (tree_in shell text) ])
-          → NextAlike (known_after known (elim b [ true ↦ Writes Status ∷ Reads Status ∷ [] | false ↦ of_beginning_tree (tree_in shell text) ]))
-          (elim b [ true ↦ Go fs (set_status 1 s) | false ↦ begin_tree shell (tree_in shell text) name names fs s ]) (elim b [ true ↦ Go fs (set_status 1 t) | false ↦ begin_tree shell (tree_in shell text) name names fs t ])
-      by true v = goes_alike (near_status limits i j k l known s t 1 near)
-      by false v = begins_tree shell (tree_in shell text) name names fs known s t near v
+  begins_text shell (Some text) name names fs known s t near w = begins_read shell (started_in shell text) name names fs known s t near w
 
   begins_names : (shell : Shell) (names : List Text) (fs : List Frame) → Moves (begin_names shell names fs) (of_beginning_names shell names)
   begins_names shell [] fs known s t near w = goes_alike near

@@ -3,21 +3,21 @@ use Rattle.std.proofs.Common.{◌≡◌, ◌∙◌, refl, sym, ap, ℕ, zero, su
 use Rattle.hushlang.specs.Tree as tree
 use Rattle.hushlang.specs.Tree.{Script, AndOr, Joined, Command, Arms, IsProper, IsProperList, IsProperJoined, IsProperCommand, AreProperArms, HoldsCommand}
 use Rattle.hushlang.specs.Expansion.{size, most_bytes}
-use Rattle.hushlang_shells.specs.TreesByShell.{tree_in, has_fault_in}
-use Rattle.hushlang_shells.proofs.TreeByShellLemmas.{trees_in_are_proper}
+use Rattle.hushlang_shells.specs.TreesByShell.{TextRead, Runs, Fails, Panics, Unread, started_in}
+use Rattle.hushlang_shells.proofs.TreeByShellLemmas.{started_texts_are_proper}
 use Rattle.builtins.specs.Builtins.{Builtin, SetEnv, Run, Test, Echo, True, False, Leave, builtin_of}
 use Rattle.commands.specs.Computed.{Computed}
 use Rattle.device_list.specs.DeviceList.{Effect, effect_of, computed_by}
 use Rattle.rehearse_terms.specs.State.{Text, get, State}
 use Rattle.rehearse_rules.specs.Parameters.{parameters_in}
 use Rattle.rehearse_rules.specs.ByShell.{fields_in, turns_in, skips_rest, follows, follows_turns}
-use Rattle.rehearse_rules.specs.Execution.{Limits, Answer, Normal, Exit, Ended, Dry, CutSteps, go_on, set_status, goes, holds, begin_turn, started_text, run_text, exec_script, exec_list, exec_command, exec, request_of, for_begun, block_skipped, exec_arms, turns, for_each}
+use Rattle.rehearse_rules.specs.Execution.{Limits, Answer, Normal, Exit, Ended, Dry, CutSteps, go_on, set_status, goes, holds, begin_turn, started_text, run_read, exec_script, exec_list, exec_command, exec, request_of, for_begun, block_skipped, exec_arms, turns, for_each}
 use Rattle.rehearse_rules.proofs.GrowingSteps.{AtLeast, Grew, AtLeast-track, Grew-block}
 use Rattle.rehearse_rules.proofs.TakenOutcomes.{KeepsAll, Keeps-script, Keeps-list, Keeps-one, Keeps-exec, Keeps-started}
-use Rattle.rehearse_machine.proofs.StepBoundLemmas.{same_if, tree_answer, block_proper, same_script, same_exec, same_turns, same_for, same_if_arms}
+use Rattle.rehearse_machine.proofs.StepBoundLemmas.{same_if, block_proper, same_script, same_exec, same_turns, same_for, same_if_arms}
 use Rattle.rehearse_machine.proofs.BoundLemmas.{Cut-block}
 use Rattle.rehearse_reads.specs.Keys.{Access, Reads, Writes, Environment, Status, all_read}
-use Rattle.rehearse_reads.specs.Accesses.{listed_accesses, behind, behind_text, status_written, words_reads, sized_accesses, turns_accesses, turn_accesses, each_accesses, for_accesses, begun_accesses, device_accesses, computed_accesses, tree_accesses, text_accesses, started_accesses, run_accesses, builtin_accesses, call_accesses, simple_accesses, script_accesses, list_accesses, joined_accesses, command_accesses, arms_accesses, accesses, modern_accesses, turns_of_accesses, for_words_accesses, compound_accesses}
+use Rattle.rehearse_reads.specs.Accesses.{listed_accesses, behind, behind_text, status_written, words_reads, sized_accesses, turns_accesses, turn_accesses, each_accesses, for_accesses, begun_accesses, device_accesses, computed_accesses, read_accesses, started_accesses, run_accesses, builtin_accesses, call_accesses, simple_accesses, script_accesses, list_accesses, joined_accesses, command_accesses, arms_accesses, accesses, modern_accesses, turns_of_accesses, for_words_accesses, compound_accesses}
 use Rattle.rehearse_frames.proofs.NoneBegun.{None-block, None-turns}
 
 pub same_both : (xs ys zs ws : List Access) → xs ≡ ys → zs ≡ ws → xs ++ zs ≡ ys ++ ws
@@ -60,24 +60,27 @@ module _ (limits : Limits) where
     command_answers : (a : Command) → IsProperCommand a → (s : State) → limits.step_bound ≤ n + s.steps → exec_command limits n text a s ≡ exec_command limits m text' a s
     command_answers a p s h = sym (goes_on_so (exec_command limits n text a s)) ∙ list_answers (tree.Starts a tree.Alone) (p, tt) s h ∙ goes_on_so (exec_command limits m text' a s)
 
-    tree_answers : (o : Option Script) (name : Text) → ((tree : Script) → o ≡ Some tree → IsProper tree) → (t : State) → limits.step_bound < n + t.steps → tree_answer limits.shell text o name t ≡ tree_answer limits.shell text' o name t
-    tree_answers None name p t h = refl
-    tree_answers (Some tree.Empty) name p t h = same tree.Empty tt (set_status 0 t) h
-    tree_answers (Some (tree.Runs l ls)) name p t h = same (tree.Runs l ls) (p (tree.Runs l ls) refl) t h
+    read_answers : (found : TextRead) (name : Text) → ((tree : Script) → found ≡ Runs tree → IsProper tree) → (t : State) → limits.step_bound < n + t.steps → run_read limits text name found t ≡ run_read limits text' name found t
+    read_answers (Runs tree.Empty) name p t h = same tree.Empty tt (set_status 0 t) h
+    read_answers (Runs (tree.Runs l ls)) name p t h = same (tree.Runs l ls) (p (tree.Runs l ls) refl) t h
+    read_answers Fails name p t h = refl
+    read_answers Panics name p t h = refl
+    read_answers Unread name p t h = refl
 
     started_answers : (name v : Text) (t : State) → limits.step_bound < n + t.steps → started_text limits text name v t ≡ started_text limits text' name v t
-    started_answers name v t h = same_if (has_fault_in limits.shell v) (Normal (set_status 1 t)) (run_text limits text name v t) (Normal (set_status 1 t)) (run_text limits text' name v t) refl (tree_answers (tree_in limits.shell v) name (trees_in_are_proper limits.shell v) t h)
+    started_answers name v t h = read_answers (started_in limits.shell v) name (started_texts_are_proper limits.shell v) t h
 
     -- ---- texts
 
-    tree_same : (o : Option Script) → ((tree : Script) → o ≡ Some tree → IsProper tree) → (t : State) → limits.step_bound < n + t.steps
-        → ◌≡◌ {A = List Access} (elim o [ None ↦ [] | Some a ↦ tree_accesses limits text u a t ]) (elim o [ None ↦ [] | Some a ↦ tree_accesses limits text' u' a t ])
-    tree_same None p t h = refl
-    tree_same (Some tree.Empty) p t h = ap (λ (xs : List Access). Writes Status ∷ xs) (same_u tree.Empty tt (set_status 0 t) h)
-    tree_same (Some (tree.Runs l ls)) p t h = same_u (tree.Runs l ls) (p (tree.Runs l ls) refl) t h
+    read_same : (found : TextRead) → ((tree : Script) → found ≡ Runs tree → IsProper tree) → (t : State) → limits.step_bound < n + t.steps → read_accesses limits text u found t ≡ read_accesses limits text' u' found t
+    read_same Fails p t h = refl
+    read_same Panics p t h = refl
+    read_same Unread p t h = refl
+    read_same (Runs tree.Empty) p t h = ap (λ (xs : List Access). Writes Status ∷ xs) (same_u tree.Empty tt (set_status 0 t) h)
+    read_same (Runs (tree.Runs l ls)) p t h = same_u (tree.Runs l ls) (p (tree.Runs l ls) refl) t h
 
     started_same : (v : Text) (t : State) → limits.step_bound < n + t.steps → started_accesses limits text u v t ≡ started_accesses limits text' u' v t
-    started_same v t h = either (has_fault_in limits.shell v) status_written (text_accesses limits text u v t) status_written (text_accesses limits text' u' v t) refl (tree_same (tree_in limits.shell v) (trees_in_are_proper limits.shell v) t h)
+    started_same v t h = read_same (started_in limits.shell v) (started_texts_are_proper limits.shell v) t h
 
     named_same : (o : Option Text) (name : Text) (f g : State → List Access) (t : State) → limits.step_bound < n + t.steps → ((x : State) → t.steps ≤ x.steps → f x ≡ g x)
         → ◌≡◌ {A = List Access} (elim o [ None ↦ status_written | Some v ↦ started_accesses limits text u v t ++ behind_text (started_text limits text name v t) f ])

@@ -3,7 +3,7 @@
 use Rattle.std.specs.Prelude.{ℕ, nat_lt, nat_eq, Bool, true, false, List, [], ◌∷◌, ◌++◌, length, Option, Some, None}
 use Rattle.hushlang.specs.Tree as tree
 use Rattle.hushlang.specs.Tree.{Script, Command, Arms}
-use Rattle.hushlang_shells.specs.TreesByShell.{tree_in, has_fault_in}
+use Rattle.hushlang_shells.specs.TreesByShell.{TextRead, Runs, Fails, Panics, Unread, started_in}
 use Rattle.builtins.specs.Builtins.{Builtin, SetEnv, Run, Test, Echo, True, False, Leave, builtin_of}
 use Rattle.device_list.specs.DeviceList.{Effect, effect_of, computed_by}
 use Rattle.rehearse_terms.specs.State.{Text, get, State}
@@ -67,20 +67,17 @@ of_beginning_arms shell (tree.Arm c b arms) = []
 of_beginning_arms shell (tree.Else b) = []
 of_beginning_arms shell tree.NoElse = nothing_accesses shell
 
--- a text without a command sets the status
-abbrev pub of_beginning_tree : Option Script → List Access
-of_beginning_tree None = []
-of_beginning_tree (Some tree.Empty) = status_written
-of_beginning_tree (Some (tree.Runs list more)) = []
+-- a text without a command sets the status; so does one with a fault, and its `run` ends by it
+abbrev pub of_beginning_read : TextRead → List Access
+of_beginning_read (Runs tree.Empty) = status_written
+of_beginning_read (Runs (tree.Runs list more)) = []
+of_beginning_read Fails = Writes Status ∷ Reads Status ∷ []
+of_beginning_read Panics = []
+of_beginning_read Unread = []
 
--- a text with a fault sets the status, and its `run` ends by it
 abbrev pub of_beginning_text : Shell → Option Text → List Access
 of_beginning_text shell None = status_written
-of_beginning_text shell (Some text) =
-    elim (has_fault_in shell text) [
-      | true ↦ Writes Status ∷ Reads Status ∷ []
-      | false ↦ of_beginning_tree (tree_in shell text)
-    ]
+of_beginning_text shell (Some text) = of_beginning_read (started_in shell text)
 
 abbrev pub of_beginning_names : Shell → List Text → State → List Access
 of_beginning_names shell [] s = []

@@ -3,8 +3,8 @@ use Rattle.std.proofs.Common.{ℕ, zero, suc, Bool, true, false, List, [], ◌�
 use Rattle.device_list.specs.declared.finish.BoardEnd.{BoardEnd}
 use Rattle.hushlang.specs.Tree as tree
 use Rattle.hushlang.specs.Tree.{Script, Command, Arms, IsProper, IsProperCommand, HoldsCommand}
-use Rattle.hushlang.specs.Expansion.{fields, joined, size, most_bytes}
-use Rattle.hushlang_shells.specs.TreesByShell.{tree_in, has_fault_in}
+use Rattle.hushlang.specs.Expansion.{fields, size, most_bytes}
+use Rattle.hushlang_shells.specs.TreesByShell.{TextRead, Runs, Fails, Panics, Unread, started_in}
 use Rattle.rehearse_terms.specs.Outcomes.{OutcomeWord, Success}
 use Rattle.rehearse_terms.specs.State.{Text, get, State}
 use Rattle.rehearse_rules.specs.Parameters.{parameters_in}
@@ -12,13 +12,13 @@ use Rattle.device_list.specs.Called.{Called, BuiltIn, NoCommand, Device, called_
 use Rattle.commands.specs.BuiltInCommands.{ChangesVariables, WritesText, RunsTexts, Tests, Exits}
 use Rattle.rehearse_rules.specs.Needs.{effect_now}
 use Rattle.rehearse_rules.proofs.CompoundLemmas.{compound_normal, compound_ended, compound_dry}
-use Rattle.rehearse_rules.specs.Execution.{Limits, Answer, Normal, Exit, Ended, Dry, Ending, CutDevices, CutSteps, Unknown, Size, go_on, set_status, set_local, status_when, goes, holds, begin, tell_or_take, told, told_again, logged, finish, set_environment, Finished, device, Request, test_effect, text_end, run_text, run_all, command, simple, sized, assign, turns, for_each, Unsupported, assign_local, request_of, test_request, started_text, text_failed, turns_of, for_words, for_begun, block_skipped, compound, compound_left}
-use Rattle.rehearse_machine.specs.Frames.{Frame, Lists, Linked, IfCondition, LoopCondition, LoopBody, ForBody, RunNames, RunText, Next, Go, Stop, tell_or_ask, finish_next, leave, begin_assign, begin_for, begin_arms, begin_tree, begin_text, begin_names, begin_exit, fitting, ask, begin_called, begin_fields, counted, begin_command, move, begin_turns, begin_words, CommandEnd, leave_compound, behind_block}
+use Rattle.rehearse_rules.specs.Execution.{Limits, Answer, Normal, Exit, Ended, Dry, Ending, CutDevices, CutSteps, Unknown, Size, go_on, set_status, status_when, goes, holds, begin, tell_or_take, told, told_again, logged, finish, set_environment, Finished, device, Request, text_end, run_read, run_all, command, simple, sized, assign, turns, for_each, Unsupported, Panic, assign_local, request_of, test_request, started_text, text_failed, turns_of, for_words, for_begun, block_skipped, compound, compound_left}
+use Rattle.rehearse_machine.specs.Frames.{Frame, Lists, Linked, IfCondition, LoopCondition, LoopBody, ForBody, RunNames, RunText, Next, Go, Stop, tell_or_ask, finish_next, leave, begin_assign, begin_for, begin_arms, begin_read, begin_text, begin_names, begin_exit, fitting, ask, begin_called, begin_fields, counted, begin_command, move, begin_turns, begin_words, CommandEnd, leave_compound, behind_block}
 use Rattle.rehearse_machine.specs.Came.{Over, Wants}
 use Rattle.rehearse_machine.specs.Meaning.{with, full, script, one, joined_of, arms_of, again, resume, continue, comes_to, AreProperFrames}
 use Rattle.rehearse_rules.proofs.GrowingSteps.{Grew, AtLeast-track, Grew-block}
 use Rattle.rehearse_rules.proofs.TakenOutcomes.{KeepsAll, after_condition, Keeps-script, Keeps-exec}
-use Rattle.hushlang_shells.proofs.TreeByShellLemmas.{trees_in_are_proper}
+use Rattle.hushlang_shells.proofs.TreeByShellLemmas.{started_texts_are_proper}
 use Rattle.rehearse_machine.proofs.BoundLemmas.{Cut-block}
 use Rattle.rehearse_machine.proofs.StepBoundLemmas.{same_go_on, same_if, closed_exec, same_turns}
 use Rattle.rehearse_terms.specs.declared.shell.Shell.{Shell}
@@ -104,18 +104,16 @@ module _ (limits : Limits) where
         let value : Text = assigned_in limits.shell (parameters_in s.memory) pair.1 in
         if-is (nat_le (length value) most_bytes) (begin_assign limits.shell pairs fs (assign_local limits.shell pair.0 value s)) (Stop Size s) fs (assign limits.shell pairs (assign_local limits.shell pair.0 value (with w s))) (Ended Size (with w s)) (assign-is pairs fs (assign_local limits.shell pair.0 value s)) (sym (continue-ended fs Size (with w s)))
 
-    tree-is : (o : Option Script) (name : Text) (names : List Text) (fs : List Frame) (s : State) → ((t : Script) → o ≡ Some t → IsProper t) → comes_to limits w (begin_tree limits.shell o name names fs s) ≡ continue limits fs (text_end limits.shell (elim o [ None ↦ Ended (unread limits.shell name) (with w s) | Some a ↦ full limits a (elim a [ tree.Empty ↦ set_status 0 (with w s) | tree.Runs l ls ↦ with w s ]) ]) (run_all limits (full limits) names))
-    tree-is None name names fs s p = sym (continue-ended fs (unread limits.shell name) (with w s))
-    tree-is (Some tree.Empty) name names fs s p = ap (λ (a : Answer). continue limits fs (text_end limits.shell a (run_all limits (full limits) names))) (sym (closed_exec limits limits.step_bound tree.Empty tt (set_status 0 (with w s)) (omega arith)))
-    tree-is (Some (tree.Runs l ls)) name names fs s p = ap (λ (a : Answer). continue limits fs (text_end limits.shell a (run_all limits (full limits) names))) (sym (closed_exec limits limits.step_bound (tree.Runs l ls) (p (tree.Runs l ls) refl) (with w s) (omega arith)))
-
-    started-is : (b : Bool) (v name : Text) (names : List Text) (fs : List Frame) (s : State) → comes_to limits w (elim b [ true ↦ Go fs (set_status 1 s) | false ↦ begin_tree limits.shell (tree_in limits.shell v) name names fs s ]) ≡ continue limits fs (text_end limits.shell (elim b [ true ↦ Normal (set_status 1 (with w s)) | false ↦ run_text limits (full limits) name v (with w s) ]) (run_all limits (full limits) names))
-    started-is true v name names fs s = ap (λ (n : ℕ). continue limits fs (Normal (set_status n (with w s)))) (sym (failed_with_1 limits.shell))
-    started-is false v name names fs s = tree-is (tree_in limits.shell v) name names fs s (trees_in_are_proper limits.shell v)
+    read-is : (found : TextRead) (name : Text) (names : List Text) (fs : List Frame) (s : State) → ((t : Script) → found ≡ Runs t → IsProper t) → comes_to limits w (begin_read limits.shell found name names fs s) ≡ continue limits fs (text_end limits.shell (run_read limits (full limits) name found (with w s)) (run_all limits (full limits) names))
+    read-is Fails name names fs s p = ap (λ (n : ℕ). continue limits fs (Normal (set_status n (with w s)))) (sym (failed_with_1 limits.shell))
+    read-is Panics name names fs s p = sym (continue-ended fs (Panic name) (with w s))
+    read-is Unread name names fs s p = sym (continue-ended fs (unread limits.shell name) (with w s))
+    read-is (Runs tree.Empty) name names fs s p = ap (λ (a : Answer). continue limits fs (text_end limits.shell a (run_all limits (full limits) names))) (sym (closed_exec limits limits.step_bound tree.Empty tt (set_status 0 (with w s)) (omega arith)))
+    read-is (Runs (tree.Runs l ls)) name names fs s p = ap (λ (a : Answer). continue limits fs (text_end limits.shell a (run_all limits (full limits) names))) (sym (closed_exec limits limits.step_bound (tree.Runs l ls) (p (tree.Runs l ls) refl) (with w s) (omega arith)))
 
     text-is : (o : Option Text) (name : Text) (names : List Text) (fs : List Frame) (s : State) → comes_to limits w (begin_text limits.shell o name names fs s) ≡ continue limits fs (elim o [ None ↦ Normal (set_status 1 (with w s)) | Some v ↦ text_end limits.shell (started_text limits (full limits) name v (with w s)) (run_all limits (full limits) names) ])
     text-is None name names fs s = refl
-    text-is (Some v) name names fs s = started-is (has_fault_in limits.shell v) v name names fs s
+    text-is (Some v) name names fs s = read-is (started_in limits.shell v) name names fs s (started_texts_are_proper limits.shell v)
 
     names-is : (names : List Text) (fs : List Frame) (s : State) → comes_to limits w (begin_names limits.shell names fs s) ≡ continue limits fs (run_all limits (full limits) names (with w s))
     names-is [] fs s = refl

@@ -1,5 +1,5 @@
 -- The names of a `run`, and their texts.
-use Rattle.std.proofs.Common.{◌≡◌, suc, Bool, true, false, List, [], ◌∷◌, map, length, Option, Some, None, Result, refl, sym, ap, subst, ◌∙◌, arith}
+use Rattle.std.proofs.Common.{◌≡◌, suc, true, false, List, [], ◌∷◌, map, length, Option, Some, None, Result, refl, sym, ap, subst, ◌∙◌, arith}
 use Rattle.std.specs.Prelude.{slice_get, option_map}
 use Rattle.std.proofs.Math.Dec.{eqb, eqb-suc-zero}
 use Rattle.std.specs.FinMap as finite
@@ -13,15 +13,15 @@ use Rattle.bootstore_state.specs.declared.frame.At.{At}
 use Rattle.bootstore_state.specs.Moment.{RunningFrame}
 use Rattle.bootstore_state.specs.Record.{Record, changed, with_status, without_frame}
 use Rattle.rehearse_terms.specs.Outcomes.{OutcomeWord}
-use Rattle.hushlang_shells.specs.TreesByShell.{tree_in, has_fault_in}
+use Rattle.hushlang_shells.specs.TreesByShell.{TextRead, Runs, Fails, Panics, Unread, started_in}
 use Rattle.rehearse_terms.specs.State.{Text, State, get}
 use Rattle.bootstore_state.specs.StoredState.{state_at}
-use Rattle.rehearse_rules.specs.Execution.{Ending, set_status}
+use Rattle.rehearse_rules.specs.Execution.{Ending, Panic, set_status}
 use Rattle.rehearse_rules.specs.ByShell.{unread}
 use Rattle.rehearse_terms.specs.declared.shell.Shell.{Shell}
 use Rattle.bootstore_state.proofs.StateLemmas.{stored_values}
 use Rattle.rehearse_machine.specs.Frames.{begun_text}
-use Rattle.rehearse_machine.specs.Places.{PlaceNext, GoOn, StopOn, place, moved_to, in_turn, text_frame, place_name, place_text, place_tree}
+use Rattle.rehearse_machine.specs.Places.{PlaceNext, GoOn, StopOn, place, moved_to, in_turn, text_frame, place_name, place_text, place_read}
 use Rattle.rehearse_machine.specs.MovesShown.{under, Keeps, Does, Comes}
 use Rattle.rehearse_machine.specs.declared.ask.Step.{Step}
 use Rattle.rehearse_machine.specs.declared.ask.Step.TheVariants as steps
@@ -78,43 +78,29 @@ module _ (shell : Shell) (old : Record) (f : RunningFrame) (name bytes : Text) (
       subst (λ (x : Record). Does steps.Going old x named) (sym (d ∙ ap (changed (with_status 1)) e))
       (λ w. with_text None w none, record { marked = refl; begun = omega arith })
 
-  -- a text by whether it has a fault
-  abbrev by_end : Bool → Text → State → PlaceNext
-  by_end lacks text s =
-      elim lacks [
-        | true ↦ GoOn (under old.present) (set_status 1 s)
-        | false ↦ place_tree shell (tree_in shell text) name f (under old.present) s
-      ]
+  -- a text that is set, by what becomes of it
+  as_read : (what : TextRead) (text : Text) → Some text ≡ finite.get old.present.environment bytes → started_in shell text ≡ what → (w : OutcomeWord) → place_read shell what name f (under old.present) (state_at old.present w) ≡ named (state_at old.present w)
+  as_read what text e t w =
+      sym (ap (λ (x : TextRead). place_read shell x name f (under old.present) (state_at old.present w)) t) ∙ with_text (Some text) w e
 
-  pub no_script : (copy text : Text) → copy ≡ name → Some text ≡ finite.get old.present.environment bytes → tree_in shell text ≡ None → has_fault_in shell text ≡ false → (w : OutcomeWord) → StopOn (unread shell copy) (state_at old.present w) ≡ named (state_at old.present w)
-  no_script copy text c e t l w =
-      ap (λ (x : Text). StopOn (unread shell x) (state_at old.present w)) c
-      ∙ sym (ap (λ (x : Option Script). place_tree shell x name f (under old.present) (state_at old.present w)) t)
-      ∙ sym (ap (λ (x : Bool). by_end x text (state_at old.present w)) l)
-      ∙ with_text (Some text) w e
-
-  pub no_end : (mid new : Record) (text : Text) → mid ≡ changed without_frame old → new ≡ changed (with_status 1) mid → Some text ≡ finite.get old.present.environment bytes → has_fault_in shell text ≡ true → Does steps.Going old new named
-  no_end mid new text e d t l =
+  pub fails : (mid new : Record) (text : Text) → mid ≡ changed without_frame old → new ≡ changed (with_status 1) mid → Some text ≡ finite.get old.present.environment bytes → started_in shell text ≡ Fails → Does steps.Going old new named
+  fails mid new text e d t l =
       subst (λ (x : Record). Does steps.Going old x named) (sym (d ∙ ap (changed (with_status 1)) e))
-      (λ w. sym (ap (λ (x : Bool). by_end x text (state_at old.present w)) l) ∙ with_text (Some text) w t, record { marked = refl; begun = omega arith })
+      (λ w. as_read Fails text t l w, record { marked = refl; begun = omega arith })
 
-  pub text_comes : (r : Result Step StoreError) (new : Record) (text : Text) (script : Script) → Some text ≡ finite.get old.present.environment bytes → tree_in shell text ≡ Some script → has_fault_in shell text ≡ false → Comes r old new (λ s. GoOn (text_frame script ∷ in_turn (suc f.place.turn) 0 f ∷ under old.present) (begun_text script s)) → Comes r old new named
-  text_comes r new text script e t l comes =
+  pub text_comes : (r : Result Step StoreError) (new : Record) (text : Text) (script : Script) → Some text ≡ finite.get old.present.environment bytes → started_in shell text ≡ Runs script → Comes r old new (λ s. GoOn (text_frame script ∷ in_turn (suc f.place.turn) 0 f ∷ under old.present) (begun_text script s)) → Comes r old new named
+  text_comes r new text script e t comes =
       comes_at r old new (λ s. GoOn (text_frame script ∷ in_turn (suc f.place.turn) 0 f ∷ under old.present) (begun_text script s)) named
-      (λ w. sym (ap (λ (x : Option Script). place_tree shell x name f (under old.present) (state_at old.present w)) t) ∙ sym (ap (λ (x : Bool). by_end x text (state_at old.present w)) l) ∙ with_text (Some text) w e) comes
+      (λ w. as_read (Runs script) text e t w) comes
 
 -- by what reading the text of a variable found
-none_found : (shell : Shell) (o : Option Text) → None ≡ option_map (tree_in shell) o → None ≡ o
+none_found : (shell : Shell) (o : Option Text) → None ≡ option_map (started_in shell) o → None ≡ o
 none_found shell None e = refl
 none_found shell (Some text) e = absurd (let f = e in cc)
 
-abbrev within : Option (Option Script) → Option Script
-within None = None
-within (Some o) = o
-
-abbrev is_missing : Option Bool → Bool
-is_missing None = false
-is_missing (Some lacks) = lacks
+abbrev within : Option TextRead → TextRead
+within None = Unread
+within (Some what) = what
 
 module _ (shell : Shell) (old read : Record) (same : read ≡ old) (f : RunningFrame) (name bytes : Text) (found : slice_get f.words f.place.turn ≡ Some name) (bytes_are : bytes ≡ name) where
   abbrev value : Option Text
@@ -123,29 +109,39 @@ module _ (shell : Shell) (old read : Record) (same : read ≡ old) (f : RunningF
   abbrev wanted : State → PlaceNext
   wanted = place_name shell (slice_get f.words f.place.turn) f (under old.present)
 
-  pub unset_found : (mid new : Record) → mid ≡ changed without_frame read → new ≡ changed (with_status 1) mid → None ≡ option_map (tree_in shell) value → Does steps.Going old new wanted
+  pub unset_found : (mid new : Record) → mid ≡ changed without_frame read → new ≡ changed (with_status 1) mid → None ≡ option_map (started_in shell) value → Does steps.Going old new wanted
   unset_found mid new e d none = unset shell old f name bytes found bytes_are mid new (e ∙ ap (changed without_frame) same) d (none_found shell value none)
 
-  refused_at : (copy : Text) → copy ≡ name → (o : Option Text) → o ≡ value → Some None ≡ option_map (tree_in shell) o → Some false ≡ option_map (has_fault_in shell) o → (w : OutcomeWord) → StopOn (unread shell copy) (state_at old.present w) ≡ wanted (state_at old.present w)
-  refused_at copy c None v e l w = absurd (let g = e in cc)
-  refused_at copy c (Some text) v e l w = no_script shell old f name bytes found bytes_are copy text c v (sym (ap within e)) (sym (ap is_missing l)) w
+  fails_at : (mid new : Record) → mid ≡ changed without_frame old → new ≡ changed (with_status 1) mid → (o : Option Text) → o ≡ value → Some Fails ≡ option_map (started_in shell) o → Does steps.Going old new wanted
+  fails_at mid new e d None v l = absurd (let g = l in cc)
+  fails_at mid new e d (Some text) v l = fails shell old f name bytes found bytes_are mid new text e d v (sym (ap within l))
 
-  without_end_at : (mid new : Record) → mid ≡ changed without_frame old → new ≡ changed (with_status 1) mid → (o : Option Text) → o ≡ value → Some true ≡ option_map (has_fault_in shell) o → Does steps.Going old new wanted
-  without_end_at mid new e d None v l = absurd (let g = l in cc)
-  without_end_at mid new e d (Some text) v l = no_end shell old f name bytes found bytes_are mid new text e d v (sym (ap is_missing l))
+  pub fails_found : (mid new : Record) → mid ≡ changed without_frame read → new ≡ changed (with_status 1) mid → Some Fails ≡ option_map (started_in shell) value → Does steps.Going old new wanted
+  fails_found mid new e d l = fails_at mid new (e ∙ ap (changed without_frame) same) d value refl l
 
-  pub no_end_found : (mid new : Record) → mid ≡ changed without_frame read → new ≡ changed (with_status 1) mid → Some true ≡ option_map (has_fault_in shell) value → Does steps.Going old new wanted
-  no_end_found mid new e d l = without_end_at mid new (e ∙ ap (changed without_frame) same) d value refl l
+  -- a text by which the run ends, at the name of its variable
+  module _ (what : TextRead) (ends : Text → Ending) (stops : (s : State) → place_read shell what name f (under old.present) s ≡ StopOn (ends name) s) where
+    stops_at : (copy : Text) → copy ≡ name → (o : Option Text) → o ≡ value → Some what ≡ option_map (started_in shell) o → (w : OutcomeWord) → StopOn (ends copy) (state_at old.present w) ≡ wanted (state_at old.present w)
+    stops_at copy c None v e w = absurd (let g = e in cc)
+    stops_at copy c (Some text) v e w =
+        ap (λ (x : Text). StopOn (ends x) (state_at old.present w)) c ∙ sym (stops (state_at old.present w))
+        ∙ as_read shell old f name bytes found bytes_are what text v (sym (ap within e)) w
 
-  pub no_script_found : (copy : Text) (ending : Ending) → ending ≡ unread shell copy → copy ≡ name → Some None ≡ option_map (tree_in shell) value → Some false ≡ option_map (has_fault_in shell) value → ((w : OutcomeWord) → StopOn ending (state_at read.present w) ≡ wanted (state_at old.present w)) × Keeps old read
-  no_script_found copy ending ends c e l =
-      subst (λ (x : Record). ((w : OutcomeWord) → StopOn ending (state_at x.present w) ≡ wanted (state_at old.present w)) × Keeps old x) (sym same)
-      (λ w. ap (λ (x : Ending). StopOn x (state_at old.present w)) ends ∙ refused_at copy c value refl e l w, record { marked = refl; begun = refl })
+    stops_found : (copy : Text) (ending : Ending) → ending ≡ ends copy → copy ≡ name → Some what ≡ option_map (started_in shell) value → ((w : OutcomeWord) → StopOn ending (state_at read.present w) ≡ wanted (state_at old.present w)) × Keeps old read
+    stops_found copy ending is c e =
+        subst (λ (x : Record). ((w : OutcomeWord) → StopOn ending (state_at x.present w) ≡ wanted (state_at old.present w)) × Keeps old x) (sym same)
+        (λ w. ap (λ (x : Ending). StopOn x (state_at old.present w)) is ∙ stops_at copy c value refl e w, record { marked = refl; begun = refl })
 
-  comes_at_once : (r : Result Step StoreError) (new : Record) (script : Script) (o : Option Text) → o ≡ value → Some (Some script) ≡ option_map (tree_in shell) o → Some false ≡ option_map (has_fault_in shell) o → Comes r old new (λ s. GoOn (text_frame script ∷ in_turn (suc f.place.turn) 0 f ∷ under old.present) (begun_text script s)) → Comes r old new wanted
-  comes_at_once r new script None v e l comes = absurd (let g = e in cc)
-  comes_at_once r new script (Some text) v e l comes = text_comes shell old f name bytes found bytes_are r new text script v (sym (ap within e)) (sym (ap is_missing l)) comes
+  pub unread_found : (copy : Text) (ending : Ending) → ending ≡ unread shell copy → copy ≡ name → Some Unread ≡ option_map (started_in shell) value → ((w : OutcomeWord) → StopOn ending (state_at read.present w) ≡ wanted (state_at old.present w)) × Keeps old read
+  unread_found = stops_found Unread (unread shell) (λ s. refl)
 
-  pub text_found_comes : (r : Result Step StoreError) (new : Record) (script : Script) → Some (Some script) ≡ option_map (tree_in shell) value → Some false ≡ option_map (has_fault_in shell) value → Comes r read new (λ s. GoOn (text_frame script ∷ in_turn (suc f.place.turn) 0 f ∷ under read.present) (begun_text script s)) → Comes r old new wanted
-  text_found_comes r new script e l comes =
-      comes_at_once r new script value refl e l (subst (λ (x : Record). Comes r x new (λ s. GoOn (text_frame script ∷ in_turn (suc f.place.turn) 0 f ∷ under x.present) (begun_text script s))) same comes)
+  pub panics_found : (copy : Text) (ending : Ending) → ending ≡ Panic copy → copy ≡ name → Some Panics ≡ option_map (started_in shell) value → ((w : OutcomeWord) → StopOn ending (state_at read.present w) ≡ wanted (state_at old.present w)) × Keeps old read
+  panics_found = stops_found Panics Panic (λ s. refl)
+
+  comes_at_once : (r : Result Step StoreError) (new : Record) (script : Script) (o : Option Text) → o ≡ value → Some (Runs script) ≡ option_map (started_in shell) o → Comes r old new (λ s. GoOn (text_frame script ∷ in_turn (suc f.place.turn) 0 f ∷ under old.present) (begun_text script s)) → Comes r old new wanted
+  comes_at_once r new script None v e comes = absurd (let g = e in cc)
+  comes_at_once r new script (Some text) v e comes = text_comes shell old f name bytes found bytes_are r new text script v (sym (ap within e)) comes
+
+  pub text_found_comes : (r : Result Step StoreError) (new : Record) (script : Script) → Some (Runs script) ≡ option_map (started_in shell) value → Comes r read new (λ s. GoOn (text_frame script ∷ in_turn (suc f.place.turn) 0 f ∷ under read.present) (begun_text script s)) → Comes r old new wanted
+  text_found_comes r new script e comes =
+      comes_at_once r new script value refl e (subst (λ (x : Record). Comes r x new (λ s. GoOn (text_frame script ∷ in_turn (suc f.place.turn) 0 f ∷ under x.present) (begun_text script s))) same comes)

@@ -5,7 +5,7 @@ use Rattle.std.proofs.Math.Dec.{eqb-suc-zero}
 use Rattle.device_list.specs.declared.finish.BoardEnd.{BoardEnd}
 use Rattle.hushlang.specs.Tree as tree
 use Rattle.hushlang.specs.Tree.{Script, AndOr, Joined, Command, Arms}
-use Rattle.hushlang.specs.Expansion.{joined, size, most_bytes}
+use Rattle.hushlang.specs.Expansion.{size, most_bytes}
 use Rattle.hushlang.specs.declared.tree.Op.{Op}
 use Rattle.bootstore_state.specs.declared.frame.At.{At}
 use Rattle.bootstore_state.specs.declared.frame.FrameKind.{FrameKind}
@@ -13,15 +13,15 @@ use Rattle.bootstore_state.specs.declared.frame.FrameKind.TheVariants as kinds
 use Rattle.bootstore_state.specs.Moment.{RunningFrame}
 use Rattle.bootstore_state.specs.Record.{without_first}
 use Rattle.rehearse_terms.specs.Outcomes.{Outcome, Success, Failure}
-use Rattle.hushlang_shells.specs.TreesByShell.{tree_in, has_fault_in}
+use Rattle.hushlang_shells.specs.TreesByShell.{TextRead, Runs, Fails, Panics, Unread, started_in}
 use Rattle.rehearse_terms.specs.State.{Text, get, State}
 use Rattle.rehearse_rules.specs.Parameters.{parameters_in}
 use Rattle.device_list.specs.Called.{Called, BuiltIn, NoCommand, Device, called_by, sets_in}
 use Rattle.commands.specs.BuiltInCommands.{ChangesVariables, WritesText, RunsTexts, Tests, Exits}
 use Rattle.rehearse_rules.specs.Needs.{effect_now}
-use Rattle.rehearse_rules.specs.Execution.{begin_turn, Limits, End, CutDevices, CutSteps, Size, set_status, set_local, status_when, goes, holds, Request, test_effect, outcome_when, told, told_again, logged, set_environment, Unsupported, assign_local, request_of, test_request, text_failed, for_begun, block_skipped}
-use Rattle.rehearse_machine.specs.Frames.{Frame, Lists, Linked, IfCondition, LoopCondition, LoopBody, ForBody, Next, Go, Stop, leave, finish_next, answered, tell_or_ask, begin_assign, begin_for, begin_arms, begun_text, begin_tree, begin_text, begin_names, begin_exit, fitting, ask, begin_called, begin_fields, counted, begin_command, move, leave_run, begin_turns, begin_words, CommandEnd, leave_compound, behind_block}
-use Rattle.rehearse_machine.specs.Places.{list_at, drop_lists, joined_at, drop_joined, second, command_in, command_at, drop_arms, place, from_command, condition_frame, phase, from_turn, script_frames, for_frame, run_frame, frames_by, frames_of, PlaceNext, GoOn, StopOn, next_of, moved_to, behind, in_turn, text_frame, block_frame, left, place_exit, place_finish, place_answered, place_tell_or_ask, place_assign, place_tree, place_text, place_name, run_move, for_turn, for_move, for_begins, place_arms, condition_ends, phase_move, place_fitting, place_ask, place_called, place_fields, place_counted, place_command, place_joined, place_skipped, place_begins, place_turn, place_list, place_by, place_move, place_skipped, place_turns, place_words, place_for, past_lists, over, command_over, with_block, left_compound, left_script, left_by, if_moves, loop_moves}
+use Rattle.rehearse_rules.specs.Execution.{begin_turn, Limits, End, CutDevices, CutSteps, Size, set_status, status_when, goes, holds, Request, outcome_when, told, told_again, logged, set_environment, Unsupported, assign_local, request_of, test_request, text_failed, for_begun, block_skipped}
+use Rattle.rehearse_machine.specs.Frames.{Frame, Lists, Linked, IfCondition, LoopCondition, LoopBody, ForBody, Next, Go, Stop, leave, finish_next, answered, tell_or_ask, begin_assign, begin_for, begin_arms, begun_text, begin_read, begin_text, begin_names, begin_exit, fitting, ask, begin_called, begin_fields, counted, begin_command, move, leave_run, begin_turns, begin_words, CommandEnd, leave_compound, behind_block}
+use Rattle.rehearse_machine.specs.Places.{list_at, drop_lists, joined_at, drop_joined, second, command_in, command_at, drop_arms, place, from_command, condition_frame, phase, from_turn, script_frames, for_frame, run_frame, frames_by, frames_of, PlaceNext, GoOn, StopOn, next_of, moved_to, behind, in_turn, text_frame, block_frame, left, place_exit, place_finish, place_answered, place_tell_or_ask, place_assign, place_read, place_text, place_name, run_move, for_turn, for_move, for_begins, place_arms, condition_ends, phase_move, place_fitting, place_ask, place_called, place_fields, place_counted, place_command, place_joined, place_skipped, place_begins, place_turn, place_list, place_by, place_move, place_skipped, place_turns, place_words, place_for, past_lists, over, command_over, with_block, left_compound, left_script, left_by, if_moves, loop_moves}
 use Rattle.rehearse_machine.proofs.Beginnings.{chosen, passed}
 use Rattle.rehearse_terms.specs.declared.shell.Shell.{Shell}
 use Rattle.rehearse_terms.specs.declared.shell.Shell.TheVariants.{Profile, Old2023, Old2025, Modern2025}
@@ -203,15 +203,15 @@ module _ (limits : Limits) (f : RunningFrame) (fs : List RunningFrame) (s : Stat
   ran : (turn last : ℕ) → frames_of (in_turn turn last f ∷ fs) ≡ run_frame turn f.words ∷ frames_of fs
   ran turn last = ap (λ (x : FrameKind). frames_by x (in_turn turn last f) ++ frames_of fs) k
 
-  tree-is : (o : Option Script) (name : Text) → next_of (place_tree limits.shell o name f fs s) ≡ begin_tree limits.shell o name (drop (suc f.place.turn) f.words) (frames_of fs) s
-  tree-is None name = refl
-  tree-is (Some t) name = ap (λ (x : List Frame). Go x (begun_text t s)) (texted t (in_turn (suc f.place.turn) 0 f ∷ fs) ∙ ap (λ (x : List Frame). Lists t ∷ x) (ran (suc f.place.turn) 0))
+  read-is : (found : TextRead) (name : Text) → next_of (place_read limits.shell found name f fs s) ≡ begin_read limits.shell found name (drop (suc f.place.turn) f.words) (frames_of fs) s
+  read-is Fails name = refl
+  read-is Panics name = refl
+  read-is Unread name = refl
+  read-is (Runs t) name = ap (λ (x : List Frame). Go x (begun_text t s)) (texted t (in_turn (suc f.place.turn) 0 f ∷ fs) ∙ ap (λ (x : List Frame). Lists t ∷ x) (ran (suc f.place.turn) 0))
 
   text-is : (o : Option Text) (name : Text) → next_of (place_text limits.shell o name f fs s) ≡ begin_text limits.shell o name (drop (suc f.place.turn) f.words) (frames_of fs) s
   text-is None name = refl
-  text-is (Some text) name =
-      if_next (has_fault_in limits.shell text) (GoOn fs (set_status 1 s)) (place_tree limits.shell (tree_in limits.shell text) name f fs s) (Go (frames_of fs) (set_status 1 s))
-      (begin_tree limits.shell (tree_in limits.shell text) name (drop (suc f.place.turn) f.words) (frames_of fs) s) refl (tree-is (tree_in limits.shell text) name)
+  text-is (Some text) name = read-is (started_in limits.shell text) name
 
   name-is : (o : Option Text) → slice_get f.words f.place.turn ≡ o → next_of (place_name limits.shell o f fs s) ≡ begin_names limits.shell (drop f.place.turn f.words) (frames_of fs) s
   name-is None e = ap (λ (x : List Text). begin_names limits.shell x (frames_of fs) s) (sym (text_none f.words f.place.turn e))

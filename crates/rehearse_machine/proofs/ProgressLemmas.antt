@@ -3,8 +3,8 @@ use Rattle.std.proofs.Common.{ℕ, suc, Bool, true, false, List, [], ◌∷◌, 
 use Rattle.device_list.specs.declared.finish.BoardEnd.{BoardEnd}
 use Rattle.hushlang.specs.Tree as tree
 use Rattle.hushlang.specs.Tree.{Script, Joined, Command, Arms, IsProperCommand, AreProperArms, HoldsCommand}
-use Rattle.hushlang.specs.Expansion.{joined, size, most_bytes}
-use Rattle.hushlang_shells.specs.TreesByShell.{tree_in, has_fault_in}
+use Rattle.hushlang.specs.Expansion.{size, most_bytes}
+use Rattle.hushlang_shells.specs.TreesByShell.{TextRead, Runs, Fails, Panics, Unread, started_in}
 use Rattle.rehearse_terms.specs.State.{Text, get, State, Variables}
 use Rattle.rehearse_rules.specs.Parameters.{parameters_in}
 use Rattle.device_list.specs.Called.{Called, BuiltIn, NoCommand, Device, called_by, sets_in}
@@ -12,10 +12,10 @@ use Rattle.commands.specs.BuiltInCommands.{ChangesVariables, WritesText, RunsTex
 use Rattle.rehearse_rules.specs.Needs.{effect_now}
 use Rattle.rehearse_terms.specs.declared.shell.Shell.{Shell}
 use Rattle.rehearse_terms.specs.declared.shell.Shell.TheVariants.{Profile, Old2023, Old2025, Modern2025}
-use Rattle.rehearse_rules.specs.Execution.{Limits, CutDevices, CutSteps, Size, set_status, set_local, status_when, goes, holds, Request, test_effect, told, told_again, logged, set_environment, Unsupported, assign_local, request_of, test_request, text_failed, for_begun, block_skipped}
+use Rattle.rehearse_rules.specs.Execution.{Limits, CutDevices, CutSteps, Size, set_status, status_when, goes, holds, Request, told, told_again, logged, set_environment, Unsupported, assign_local, request_of, test_request, text_failed, for_begun, block_skipped}
 use Rattle.rehearse_terms.specs.Outcomes.{Success}
-use Rattle.rehearse_machine.specs.Frames.{Frame, Lists, Linked, IfCondition, LoopCondition, LoopBody, ForBody, RunNames, RunText, Next, Go, Ask, Stop, tell_or_ask, finish_next, leave, begin_assign, begin_for, begin_arms, begin_tree, begin_text, begin_names, begin_exit, fitting, ask, begin_called, begin_fields, begin_command, move, begin_turns, begin_words, CommandEnd, leave_compound, behind_block}
-use Rattle.rehearse_machine.specs.MoveCounts.{command_depth, arms_depth, script_depth, block_weight, links_weight, arms_weight, tree_weight, text_weight, names_weight, weight}
+use Rattle.rehearse_machine.specs.Frames.{Frame, Lists, Linked, IfCondition, LoopCondition, LoopBody, ForBody, RunNames, RunText, Next, Go, Ask, Stop, tell_or_ask, finish_next, leave, begin_assign, begin_for, begin_arms, begin_read, begin_text, begin_names, begin_exit, fitting, ask, begin_called, begin_fields, begin_command, move, begin_turns, begin_words, CommandEnd, leave_compound, behind_block}
+use Rattle.rehearse_machine.specs.MoveCounts.{command_depth, arms_depth, script_depth, block_weight, links_weight, arms_weight, read_weight, text_weight, names_weight, weight}
 use Rattle.rehearse_machine.specs.Meaning.{AreProperFrames}
 use Rattle.rehearse_rules.specs.ByShell.{reads_again, leaves_in, status_of_exit, asks_in, truth_in, fields_in, turns_in, skips_rest, status_of_loop, follows, assigned_in, follows_turns}
 
@@ -64,16 +64,16 @@ module _ (limits : Limits) where
   assign-quiet [] fs t s e = e
   assign-quiet (pair ∷ pairs) fs t s e = let value : Text = assigned_in limits.shell (parameters_in s.memory) pair.1 in either-quiet t (nat_le (length value) most_bytes) (begin_assign limits.shell pairs fs (assign_local limits.shell pair.0 value s)) (Stop Size s) (assign-quiet pairs fs t (assign_local limits.shell pair.0 value s) e) e
 
-  tree-quiet : (o : Option Script) (name : Text) (names : List Text) (fs : List Frame) (s : State) → IsQuiet s (begin_tree limits.shell o name names fs s)
-  tree-quiet None name names fs s = refl
-  tree-quiet (Some tree.Empty) name names fs s = refl
-  tree-quiet (Some (tree.Runs l ls)) name names fs s = refl
+  read-quiet : (found : TextRead) (name : Text) (names : List Text) (fs : List Frame) (s : State) → IsQuiet s (begin_read limits.shell found name names fs s)
+  read-quiet (Runs tree.Empty) name names fs s = refl
+  read-quiet (Runs (tree.Runs l ls)) name names fs s = refl
+  read-quiet Fails name names fs s = refl
+  read-quiet Panics name names fs s = refl
+  read-quiet Unread name names fs s = refl
 
   text-quiet : (o : Option Text) (name : Text) (names : List Text) (fs : List Frame) (s : State) → IsQuiet s (begin_text limits.shell o name names fs s)
   text-quiet None name names fs s = refl
-  text-quiet (Some text) name names fs s =
-      either-quiet s (has_fault_in limits.shell text) (Go fs (set_status 1 s)) (begin_tree limits.shell (tree_in limits.shell text) name names fs s) refl
-      (tree-quiet (tree_in limits.shell text) name names fs s)
+  text-quiet (Some text) name names fs s = read-quiet (started_in limits.shell text) name names fs s
 
   names-quiet : (names : List Text) (fs : List Frame) (s : State) → IsQuiet s (begin_names limits.shell names fs s)
   names-quiet [] fs s = refl
@@ -190,21 +190,16 @@ module _ (limits : Limits) where
   command_progress (tree.Loop until c b) fs s p = loop_progress until c b 0 fs s p.0
   command_progress (tree.For name words body) fs s p = let t : State = record s { steps = suc s.steps } in inl (counted_at (nat_lt s.steps limits.step_bound) s (begin_words limits.shell name words body fs (for_begun limits.shell t)) refl (words-quiet name words body fs t (for_begun limits.shell t) refl))
 
-  tree_progress : (o : Option Script) (name : Text) (names : List Text) (fs : List Frame) (s : State) → Progress s (suc (tree_weight o (suc (names_weight limits.shell s.memory.environment names (weight limits.shell s.memory.environment fs) + weight limits.shell s.memory.environment fs)))) (begin_tree limits.shell o name names fs s)
-  tree_progress None name names fs s = inr refl
-  tree_progress (Some tree.Empty) name names fs s = inr (refl, refl, omega arith)
-  tree_progress (Some (tree.Runs l ls)) name names fs s = inr (refl, refl, omega arith)
-
-  started_progress : (b : Bool) (n k : ℕ) (s : State) (x y : Next) → Progress s (suc n) x → Progress s (suc k) y → Progress s (suc (elim b [ true ↦ n | false ↦ k ])) (elim b [ true ↦ x | false ↦ y ])
-  started_progress true n k s x y p q = p
-  started_progress false n k s x y p q = q
+  read_progress : (found : TextRead) (name : Text) (names : List Text) (fs : List Frame) (s : State) → Progress s (suc (read_weight found (suc (names_weight limits.shell s.memory.environment names (weight limits.shell s.memory.environment fs) + weight limits.shell s.memory.environment fs)) (weight limits.shell s.memory.environment fs))) (begin_read limits.shell found name names fs s)
+  read_progress (Runs tree.Empty) name names fs s = inr (refl, refl, omega arith)
+  read_progress (Runs (tree.Runs l ls)) name names fs s = inr (refl, refl, omega arith)
+  read_progress Fails name names fs s = inr (refl, refl, omega arith)
+  read_progress Panics name names fs s = inr refl
+  read_progress Unread name names fs s = inr refl
 
   text_progress : (o : Option Text) (name : Text) (names : List Text) (fs : List Frame) (s : State) → Progress s (suc (text_weight limits.shell o (suc (names_weight limits.shell s.memory.environment names (weight limits.shell s.memory.environment fs) + weight limits.shell s.memory.environment fs)) (weight limits.shell s.memory.environment fs))) (begin_text limits.shell o name names fs s)
   text_progress None name names fs s = inr (refl, refl, omega arith)
-  text_progress (Some text) name names fs s =
-      started_progress (has_fault_in limits.shell text) (weight limits.shell s.memory.environment fs)
-      (tree_weight (tree_in limits.shell text) (suc (names_weight limits.shell s.memory.environment names (weight limits.shell s.memory.environment fs) + weight limits.shell s.memory.environment fs)))
-      s (Go fs (set_status 1 s)) (begin_tree limits.shell (tree_in limits.shell text) name names fs s) (inr (refl, refl, omega arith)) (tree_progress (tree_in limits.shell text) name names fs s)
+  text_progress (Some text) name names fs s = read_progress (started_in limits.shell text) name names fs s
 
   names_progress : (names : List Text) (fs : List Frame) (s : State) → Progress s (suc (names_weight limits.shell s.memory.environment names (weight limits.shell s.memory.environment fs))) (begin_names limits.shell names fs s)
   names_progress [] fs s = inr (refl, refl, omega arith)

@@ -3,8 +3,8 @@ use Rattle.std.proofs.Common.{ℕ, suc, Bool, true, false, List, [], ◌∷◌, 
 use Rattle.device_list.specs.declared.finish.BoardEnd.{BoardEnd}
 use Rattle.hushlang.specs.Tree as tree
 use Rattle.hushlang.specs.Tree.{Script, Command, Arms, IsProper, IsProperCommand, AreProperArms, HoldsCommand}
-use Rattle.hushlang.specs.Expansion.{fields, joined, size, most_bytes}
-use Rattle.hushlang_shells.specs.TreesByShell.{tree_in, has_fault_in}
+use Rattle.hushlang.specs.Expansion.{fields, size, most_bytes}
+use Rattle.hushlang_shells.specs.TreesByShell.{TextRead, Runs, Fails, Panics, Unread, started_in}
 use Rattle.rehearse_terms.specs.State.{Text, get, State}
 use Rattle.rehearse_rules.specs.Parameters.{parameters_in}
 use Rattle.device_list.specs.Called.{Called, BuiltIn, NoCommand, Device, called_by, sets_in}
@@ -12,10 +12,10 @@ use Rattle.commands.specs.BuiltInCommands.{ChangesVariables, WritesText, RunsTex
 use Rattle.rehearse_rules.specs.Needs.{effect_now}
 use Rattle.rehearse_terms.specs.declared.shell.Shell.{Shell}
 use Rattle.rehearse_terms.specs.declared.shell.Shell.TheVariants.{Profile, Old2023, Old2025, Modern2025}
-use Rattle.rehearse_rules.specs.Execution.{Limits, CutDevices, CutSteps, Size, set_status, set_local, status_when, goes, holds, Request, test_effect, told, told_again, logged, set_environment, Unsupported, assign_local, request_of, test_request, text_failed, for_begun, block_skipped}
+use Rattle.rehearse_rules.specs.Execution.{Limits, CutDevices, CutSteps, Size, set_status, status_when, goes, holds, Request, told, told_again, logged, set_environment, Unsupported, assign_local, request_of, test_request, text_failed, for_begun, block_skipped}
 use Rattle.rehearse_terms.specs.Outcomes.{Success}
-use Rattle.rehearse_machine.specs.Frames.{Frame, Lists, Linked, IfCondition, LoopCondition, LoopBody, ForBody, RunNames, RunText, Next, Go, Stop, tell_or_ask, finish_next, leave, begin_assign, begin_for, begin_arms, begin_tree, begin_text, begin_names, begin_exit, fitting, ask, begin_called, begin_fields, begin_command, move, begin_turns, begin_words, CommandEnd, leave_compound, behind_block}
-use Rattle.hushlang_shells.proofs.TreeByShellLemmas.{trees_in_are_proper}
+use Rattle.rehearse_machine.specs.Frames.{Frame, Lists, Linked, IfCondition, LoopCondition, LoopBody, ForBody, RunNames, RunText, Next, Go, Stop, tell_or_ask, finish_next, leave, begin_assign, begin_for, begin_arms, begin_read, begin_text, begin_names, begin_exit, fitting, ask, begin_called, begin_fields, begin_command, move, begin_turns, begin_words, CommandEnd, leave_compound, behind_block}
+use Rattle.hushlang_shells.proofs.TreeByShellLemmas.{started_texts_are_proper}
 use Rattle.rehearse_machine.proofs.StepBoundLemmas.{block_proper}
 use Rattle.rehearse_machine.specs.Meaning.{AreProperFrames, IsProperNext}
 use Rattle.rehearse_rules.specs.ByShell.{reads_again, leaves_in, status_of_exit, asks_in, truth_in, fields_in, turns_in, skips_rest, status_of_loop, follows, assigned_in, follows_turns}
@@ -49,15 +49,15 @@ module _ (limits : Limits) where
   behind-proper Old2025 fs p = p
   behind-proper Modern2025 fs p = (tt, p)
 
-  tree-proper : (o : Option Script) (name : Text) (names : List Text) (fs : List Frame) (s : State) → ((tree : Script) → o ≡ Some tree → IsProper tree) → AreProperFrames fs → IsProperNext (begin_tree limits.shell o name names fs s)
-  tree-proper None name names fs s r p = tt
-  tree-proper (Some t) name names fs s r p = (r t refl, (tt, p))
+  read-proper : (found : TextRead) (name : Text) (names : List Text) (fs : List Frame) (s : State) → ((tree : Script) → found ≡ Runs tree → IsProper tree) → AreProperFrames fs → IsProperNext (begin_read limits.shell found name names fs s)
+  read-proper (Runs t) name names fs s r p = (r t refl, (tt, p))
+  read-proper Fails name names fs s r p = p
+  read-proper Panics name names fs s r p = tt
+  read-proper Unread name names fs s r p = tt
 
   text-proper : (o : Option Text) (name : Text) (names : List Text) (fs : List Frame) (s : State) → AreProperFrames fs → IsProperNext (begin_text limits.shell o name names fs s)
   text-proper None name names fs s p = p
-  text-proper (Some text) name names fs s p =
-      either (has_fault_in limits.shell text) (Go fs (set_status 1 s)) (begin_tree limits.shell (tree_in limits.shell text) name names fs s) p
-      (tree-proper (tree_in limits.shell text) name names fs s (trees_in_are_proper limits.shell text) p)
+  text-proper (Some text) name names fs s p = read-proper (started_in limits.shell text) name names fs s (started_texts_are_proper limits.shell text) p
 
   names-proper : (names : List Text) (fs : List Frame) (s : State) → AreProperFrames fs → IsProperNext (begin_names limits.shell names fs s)
   names-proper [] fs s p = p

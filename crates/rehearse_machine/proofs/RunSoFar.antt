@@ -1,20 +1,20 @@
 -- How far a run of a task is that has taken a word: it starts, takes outcomes, asks and ends.
-use Rattle.std.proofs.Common.{Bool, true, false, List, [], ◌∷◌, ◌++◌, Option, Some, None, refl, sym, ap, ◌∙◌, ◌≡◌, append_assoc, arith}
+use Rattle.std.proofs.Common.{List, [], ◌∷◌, ◌++◌, Option, Some, None, refl, sym, ap, ◌∙◌, ◌≡◌, append_assoc, arith}
 use Rattle.device_list.specs.declared.finish.BoardEnd.{BoardEnd}
 use Rattle.hushlang.specs.Tree as tree
 use Rattle.hushlang.specs.Tree.{Script, IsProper}
 use Rattle.rehearse_terms.specs.Outcomes.{OutcomeWord, Outcome, Success, Failure}
-use Rattle.hushlang_shells.specs.TreesByShell.{tree_in}
+use Rattle.hushlang_shells.specs.TreesByShell.{TextRead, Runs, Fails, Panics, Unread, first_in}
 use Rattle.rehearse_terms.specs.State.{Text, State, start}
 use Rattle.device_list.specs.Called.{sets_in}
-use Rattle.rehearse_rules.specs.Execution.{Finished, Request, take_outcome, finish, logged, set_environment}
+use Rattle.rehearse_rules.specs.Execution.{End, Panic, Finished, Request, set_status, run_read, take_outcome, finish, logged, set_environment}
 use Rattle.rehearse_rules.specs.ByShell.{unread}
 use Rattle.rehearse_rules.specs.Runs.{Task, run_on}
-use Rattle.hushlang_shells.proofs.TreeByShellLemmas.{trees_in_are_proper}
+use Rattle.hushlang_shells.proofs.TreeByShellLemmas.{first_texts_are_proper}
 use Rattle.rehearse_machine.specs.Frames.{Frame, Lists, Next, Go, Ask, Stop, move, finish_next, answered, begun_text}
 use Rattle.rehearse_machine.specs.Came.{settled}
 use Rattle.rehearse_machine.specs.Meaning.{with, full, continue, comes_to, AreProperFrames, StandsAt, AsksAt, AfterMove}
-use Rattle.rehearse_machine.proofs.StepBoundLemmas.{closed_exec, tree_answer}
+use Rattle.rehearse_machine.proofs.StepBoundLemmas.{closed_exec}
 use Rattle.rehearse_machine.proofs.MoveMeaning.{continue-ended, move-is}
 
 module _ (task : Task) where
@@ -28,20 +28,24 @@ module _ (task : Task) where
   moves p fs s proper h = after-is p (move task.limits fs s) (λ w. h w ∙ sym (move-is task.limits w fs proper s))
 
   -- where a run starts
-  abbrev pub begun : Option Script → Next
-  begun None = Stop (unread task.limits.shell task.name) (start task.environment [])
-  begun (Some t) = Go (Lists t ∷ []) (begun_text t (start task.environment []))
+  abbrev pub begun : TextRead → Next
+  begun (Runs t) = Go (Lists t ∷ []) (begun_text t (start task.environment []))
+  begun Fails = Stop (End 1) (set_status 1 (start task.environment []))
+  begun Panics = Stop (Panic task.name) (start task.environment [])
+  begun Unread = Stop (unread task.limits.shell task.name) (start task.environment [])
 
-  read_as : (o : Option Script) → tree_in task.limits.shell task.text ≡ o → (w : OutcomeWord) → run_on task w ≡ tree_answer task.limits.shell (full task.limits) o task.name (start task.environment w)
-  read_as o e w = ap (λ (x : Option Script). tree_answer task.limits.shell (full task.limits) x task.name (start task.environment w)) e
+  read_as : (found : TextRead) → first_in task.limits.shell task.text ≡ found → (w : OutcomeWord) → run_on task w ≡ run_read task.limits (full task.limits) task.name found (start task.environment w)
+  read_as found e w = ap (λ (x : TextRead). run_read task.limits (full task.limits) task.name x (start task.environment w)) e
 
-  begins_by : (o : Option Script) → ((t : Script) → o ≡ Some t → IsProper t) → (w : OutcomeWord) → settled (tree_answer task.limits.shell (full task.limits) o task.name (start task.environment w)) ≡ comes_to task.limits w (begun o)
-  begins_by None p w = refl
-  begins_by (Some tree.Empty) p w = ap settled (closed_exec task.limits task.limits.step_bound tree.Empty tt (with w (begun_text tree.Empty (start task.environment []))) (omega arith))
-  begins_by (Some (tree.Runs l ls)) p w = ap settled (closed_exec task.limits task.limits.step_bound (tree.Runs l ls) (p (tree.Runs l ls) refl) (with w (start task.environment [])) (omega arith))
+  begins_by : (found : TextRead) → ((t : Script) → found ≡ Runs t → IsProper t) → (w : OutcomeWord) → settled (run_read task.limits (full task.limits) task.name found (start task.environment w)) ≡ comes_to task.limits w (begun found)
+  begins_by Fails p w = refl
+  begins_by Panics p w = refl
+  begins_by Unread p w = refl
+  begins_by (Runs tree.Empty) p w = ap settled (closed_exec task.limits task.limits.step_bound tree.Empty tt (with w (begun_text tree.Empty (start task.environment []))) (omega arith))
+  begins_by (Runs (tree.Runs l ls)) p w = ap settled (closed_exec task.limits task.limits.step_bound (tree.Runs l ls) (p (tree.Runs l ls) refl) (with w (start task.environment [])) (omega arith))
 
-  pub begins : (o : Option Script) → tree_in task.limits.shell task.text ≡ o → AfterMove task [] (begun o)
-  begins o e = after-is [] (begun o) (λ w. ap settled (read_as o e w) ∙ begins_by o (λ t f. trees_in_are_proper task.limits.shell task.text t (e ∙ f)) w)
+  pub begins : (found : TextRead) → first_in task.limits.shell task.text ≡ found → AfterMove task [] (begun found)
+  begins found e = after-is [] (begun found) (λ w. ap settled (read_as found e w) ∙ begins_by found (λ t f. first_texts_are_proper task.limits.shell task.text t (e ∙ f)) w)
 
   finish-is : (w : OutcomeWord) (b : Option BoardEnd) (name : Text) (fs : List Frame) (s : State) → continue task.limits fs (finish b name (with w s)) ≡ comes_to task.limits w (finish_next b name fs s)
   finish-is w (Some finish) name fs s = continue-ended task.limits fs (Finished finish name) (with w s)

@@ -3,18 +3,18 @@ use Rattle.std.proofs.Common.{ℕ, zero, suc, Bool, true, false, List, [], ◌�
 use Rattle.hushlang.specs.Tree as tree
 use Rattle.hushlang.specs.Tree.{Script, AndOr, Joined, Command, Arms, IsProper, IsProperList, IsProperJoined, IsProperCommand, AreProperArms, HoldsCommand}
 use Rattle.hushlang.specs.Expansion.{size, most_bytes}
-use Rattle.hushlang_shells.specs.TreesByShell.{tree_in, has_fault_in}
+use Rattle.hushlang_shells.specs.TreesByShell.{TextRead, Runs, Fails, Panics, Unread, started_in}
 use Rattle.rehearse_terms.specs.State.{Text, get, State}
 use Rattle.rehearse_terms.specs.declared.shell.Shell.{Shell}
 use Rattle.rehearse_rules.specs.Parameters.{parameters_in}
 use Rattle.device_list.specs.Called.{Called, BuiltIn, NoCommand, Device, called_by}
 use Rattle.commands.specs.BuiltInCommands.{ChangesVariables, WritesText, RunsTexts, Tests, Exits}
-use Rattle.rehearse_rules.specs.Execution.{begin_turn, Limits, Answer, Normal, Exit, Ended, Dry, CutSteps, Size, go_on, set_status, goes, holds, begin, text_end, text_failed, run_text, run_all, command, simple, sized, turns, for_each, exec_script, exec_list, exec_joined, exec_command, exec_arms, exec, Unsupported, started_text, turns_of, for_words, for_begun, block_skipped, compound}
+use Rattle.rehearse_rules.specs.Execution.{begin_turn, Limits, Answer, Normal, Exit, Ended, Dry, CutSteps, Size, go_on, set_status, goes, holds, begin, text_end, text_failed, run_read, run_all, command, simple, sized, turns, for_each, exec_script, exec_list, exec_joined, exec_command, exec_arms, exec, Unsupported, started_text, turns_of, for_words, for_begun, block_skipped, compound}
 use Rattle.rehearse_rules.proofs.GrowingSteps.{AtLeast, Grew, AtLeast-track, Grew-block}
 use Rattle.rehearse_rules.proofs.TakenOutcomes.{KeepsAll, after_condition, Keeps-script, Keeps-list, Keeps-one, Keeps-exec, Keeps-started}
-use Rattle.hushlang_shells.proofs.TreeByShellLemmas.{trees_in_are_proper}
+use Rattle.hushlang_shells.proofs.TreeByShellLemmas.{started_texts_are_proper}
 use Rattle.rehearse_machine.proofs.BoundLemmas.{Cut-block, Cut-turns}
-use Rattle.rehearse_rules.specs.ByShell.{unread, reads_again, fields_in, turns_in, skips_rest, status_of_loop, follows, follows_turns}
+use Rattle.rehearse_rules.specs.ByShell.{reads_again, fields_in, turns_in, skips_rest, status_of_loop, follows, follows_turns}
 use Rattle.rehearse_rules.proofs.TakenOutcomes.{skipped}
 
 pub block_proper : (a : Script) → HoldsCommand a → IsProper a
@@ -29,9 +29,6 @@ same_go_on n (Dry t) b f g l e h = rw (← e) refl
 
 abbrev pub pick : Bool → Answer → Answer → Answer
 pick b x y = elim b [ true ↦ x | false ↦ y ]
-
-abbrev pub tree_answer : Shell → (Script → State → Answer) → Option Script → Text → State → Answer
-tree_answer shell text o name t = elim o [ None ↦ Ended (unread shell name) t | Some a ↦ text a (elim a [ tree.Empty ↦ set_status 0 t | tree.Runs l ls ↦ t ]) ]
 
 abbrev named_answer : Limits → (Script → State → Answer) → Option Text → Text → (State → Answer) → State → Answer
 named_answer limits text o name f t = elim o [ None ↦ Normal (set_status 1 t) | Some v ↦ text_end limits.shell (started_text limits text name v t) f ]
@@ -48,16 +45,15 @@ same_text_end shell n (Dry t) b f g l e h = rw (← e) refl
 
 module _ (limits : Limits) where
   module _ (n m : ℕ) (below : n ≤ m) (text text' : Script → State → Answer) (kept : (tree : Script) → KeepsAll limits (text tree)) (same : (tree : Script) → IsProper tree → (t : State) → limits.step_bound < n + t.steps → text tree t ≡ text' tree t) where
-    same_tree : (o : Option Script) (name : Text) → ((tree : Script) → o ≡ Some tree → IsProper tree) → (t : State) → limits.step_bound < n + t.steps → tree_answer limits.shell text o name t ≡ tree_answer limits.shell text' o name t
-    same_tree None name p t h = refl
-    same_tree (Some tree.Empty) name p t h = same tree.Empty tt (set_status 0 t) h
-    same_tree (Some (tree.Runs l ls)) name p t h = same (tree.Runs l ls) (p (tree.Runs l ls) refl) t h
-
-    same_text : (name v : Text) (t : State) → limits.step_bound < n + t.steps → run_text limits text name v t ≡ run_text limits text' name v t
-    same_text name v t h = same_tree (tree_in limits.shell v) name (trees_in_are_proper limits.shell v) t h
+    same_read : (found : TextRead) (name : Text) → ((tree : Script) → found ≡ Runs tree → IsProper tree) → (t : State) → limits.step_bound < n + t.steps → run_read limits text name found t ≡ run_read limits text' name found t
+    same_read (Runs tree.Empty) name p t h = same tree.Empty tt (set_status 0 t) h
+    same_read (Runs (tree.Runs l ls)) name p t h = same (tree.Runs l ls) (p (tree.Runs l ls) refl) t h
+    same_read Fails name p t h = refl
+    same_read Panics name p t h = refl
+    same_read Unread name p t h = refl
 
     same_started : (name v : Text) (t : State) → limits.step_bound < n + t.steps → started_text limits text name v t ≡ started_text limits text' name v t
-    same_started name v t h = same_if (has_fault_in limits.shell v) (Normal (set_status 1 t)) (run_text limits text name v t) (Normal (set_status 1 t)) (run_text limits text' name v t) refl (same_text name v t h)
+    same_started name v t h = same_read (started_in limits.shell v) name (started_texts_are_proper limits.shell v) t h
 
     same_named : (o : Option Text) (name : Text) (f g : State → Answer) (t : State) → limits.step_bound < n + t.steps → ((u : State) → t.steps ≤ u.steps → f u ≡ g u) → named_answer limits text o name f t ≡ named_answer limits text' o name g t
     same_named None name f g t h k = refl

@@ -1,8 +1,8 @@
 -- An upper bound of the moves to the next step or to the end. Ours.
-use Rattle.std.specs.Prelude.{ℕ, true, false, suc, ◌+◌, List, [], ◌∷◌, Option, Some, None}
+use Rattle.std.specs.Prelude.{ℕ, suc, ◌+◌, List, [], ◌∷◌, Option, Some, None}
 use Rattle.hushlang.specs.Tree as tree
 use Rattle.hushlang.specs.Tree.{Script, AndOr, Joined, Command, Arms}
-use Rattle.hushlang_shells.specs.TreesByShell.{tree_in, has_fault_in}
+use Rattle.hushlang_shells.specs.TreesByShell.{TextRead, Runs, Fails, Panics, Unread, started_in}
 use Rattle.rehearse_terms.specs.State.{Text, Variables, get}
 use Rattle.rehearse_terms.specs.declared.shell.Shell.{Shell}
 use Rattle.rehearse_machine.specs.Frames.{Frame, Lists, Linked, IfCondition, LoopCondition, LoopBody, ForBody, RunNames, RunText, CommandEnd}
@@ -46,14 +46,16 @@ abbrev pub for_weight : Script → List Text → ℕ → ℕ
 for_weight body [] m = suc m
 for_weight body (f ∷ values) m = suc (block_weight body (for_weight body values m))
 
-abbrev pub tree_weight : Option Script → ℕ → ℕ
-tree_weight None x = 0
-tree_weight (Some tree.Empty) x = suc x
-tree_weight (Some (tree.Runs l ls)) x = suc (list_depth l)
+abbrev pub read_weight : TextRead → ℕ → ℕ → ℕ
+read_weight (Runs tree.Empty) x m = suc x
+read_weight (Runs (tree.Runs l ls)) x m = suc (list_depth l)
+read_weight Fails x m = m
+read_weight Panics x m = 0
+read_weight Unread x m = 0
 
 abbrev pub text_weight : Shell → Option Text → ℕ → ℕ → ℕ
 text_weight shell None x m = m
-text_weight shell (Some text) x m = elim (has_fault_in shell text) [ true ↦ m | false ↦ tree_weight (tree_in shell text) x ]
+text_weight shell (Some text) x m = read_weight (started_in shell text) x m
 
 abbrev pub names_weight : Shell → Variables → List Text → ℕ → ℕ
 names_weight shell environment [] m = m

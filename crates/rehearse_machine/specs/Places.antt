@@ -3,14 +3,14 @@ use Rattle.std.specs.Prelude.{ℕ, zero, suc, nat_lt, nat_le, nat_eq, Bool, true
 use Rattle.device_list.specs.declared.finish.BoardEnd.{BoardEnd}
 use Rattle.hushlang.specs.Tree as tree
 use Rattle.hushlang.specs.Tree.{Script, AndOr, Joined, Command, Arms}
-use Rattle.hushlang.specs.Expansion.{joined, size, most_bytes}
+use Rattle.hushlang.specs.Expansion.{size, most_bytes}
 use Rattle.hushlang.specs.declared.tree.Op.{Op}
 use Rattle.bootstore_state.specs.declared.frame.At.{At}
 use Rattle.bootstore_state.specs.declared.frame.FrameKind.{FrameKind}
 use Rattle.bootstore_state.specs.declared.frame.FrameKind.TheVariants as kinds
 use Rattle.bootstore_state.specs.Moment.{RunningFrame}
 use Rattle.rehearse_terms.specs.Outcomes.{Outcome, Success, Failure}
-use Rattle.hushlang_shells.specs.TreesByShell.{tree_in, has_fault_in}
+use Rattle.hushlang_shells.specs.TreesByShell.{TextRead, Runs, Fails, Panics, Unread, started_in}
 use Rattle.rehearse_terms.specs.State.{Text, get, State}
 use Rattle.rehearse_terms.specs.declared.shell.Shell.{Shell}
 use Rattle.rehearse_terms.specs.declared.shell.Shell.TheVariants.{Profile, Old2023, Old2025, Modern2025}
@@ -19,7 +19,7 @@ use Rattle.rehearse_rules.specs.Parameters.{parameters_in}
 use Rattle.device_list.specs.Called.{Called, BuiltIn, NoCommand, Device, called_by, sets_in}
 use Rattle.commands.specs.BuiltInCommands.{ChangesVariables, WritesText, RunsTexts, Tests, Exits, variables_changed, text_written}
 use Rattle.rehearse_rules.specs.Needs.{effect_now}
-use Rattle.rehearse_rules.specs.Execution.{Limits, Ending, End, CutDevices, CutSteps, Unknown, Size, Finished, remember, set_status, set_local, begin_turn, status_when, goes, holds, Request, test_effect, outcome_when, told, told_again, logged, set_environment, Unsupported, assign_local, request_of, test_request, text_failed, for_begun, block_skipped, compound_left}
+use Rattle.rehearse_rules.specs.Execution.{Limits, Ending, End, CutDevices, CutSteps, Unknown, Size, Finished, remember, set_status, begin_turn, status_when, goes, holds, Request, outcome_when, told, told_again, logged, set_environment, Unsupported, Panic, assign_local, request_of, test_request, text_failed, for_begun, block_skipped, compound_left}
 use Rattle.rehearse_machine.specs.Frames.{Frame, Lists, Linked, IfCondition, LoopCondition, LoopBody, ForBody, RunNames, RunText, Next, Go, Ask, Stop, begun_text, CommandEnd}
 
 -- ---- parts of a script by their numbers
@@ -231,17 +231,15 @@ place_assign shell (pair ∷ pairs) ps s =
     ]
 
 -- the text of a name of a `run`, which is f
-abbrev pub place_tree : Shell → Option Script → Text → RunningFrame → List RunningFrame → State → PlaceNext
-place_tree shell None name f fs s = StopOn (unread shell name) s
-place_tree shell (Some t) name f fs s = GoOn (text_frame t ∷ in_turn (suc f.place.turn) 0 f ∷ fs) (begun_text t s)
+abbrev pub place_read : Shell → TextRead → Text → RunningFrame → List RunningFrame → State → PlaceNext
+place_read shell (Runs t) name f fs s = GoOn (text_frame t ∷ in_turn (suc f.place.turn) 0 f ∷ fs) (begun_text t s)
+place_read shell Fails name f fs s = GoOn fs (set_status 1 s)
+place_read shell Panics name f fs s = StopOn (Panic name) s
+place_read shell Unread name f fs s = StopOn (unread shell name) s
 
 abbrev pub place_text : Shell → Option Text → Text → RunningFrame → List RunningFrame → State → PlaceNext
 place_text shell None name f fs s = GoOn fs (set_status 1 s)
-place_text shell (Some text) name f fs s =
-    elim (has_fault_in shell text) [
-      | true ↦ GoOn fs (set_status 1 s)
-      | false ↦ place_tree shell (tree_in shell text) name f fs s
-    ]
+place_text shell (Some text) name f fs s = place_read shell (started_in shell text) name f fs s
 
 abbrev pub place_name : Shell → Option Text → RunningFrame → List RunningFrame → State → PlaceNext
 place_name shell None f fs s = GoOn fs s

@@ -16,6 +16,7 @@ use crate::next_move::Next;
 use crate::scripts::end_block;
 use bootstore_state::{Frame, FrameKind, Store, StoreError, TextFound};
 use hushlang::{Command, Script};
+use rehearse_rules::Halt;
 use rehearse_terms::Shell;
 use std::rc::Rc;
 
@@ -103,8 +104,8 @@ pub(crate) fn move_run<'d, S: Store>(
 }
 
 /// Starts the text of the next name of a `run`, or ends the `run` if no name is left. A name that
-/// is not set, or a text with a fault, ends it with status 1. Another text that the shell cannot read
-/// ends the whole run.
+/// is not set, or a text with a fault that the shell tells, ends it with status 1. Another text that
+/// is not run ends the whole run.
 fn next_name<'d, S: Store>(
     store: &mut S,
     frame: &Frame,
@@ -123,13 +124,14 @@ fn next_name<'d, S: Store>(
             store.set_status(1)?;
             Ok(Step::Going)
         }
-        TextFound::Faulty => {
+        TextFound::Script(script) => begin_text(store, frame, script),
+        TextFound::Fails => {
             store.pop()?;
             store.set_status(1)?;
             Ok(Step::Going)
         }
-        TextFound::NoScript => Ok(Step::Ends(unread(shell, name.clone()?))),
-        TextFound::Script(script) => begin_text(store, frame, script),
+        TextFound::Panics => Ok(Step::Ends(Halt::Panic(name.clone()?))),
+        TextFound::Unread => Ok(Step::Ends(unread(shell, name.clone()?))),
     }
 }
 

@@ -16,10 +16,11 @@ use crate::frames::text;
 use crate::machine::drive;
 use crate::outcomes::answer;
 use crate::source::Source;
-use bootstore_state::{Store, StoreError, read_script};
+use bootstore_state::{Store, StoreError};
 use device_list::Devices;
 use envtools::Env;
 use hushlang::Fields;
+use hushlang_shells::{TextRead, read_first};
 use rehearse_rules::Halt;
 use rehearse_terms::RunBounds;
 use std::alloc::Global;
@@ -141,12 +142,24 @@ pub fn begin<S: Store>(rehearsal: &Rehearsal<'_>, store: &mut S) -> Result<Stop,
     let shell = rehearsal.bounds.shell();
     store.start(rehearsal.env)?;
     let text_found = text_of(store, rehearsal.source);
-    let Some(script) = read_script(rehearsal.alloc, shell, text_found)? else {
-        let name = Vec::from_slice(rehearsal.alloc, rehearsal.source.name)?;
-        return Ok(Stop::Ends(unread(shell, name)));
-    };
-    store.push(text(Rc::new(rehearsal.alloc, script)?))?;
-    go_on(rehearsal, store)
+    match read_first(rehearsal.alloc, shell, text_found)? {
+        TextRead::Runs(script) => {
+            store.push(text(Rc::new(rehearsal.alloc, script)?))?;
+            go_on(rehearsal, store)
+        }
+        TextRead::Fails => {
+            store.set_status(1)?;
+            Ok(Stop::Ends(Halt::End(1)))
+        }
+        TextRead::Panics => {
+            let name = Vec::from_slice(rehearsal.alloc, rehearsal.source.name)?;
+            Ok(Stop::Ends(Halt::Panic(name)))
+        }
+        TextRead::Unread => {
+            let name = Vec::from_slice(rehearsal.alloc, rehearsal.source.name)?;
+            Ok(Stop::Ends(unread(shell, name)))
+        }
+    }
 }
 
 /// Gives the device command that asks an outcome. Errors: `Memory`.

@@ -5,7 +5,7 @@ use Rattle.hushlang.specs.Expansion.{fields, joined, atoms}
 use Rattle.hushlang.specs.Trees.{tree_of}
 use Rattle.hushlang_old.specs.OldTrees.{has_fault, old_tree_of}
 use Rattle.hushlang_old.specs.OldFields.{old_fields, old_turns, inserted, word_text, command_text, read, reread}
-use Rattle.hushlang_shells.specs.TreesByShell.{tree_in}
+use Rattle.hushlang_shells.specs.TreesByShell.{TextRead, Runs, Fails, Panics, Unread, first_in}
 use Rattle.device_list.specs.DeviceList.{Variable, Literal, Devices, only}
 use Rattle.device_list.specs.DeviceLaws.{quiet}
 use Rattle.rehearse_terms.specs.Outcomes.{OutcomeWord, Success, Failure}
@@ -39,7 +39,7 @@ before word = start variables word
 -- what a text reads and writes in a shell, from a state
 unfoldable reached_in : Shell → State → Text → List Access
 unfolding tree_of old_tree_of has_fault fields joined atoms digits old_fields old_turns inserted word_text command_text read reread
-reached_in shell s text = elim (tree_in shell text) [ None ↦ [] | Some t ↦ accesses (limits shell) 5 t s ]
+reached_in shell s text = elim (first_in shell text) [ Runs t ↦ accesses (limits shell) 5 t s | Fails ↦ [] | Panics ↦ [] | Unread ↦ [] ]
 
 -- with a word of successes, in ubtool's own shell
 abbrev reached : Text → List Access

@@ -2,7 +2,7 @@
 use Rattle.std.proofs.Common.{◌≡◌, sym, ap, subst, ℕ, zero, suc, Bool, true, false, List, [], ◌∷◌, ◌++◌, Option, Some, None, nat_eq}
 use Rattle.hushlang.specs.Tree as tree
 use Rattle.hushlang.specs.Tree.{Script, AndOr, Joined, Command, Arms}
-use Rattle.hushlang_shells.specs.TreesByShell.{tree_in, has_fault_in}
+use Rattle.hushlang_shells.specs.TreesByShell.{TextRead, Runs, Fails, Panics, Unread, first_in, started_in}
 use Rattle.builtins.specs.Builtins.{Builtin, SetEnv, Run, Test, Echo, True, False, Leave, builtin_of}
 use Rattle.commands.specs.Computed.{Computed}
 use Rattle.commands.specs.BuiltInCommands.{ChangesVariables, carried, deed_of, setenv, echo, variables_changed, text_written}
@@ -11,11 +11,11 @@ use Rattle.device_list.specs.DeviceList.{Effect, effect_of, computed_by}
 use Rattle.rehearse_terms.specs.State.{Text, State, LoggedCommand, get}
 use Rattle.rehearse_rules.specs.Parameters.{parameters_in}
 use Rattle.rehearse_rules.specs.ByShell.{unread, reads_again, leaves_in, status_of_exit, asks_in, truth_in, fields_in, turns_in, skips_rest, follows}
-use Rattle.rehearse_rules.specs.Execution.{Limits, Answer, Normal, Exit, Ended, Ending, CutSteps, Unknown, Unsupported, go_on, set_status, status_when, remember, goes, device, test_request, text_end, run_text, started_text, run_all, command, simple, sized, assign, exec_script, exec_list, exec_joined, exec_command, exec_arms, exec, turns_of, for_words, for_begun, block_skipped, turns}
+use Rattle.rehearse_rules.specs.Execution.{Limits, Answer, Normal, Exit, Ended, Ending, CutSteps, Unknown, Unsupported, Panic, go_on, set_status, status_when, remember, goes, device, test_request, text_end, run_read, run_text, started_text, run_all, command, simple, sized, assign, exec_script, exec_list, exec_joined, exec_command, exec_arms, exec, turns_of, for_words, for_begun, block_skipped, turns}
 use Rattle.rehearse_rules.proofs.TakenOutcomes.{KeepsAll, Keeps-if, Keeps-run, Keeps-simple, Keeps-sized, Keeps-assign, Keeps-script, Keeps-joined, Keeps-arms, Keeps-exec, Keeps-ended, Keeps-words, Keeps-skip}
 use Rattle.rehearse_reads.specs.Keys.{Key, Environment, Status, Access, Reads, AreAmong, AgreeOn, all_read, ReadsWithin, known_after}
 use Rattle.rehearse_reads.specs.Alike.{AreAbreast, IsAlike}
-use Rattle.rehearse_reads.specs.Accesses.{behind, behind_text, status_written, words_reads, device_accesses, listed_accesses, computed_accesses, setenv_accesses, tree_accesses, text_accesses, started_accesses, run_accesses, builtin_accesses, call_accesses, simple_accesses, sized_accesses, assign_accesses, script_accesses, list_accesses, joined_accesses, command_accesses, arms_accesses, accesses, modern_accesses, turns_of_accesses, for_words_accesses, turns_accesses}
+use Rattle.rehearse_reads.specs.Accesses.{behind, behind_text, status_written, words_reads, device_accesses, listed_accesses, computed_accesses, setenv_accesses, tree_accesses, read_accesses, text_accesses, started_accesses, run_accesses, builtin_accesses, call_accesses, simple_accesses, sized_accesses, assign_accesses, script_accesses, list_accesses, joined_accesses, command_accesses, arms_accesses, accesses, modern_accesses, turns_of_accesses, for_words_accesses, turns_accesses}
 use Rattle.rehearse_reads.proofs.AccessLemmas.{read_first, read_then, within_then}
 use Rattle.rehearse_reads.proofs.AbreastLemmas.{near_status, near_computed, near_sets, near_echoed}
 use Rattle.rehearse_reads.proofs.SameWords.{fields_agree, turns_agree}
@@ -50,16 +50,18 @@ module _ (limits : Limits) (i j : ℕ) (k l : List LoggedCommand) where
 
   -- a `run`, if each script goes alike
   module _ (script : Script → State → Answer) (of_script : Script → State → List Access) (kept : (a : Script) → KeepsAll limits (script a)) (does : (a : Script) → AlwaysDoes (script a) (of_script a)) where
-    Alike-tree : (found : Option Script) (name : Text) → AlwaysDoes (λ s. elim found [ None ↦ Ended (unread limits.shell name) s | Some a ↦ script a (elim a [ tree.Empty ↦ set_status 0 s | tree.Runs x xs ↦ s ]) ]) (λ s. elim found [ None ↦ [] | Some a ↦ tree_accesses limits script of_script a s ])
-    Alike-tree None name known s t near w = ended_alike limits i j k l known (unread limits.shell name) s t near
-    Alike-tree (Some tree.Empty) name known s t near w = does tree.Empty (Status ∷ known) (set_status 0 s) (set_status 0 t) (near_status limits i j k l known s t 0 near) w
-    Alike-tree (Some (tree.Runs x xs)) name known s t near w = does (tree.Runs x xs) known s t near w
+    Alike-read : (found : TextRead) (name : Text) → AlwaysDoes (run_read limits script name found) (read_accesses limits script of_script found)
+    Alike-read (Runs tree.Empty) name known s t near w = does tree.Empty (Status ∷ known) (set_status 0 s) (set_status 0 t) (near_status limits i j k l known s t 0 near) w
+    Alike-read (Runs (tree.Runs x xs)) name known s t near w = does (tree.Runs x xs) known s t near w
+    Alike-read Fails name known s t near w = status_alike 1 known s t near w
+    Alike-read Panics name known s t near w = ended_alike limits i j k l known (Panic name) s t near
+    Alike-read Unread name known s t near w = ended_alike limits i j k l known (unread limits.shell name) s t near
 
     pub Alike-text : (name text : Text) → AlwaysDoes (run_text limits script name text) (text_accesses limits script of_script text)
-    Alike-text name text = Alike-tree (tree_in limits.shell text) name
+    Alike-text name text = Alike-read (first_in limits.shell text) name
 
     Alike-started : (name text : Text) → AlwaysDoes (started_text limits script name text) (started_accesses limits script of_script text)
-    Alike-started name text = alike_if (has_fault_in limits.shell text) (λ s. Normal (set_status 1 s)) (run_text limits script name text) (λ s. status_written) (text_accesses limits script of_script text) (status_alike 1) (Alike-text name text)
+    Alike-started name text = Alike-read (started_in limits.shell text) name
 
     Alike-named : (found : Option Text) (name : Text) (next : State → Answer) (u : State → List Access) → AlwaysDoes next u → KeepsAll limits next
         → AlwaysDoes (λ s. elim found [ None ↦ Normal (set_status 1 s) | Some text ↦ text_end limits.shell (started_text limits script name text s) next ])

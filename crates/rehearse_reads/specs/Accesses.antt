@@ -6,7 +6,7 @@ use Rattle.std.specs.List.{flat_map}
 use Rattle.hushlang.specs.Tree as tree
 use Rattle.hushlang.specs.Tree.{Script, AndOr, Joined, Command, Arms}
 use Rattle.hushlang.specs.Expansion.{size, most_bytes}
-use Rattle.hushlang_shells.specs.TreesByShell.{tree_in, has_fault_in}
+use Rattle.hushlang_shells.specs.TreesByShell.{TextRead, Runs, Fails, Panics, Unread, first_in, started_in}
 use Rattle.builtins.specs.Builtins.{Builtin, SetEnv, Run, Test, Echo, True, False, Leave, builtin_of}
 use Rattle.commands.specs.Computed.{Computed, Gives, Exists, Sets, Deletes, SetsNumber}
 use Rattle.commands.specs.VariableNames.{is_bad_name}
@@ -228,12 +228,17 @@ module _ (limits : Limits) where
     tree_accesses tree.Empty s = Writes Status ∷ of_script tree.Empty (set_status 0 s)
     tree_accesses (tree.Runs list more) s = of_script (tree.Runs list more) s
 
+    abbrev pub read_accesses : TextRead → State → List Access
+    read_accesses (Runs t) s = tree_accesses t s
+    read_accesses Fails s = status_written
+    read_accesses Panics s = []
+    read_accesses Unread s = []
+
     abbrev pub text_accesses : (text : Text) → State → List Access
-    text_accesses text s = elim (tree_in limits.shell text) [ None ↦ [] | Some t ↦ tree_accesses t s ]
+    text_accesses text = read_accesses (first_in limits.shell text)
 
     abbrev pub started_accesses : (text : Text) → State → List Access
-    started_accesses text s =
-        elim (has_fault_in limits.shell text) [ true ↦ status_written | false ↦ text_accesses text s ]
+    started_accesses text = read_accesses (started_in limits.shell text)
 
     -- `run` reads each variable when its turn comes, in the environment alone
     abbrev pub run_accesses : List Text → State → List Access

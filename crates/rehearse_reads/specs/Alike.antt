@@ -2,7 +2,7 @@
 -- as far as the bounds allow. Ours.
 use Rattle.std.specs.Prelude.{◌≡◌, ℕ, suc, ◌+◌, ◌<◌, ◌⊎◌, List, ◌++◌, length, Option, Some, None}
 use Rattle.rehearse_terms.specs.State.{State, LoggedCommand}
-use Rattle.rehearse_rules.specs.Execution.{Limits, Answer, Normal, Exit, Ended, Dry, Ending, End, CutDevices, CutSteps, Unknown, Syntax, Unsupported, Size, Finished}
+use Rattle.rehearse_rules.specs.Execution.{Limits, Answer, Normal, Exit, Ended, Dry, Ending, End, CutDevices, CutSteps, Unknown, Syntax, Unsupported, Panic, Size, Finished}
 use Rattle.rehearse_rules.specs.Runs.{state_of, kind_of}
 use Rattle.rehearse_reads.specs.Keys.{Key, AgreeOn}
 
@@ -56,6 +56,7 @@ module _ (limits : Limits) (steps_here steps_there : ℕ) (log_here log_there : 
   IsCutBy (Unknown name) = ⊥
   IsCutBy (Syntax name) = ⊥
   IsCutBy (Unsupported name) = ⊥
+  IsCutBy (Panic name) = ⊥
   IsCutBy Size = ⊥
   IsCutBy (Finished finish name) = ⊥
 

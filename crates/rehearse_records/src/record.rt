@@ -327,6 +327,7 @@ fn put_last<O: Out>(out: &mut O, page: &mut BytePage, ending: Ending<'_>) -> Res
         Ending::Unknown(name) => put_word_line(out, page, b"stop unknown ", name),
         Ending::Syntax(name) => put_word_line(out, page, b"stop syntax ", name),
         Ending::Unsupported(name) => put_word_line(out, page, b"stop unsupported ", name),
+        Ending::Panic(name) => put_word_line(out, page, b"stop panic ", name),
         Ending::Size => put(out, page, b"stop size\n"),
         Ending::Finished(finish, name) => put_word_line(out, page, finish_word(finish), name),
     }

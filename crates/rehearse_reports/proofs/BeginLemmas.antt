@@ -5,7 +5,7 @@ use Rattle.hushlang.specs.Tree as tree
 use Rattle.hushlang.specs.Tree.{Script, AndOr, Joined, Command, Arms}
 use Rattle.hushlang.specs.Expansion.{size, most_bytes}
 use Rattle.hushlang.specs.declared.tree.Op.{Op}
-use Rattle.hushlang_shells.specs.TreesByShell.{tree_in, has_fault_in}
+use Rattle.hushlang_shells.specs.TreesByShell.{TextRead, Runs, Fails, Panics, Unread, started_in}
 use Rattle.builtins.specs.Builtins.{Builtin, SetEnv, Run, Test, Echo, True, False, Leave, builtin_of}
 use Rattle.commands.specs.Computed.{Computed}
 use Rattle.device_list.specs.DeviceList.{Effect, effect_of, computed_by}
@@ -21,7 +21,7 @@ use Rattle.rehearse_machine.specs.Places.{drop_joined, joined_at, drop_arms, con
 use Rattle.rehearse_reads.specs.Keys.{Key, Access, Reads, Writes, Environment, Local, Status, all_read, Covers}
 use Rattle.rehearse_reads.specs.Accesses.{status_written, words_reads, setenv_accesses, computed_accesses, sized_accesses, assign_accesses, turn_accesses, nothing_accesses, modern_accesses}
 use Rattle.rehearse_reads.proofs.KeysRead.{covering_joins}
-use Rattle.rehearse_frames.specs.MoveAccesses.{of_leaving, of_exit, of_beginning_for, of_beginning_arms, of_beginning_tree, of_beginning_text, of_beginning_names, of_builtin, of_listed, of_call, of_fields, of_command, of_move, of_leaving_compound}
+use Rattle.rehearse_frames.specs.MoveAccesses.{of_leaving, of_exit, of_beginning_for, of_beginning_arms, of_beginning_read, of_beginning_text, of_beginning_names, of_builtin, of_listed, of_call, of_fields, of_command, of_move, of_leaving_compound}
 use Rattle.rehearse_reports.proofs.ReportLemmas.{covers_itself, covers_through, covers_less, covers_write, reads_cover, reads_alone}
 use Rattle.rehearse_reports.proofs.CoverLemmas.{covers_status, covers_nothing, covers_arms, covers_modern}
 
@@ -193,18 +193,16 @@ module _ (limits : Limits) (s : State) where
 
   -- ---- a `run`
 
-  tree_covers : (o : Option Script) → Covers [] (of_beginning_tree o)
-  tree_covers None = covers_itself []
-  tree_covers (Some tree.Empty) = covers_status
-  tree_covers (Some (tree.Runs list more)) = covers_itself []
+  read_covers : (found : TextRead) → Covers [] (of_beginning_read found)
+  read_covers (Runs tree.Empty) = covers_status
+  read_covers (Runs (tree.Runs list more)) = covers_itself []
+  read_covers Fails = covers_write Status [] (covers_itself [])
+  read_covers Panics = covers_itself []
+  read_covers Unread = covers_itself []
 
   text_covers : (shell : Shell) (o : Option Text) → Covers [] (of_beginning_text shell o)
   text_covers shell None = covers_status
-  text_covers shell (Some text) = by (has_fault_in shell text)
-    where
-      by : (b : Bool) → Covers [] (elim b [ true ↦ Writes Status ∷ Reads Status ∷ [] | false ↦ of_beginning_tree (tree_in shell text) ])
-      by true = covers_write Status [] (covers_itself [])
-      by false = tree_covers (tree_in shell text)
+  text_covers shell (Some text) = read_covers (started_in shell text)
 
   names_cover : (names : List Text) (j : ℕ) (name : Text) → slice_get names j ≡ Some name → Covers (Reads (Environment name) ∷ []) (of_beginning_names limits.shell (drop j names) s)
   names_cover [] j name e = absurd (let f = e in cc)

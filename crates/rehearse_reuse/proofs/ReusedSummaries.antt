@@ -4,7 +4,7 @@ use Rattle.bootstore_state.specs.Moment.{Moment}
 use Rattle.rehearse_terms.specs.Outcomes.{OutcomeWord, WordKind, Run, Success, Failure}
 use Rattle.rehearse_terms.specs.State.{Text, State, LoggedCommand, get}
 use Rattle.rehearse_rules.specs.Expected.{unexpected_of}
-use Rattle.rehearse_rules.specs.Execution.{Limits, Request, Ending, End, CutDevices, CutSteps, Unknown, Syntax, Unsupported, Size, Finished}
+use Rattle.rehearse_rules.specs.Execution.{Limits, Request, Ending, End, CutDevices, CutSteps, Unknown, Syntax, Unsupported, Panic, Size, Finished}
 use Rattle.rehearse_machine.specs.Came.{Came, Over, Wants}
 use Rattle.rehearse_machine.specs.Frames.{Frame, Next, Ask}
 use Rattle.rehearse_machine.specs.Machine.{Asking, IsAsking, asked_at}
@@ -107,6 +107,7 @@ module _ (limits : Limits) (names : List Text) (m n : Moment) (keys : List Key) 
   never_by w (Unknown name) e h = h
   never_by w (Syntax name) e h = h
   never_by w (Unsupported name) e h = h
+  never_by w (Panic name) e h = h
   never_by w Size e h = h
   never_by w (Finished finish name) e h = h
 
@@ -204,6 +205,7 @@ module _ (limits : Limits) (names : List Text) (m n : Moment) (keys : List Key) 
     cut_by_between (Unknown name) c h = h
     cut_by_between (Syntax name) c h = h
     cut_by_between (Unsupported name) c h = h
+    cut_by_between (Panic name) c h = h
     cut_by_between Size c h = h
     cut_by_between (Finished finish name) c h = h
 

@@ -5,16 +5,16 @@ use Rattle.hushlang.specs.Tree as tree
 use Rattle.hushlang.specs.Tree.{Script, AndOr, Joined, Command, Arms, IsProper, IsProperList, IsProperJoined, IsProperCommand, HasArm, AreProperArms, HoldsCommand}
 use Rattle.hushlang.specs.Expansion.{size, most_bytes}
 use Rattle.rehearse_terms.specs.Outcomes.{OutcomeWord, Outcome, Success, Failure}
-use Rattle.hushlang_shells.specs.TreesByShell.{tree_in, has_fault_in}
+use Rattle.hushlang_shells.specs.TreesByShell.{TextRead, Runs, Fails, Panics, Unread, first_in, started_in}
 use Rattle.rehearse_terms.specs.State.{Text, get, State, start}
 use Rattle.rehearse_rules.specs.Parameters.{parameters_in}
 use Rattle.device_list.specs.Called.{Called, BuiltIn, Device, NoCommand, called_by, sets_in}
 use Rattle.commands.specs.BuiltInCommands.{ChangesVariables, WritesText, RunsTexts, Tests, Exits}
 use Rattle.rehearse_rules.specs.ByShell.{unread, leaves_in, status_of_exit, asks_in, truth_in, fields_in, turns_in, skips_rest, status_of_loop, follows, assigned_in, reads_again, follows_turns}
-use Rattle.rehearse_rules.specs.Execution.{Limits, Answer, Normal, Exit, Ended, Dry, Ending, CutDevices, CutSteps, Size, go_on, set_status, status_when, goes, holds, begin, take_outcome, with_outcome, outcome_when, told, told_again, tell_or_take, device, Request, logged, set_environment, finish, text_end, run_text, run_all, command, simple, sized, assign, turns, begin_turn, for_each, exec_script, exec_list, exec_joined, exec_command, exec_arms, exec, Unsupported, assign_local, request_of, test_request, started_text, text_failed, turns_of, for_words, for_begun, block_skipped, compound, compound_end}
+use Rattle.rehearse_rules.specs.Execution.{Limits, Answer, Normal, Exit, Ended, Dry, Ending, CutDevices, CutSteps, Size, go_on, set_status, status_when, goes, holds, begin, take_outcome, with_outcome, outcome_when, told, told_again, tell_or_take, device, Request, logged, set_environment, finish, text_end, run_read, run_text, run_all, command, simple, sized, assign, turns, begin_turn, for_each, exec_script, exec_list, exec_joined, exec_command, exec_arms, exec, Unsupported, assign_local, request_of, test_request, started_text, text_failed, turns_of, for_words, for_begun, block_skipped, compound, compound_end}
 use Rattle.rehearse_rules.specs.Needs.{effect_now}
 use Rattle.rehearse_rules.specs.Runs.{Task, run_on, state_of, steps}
-use Rattle.hushlang_shells.proofs.TreeByShellLemmas.{trees_in_are_proper}
+use Rattle.hushlang_shells.proofs.TreeByShellLemmas.{first_texts_are_proper, started_texts_are_proper}
 use Rattle.rehearse_terms.specs.declared.shell.Shell.{Shell}
 use Rattle.rehearse_terms.specs.declared.shell.Shell.TheVariants.{Profile, Old2023, Old2025, Modern2025}
 use Rattle.rehearse_rules.proofs.GrowingSteps.{Grew, Grew-block}
@@ -116,16 +116,18 @@ module _ (limits : Limits) where
     unread-ends Old2025 name t h = (h, tt)
     unread-ends Modern2025 name t h = (h, tt)
 
-    tree-ends : (found : Option Script) (name : Text) (t : State) → ((a : Script) → found ≡ Some a → IsProper a) → IsWithin t → limits.step_bound < n + t.steps → Ends (elim found [ None ↦ Ended (unread limits.shell name) t | Some a ↦ script a (elim a [ tree.Empty ↦ set_status 0 t | tree.Runs l ls ↦ t ]) ])
-    tree-ends None name t p h r = unread-ends limits.shell name t h
-    tree-ends (Some tree.Empty) name t p h r = ends tree.Empty tt (set_status 0 t) h r
-    tree-ends (Some (tree.Runs l ls)) name t p h r = ends (tree.Runs l ls) (p (tree.Runs l ls) refl) t h r
+    read-ends : (found : TextRead) (name : Text) (t : State) → ((a : Script) → found ≡ Runs a → IsProper a) → IsWithin t → limits.step_bound < n + t.steps → Ends (run_read limits script name found t)
+    read-ends (Runs tree.Empty) name t p h r = ends tree.Empty tt (set_status 0 t) h r
+    read-ends (Runs (tree.Runs l ls)) name t p h r = ends (tree.Runs l ls) (p (tree.Runs l ls) refl) t h r
+    read-ends Fails name t p h r = h
+    read-ends Panics name t p h r = (h, tt)
+    read-ends Unread name t p h r = unread-ends limits.shell name t h
 
     text-ends : (name v : Text) (t : State) → IsWithin t → limits.step_bound < n + t.steps → Ends (run_text limits script name v t)
-    text-ends name v t h r = tree-ends (tree_in limits.shell v) name t (λ a e. trees_in_are_proper limits.shell v a e) h r
+    text-ends name v t h r = read-ends (first_in limits.shell v) name t (λ a e. first_texts_are_proper limits.shell v a e) h r
 
     started-ends : (name v : Text) (t : State) → IsWithin t → limits.step_bound < n + t.steps → Ends (started_text limits script name v t)
-    started-ends name v t h r = Ends-if (has_fault_in limits.shell v) (Normal (set_status 1 t)) (run_text limits script name v t) (λ e. h) (λ e. text-ends name v t h r)
+    started-ends name v t h r = read-ends (started_in limits.shell v) name t (λ a e. started_texts_are_proper limits.shell v a e) h r
 
     named-ends : (o : Option Text) (name : Text) (next : State → Answer) (t : State) → IsWithin t → limits.step_bound < n + t.steps → ((u : State) → IsWithin u → limits.step_bound < n + u.steps → Ends (next u)) → Ends (elim o [ None ↦ Normal (set_status 1 t) | Some v ↦ text_end limits.shell (started_text limits script name v t) next ])
     named-ends None name next t h r j = h

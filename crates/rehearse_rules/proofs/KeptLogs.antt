@@ -12,12 +12,12 @@ use Rattle.rehearse_rules.proofs.TakenOutcomes.{skipped}
 use Rattle.rehearse_terms.specs.declared.shell.Shell.{Shell}
 use Rattle.rehearse_terms.specs.declared.shell.Shell.TheVariants.{Profile, Old2023, Old2025, Modern2025}
 use Rattle.rehearse_rules.specs.ByShell.{unread, reads_again, leaves_in, status_of_exit, asks_in, question_in, truth_in, fields_in, turns_in, skips_rest, status_of_loop, follows, assigned_in, follows_turns}
-use Rattle.rehearse_rules.specs.Execution.{Limits, Answer, Normal, Exit, Ended, Dry, CutSteps, Size, Request, go_on, set_status, status_when, goes, holds, begin, device, test_effect, text_end, run_text, run_all, command, simple, sized, assign, turns, begin_turn, for_each, exec_script, exec_list, exec_joined, exec_command, exec_arms, exec, Unsupported, assign_local, request_of, test_request, started_text, text_failed, turns_of, for_words, for_begun, block_skipped, compound, compound_end}
+use Rattle.rehearse_rules.specs.Execution.{Limits, Answer, Normal, Exit, Ended, Dry, CutSteps, Size, Request, go_on, set_status, status_when, goes, holds, begin, device, test_effect, text_end, run_read, run_text, run_all, command, simple, sized, assign, turns, begin_turn, for_each, exec_script, exec_list, exec_joined, exec_command, exec_arms, exec, Unsupported, assign_local, request_of, test_request, started_text, text_failed, turns_of, for_words, for_begun, block_skipped, compound, compound_end}
 use Rattle.rehearse_rules.specs.Needs.{effect_now}
 use Rattle.rehearse_rules.specs.Runs.{state_of}
 use Rattle.rehearse_terms.specs.State.{Text, get, LoggedCommand, State}
 use Rattle.rehearse_rules.specs.Parameters.{parameters_in}
-use Rattle.hushlang_shells.specs.TreesByShell.{tree_in, has_fault_in}
+use Rattle.hushlang_shells.specs.TreesByShell.{TextRead, Runs, Fails, Panics, Unread, first_in, started_in}
 
 module _ (P : List LoggedCommand → Type 0) where
   -- it holds of the log
@@ -99,16 +99,18 @@ module _ (P : List LoggedCommand → Type 0) where
     keeps-begin f h s k = keeps-if (nat_lt s.steps limits.step_bound) (f (record s { steps = suc s.steps })) (Ended CutSteps s) (h (record s { steps = suc s.steps }) k) k
 
     module _ (script : Script → State → Answer) (keeps : (a : Script) → KeepsLog (script a)) where
-      keeps-tree : (found : Option Script) (name : Text) (s : State) → Holds s → Holds (state_of (elim found [ None ↦ Ended (unread limits.shell name) s | Some a ↦ script a (elim a [ tree.Empty ↦ set_status 0 s | tree.Runs l ls ↦ s ]) ]))
-      keeps-tree None name s h = h
-      keeps-tree (Some tree.Empty) name s h = keeps tree.Empty (set_status 0 s) h
-      keeps-tree (Some (tree.Runs l ls)) name s h = keeps (tree.Runs l ls) s h
+      keeps-read : (found : TextRead) (name : Text) → KeepsLog (run_read limits script name found)
+      keeps-read (Runs tree.Empty) name s h = keeps tree.Empty (set_status 0 s) h
+      keeps-read (Runs (tree.Runs l ls)) name s h = keeps (tree.Runs l ls) s h
+      keeps-read Fails name s h = h
+      keeps-read Panics name s h = h
+      keeps-read Unread name s h = h
 
       keeps-text : (name text : Text) → KeepsLog (run_text limits script name text)
-      keeps-text name text s h = keeps-tree (tree_in limits.shell text) name s h
+      keeps-text name text = keeps-read (first_in limits.shell text) name
 
       keeps-started : (name text : Text) → KeepsLog (started_text limits script name text)
-      keeps-started name text s h = keeps-if (has_fault_in limits.shell text) (Normal (set_status 1 s)) (run_text limits script name text s) h (keeps-text name text s h)
+      keeps-started name text = keeps-read (started_in limits.shell text) name
 
       keeps-named : (text : Option Text) (name : Text) (next : State → Answer) (s : State) → KeepsLog next → Holds s → Holds (state_of (elim text [ None ↦ Normal (set_status 1 s) | Some v ↦ text_end limits.shell (started_text limits script name v s) next ]))
       keeps-named None name next s k h = h

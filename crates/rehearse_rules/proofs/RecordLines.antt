@@ -6,7 +6,7 @@ use Rattle.device_list.specs.declared.finish.BoardEnd.{BoardEnd}
 use Rattle.device_list.specs.declared.finish.BoardEnd.TheVariants.{Boots, Restarts, Halts}
 use Rattle.rehearse_terms.specs.Outcomes.{OutcomeWord, Success, Failure}
 use Rattle.rehearse_terms.specs.State.{Text, Variables, get, State, LoggedCommand}
-use Rattle.rehearse_rules.specs.Execution.{Ending, End, CutDevices, CutSteps, Unknown, Syntax, Unsupported, Size, Finished}
+use Rattle.rehearse_rules.specs.Execution.{Ending, End, CutDevices, CutSteps, Unknown, Syntax, Unsupported, Panic, Size, Finished}
 use Rattle.text.specs.Escapes.{hex_digit, escaped, text_form, word_escaped, word_form}
 use Rattle.text.specs.Words.{joined_words}
 use Rattle.rehearse_rules.specs.Listing.{finish_word, digit_when, outcome_digit, spelled, line, device_line, text_lines, variable_line, asked_line, variable_lines, last_line, inner_lines, record_lines}
@@ -147,6 +147,7 @@ last-is-last CutSteps = refl
 last-is-last (Unknown name) = refl
 last-is-last (Syntax name) = refl
 last-is-last (Unsupported name) = refl
+last-is-last (Panic name) = refl
 last-is-last Size = refl
 last-is-last (Finished Boots name) = refl
 last-is-last (Finished Restarts name) = refl
@@ -206,6 +207,7 @@ last-line CutSteps = (refl, (refl, (refl, (refl, (refl, (refl, (refl, (refl, (re
 last-line (Unknown name) = OneLine-append (codes "stop unknown ") (word_form name) (refl, (refl, (refl, (refl, (refl, (refl, (refl, (refl, (refl, (refl, (refl, (refl, (refl, tt))))))))))))) (word-line name)
 last-line (Syntax name) = OneLine-append (codes "stop syntax ") (word_form name) (refl, (refl, (refl, (refl, (refl, (refl, (refl, (refl, (refl, (refl, (refl, (refl, tt)))))))))))) (word-line name)
 last-line (Unsupported name) = OneLine-append (codes "stop unsupported ") (word_form name) (refl, (refl, (refl, (refl, (refl, (refl, (refl, (refl, (refl, (refl, (refl, (refl, (refl, (refl, (refl, (refl, (refl, tt))))))))))))))))) (word-line name)
+last-line (Panic name) = OneLine-append (codes "stop panic ") (word_form name) (refl, (refl, (refl, (refl, (refl, (refl, (refl, (refl, (refl, (refl, (refl, tt))))))))))) (word-line name)
 last-line Size = (refl, (refl, (refl, (refl, (refl, (refl, (refl, (refl, (refl, tt)))))))))
 last-line (Finished finish name) = OneLine-append (finish_word finish) (word_form name) (finish-line finish) (word-line name)
 

@@ -9,11 +9,11 @@ use Rattle.hushlang.specs.Tree.{Script, AndOr, Joined, Command, Arms}
 use Rattle.rehearse_terms.specs.State.{Text, get, Memory, State, LoggedCommand, asked_of}
 use Rattle.rehearse_rules.specs.Parameters.{parameters_in}
 use Rattle.hushlang.specs.Expansion.{size, most_bytes}
-use Rattle.hushlang_shells.specs.TreesByShell.{tree_in, has_fault_in}
+use Rattle.hushlang_shells.specs.TreesByShell.{TextRead, Runs, Fails, Panics, Unread, first_in, started_in}
 use Rattle.device_list.specs.Called.{Called, BuiltIn, Device, NoCommand, called_by, sets_in}
 use Rattle.commands.specs.BuiltInCommands.{ChangesVariables, WritesText, RunsTexts, Tests, Exits, variables_changed, text_written}
 use Rattle.rehearse_rules.specs.ByShell.{unread, leaves_in, status_of_exit, asks_in, truth_in, fields_in, turns_in, skips_rest, status_of_nothing, status_of_no_block, status_of_loop, follows, assigned_in, reads_again, status_of_text, follows_turns, status_of_for, status_of_skipped, left_status}
-use Rattle.rehearse_rules.specs.Execution.{Limits, Answer, Normal, Exit, Ended, Dry, Ending, CutDevices, CutSteps, Unknown, Size, go_on, remember, set_status, status_when, goes, holds, begin, take_outcome, with_outcome, outcome_when, told, told_again, tell_or_take, device, Request, logged, set_environment, finish, text_end, run_text, run_all, command, simple, sized, assign, turns, begin_turn, for_each, exec_script, exec_list, exec_joined, exec_command, exec_arms, exec, succeeds, Unsupported, assign_local, request_of, test_request, started_text, text_failed, turns_of, for_words, for_begun, block_skipped, compound, compound_end, compound_left}
+use Rattle.rehearse_rules.specs.Execution.{Limits, Answer, Normal, Exit, Ended, Dry, Ending, CutDevices, CutSteps, Unknown, Size, go_on, remember, set_status, status_when, goes, holds, begin, take_outcome, with_outcome, outcome_when, told, told_again, tell_or_take, device, Request, logged, set_environment, finish, text_end, run_read, run_text, run_all, command, simple, sized, assign, turns, begin_turn, for_each, exec_script, exec_list, exec_joined, exec_command, exec_arms, exec, succeeds, Unsupported, Panic, assign_local, request_of, test_request, started_text, text_failed, turns_of, for_words, for_begun, block_skipped, compound, compound_end, compound_left}
 use Rattle.rehearse_rules.specs.Needs.{effect_now}
 use Rattle.rehearse_rules.specs.Expected.{Answered, asked_in}
 use Rattle.rehearse_terms.specs.declared.shell.Shell.{Shell}
@@ -411,16 +411,18 @@ module _ (limits : Limits) where
 
   -- a `run`, if each script keeps it
   module _ (script : Script → State → Answer) (kept : (a : Script) → KeepsAll (script a)) where
-    pub Keeps-tree : (found : Option Script) (name : Text) (s : State) → Keeps limits.device_bound s (λ t. elim found [ None ↦ Ended (unread limits.shell name) t | Some a ↦ script a (elim a [ tree.Empty ↦ set_status 0 t | tree.Runs l ls ↦ t ]) ])
-    Keeps-tree None name s = Keeps-ended limits.device_bound s (unread limits.shell name)
-    Keeps-tree (Some tree.Empty) name s = Keeps-remember limits.device_bound s (λ m. record m { status = 0 }) (script tree.Empty) (kept tree.Empty (set_status 0 s))
-    Keeps-tree (Some (tree.Runs l ls)) name s = kept (tree.Runs l ls) s
+    pub Keeps-read : (found : TextRead) (name : Text) → KeepsAll (run_read limits script name found)
+    Keeps-read (Runs tree.Empty) name s = Keeps-remember limits.device_bound s (λ m. record m { status = 0 }) (script tree.Empty) (kept tree.Empty (set_status 0 s))
+    Keeps-read (Runs (tree.Runs l ls)) name s = kept (tree.Runs l ls) s
+    Keeps-read Fails name s = Keeps-normal limits.device_bound s (λ m. record m { status = 1 })
+    Keeps-read Panics name s = Keeps-ended limits.device_bound s (Panic name)
+    Keeps-read Unread name s = Keeps-ended limits.device_bound s (unread limits.shell name)
 
     pub Keeps-text : (name text : Text) → KeepsAll (run_text limits script name text)
-    Keeps-text name text s = Keeps-tree (tree_in limits.shell text) name s
+    Keeps-text name text = Keeps-read (first_in limits.shell text) name
 
     pub Keeps-started : (name text : Text) → KeepsAll (started_text limits script name text)
-    Keeps-started name text s = Keeps-if limits.device_bound s (has_fault_in limits.shell text) (λ t. Normal (set_status 1 t)) (run_text limits script name text) (Keeps-normal limits.device_bound s (λ m. record m { status = 1 })) (Keeps-text name text s)
+    Keeps-started name text = Keeps-read (started_in limits.shell text) name
 
     pub Keeps-named : (text : Option Text) (name : Text) (next : State → Answer) (s : State) → KeepsAll next → Keeps limits.device_bound s (λ t. elim text [ None ↦ Normal (set_status 1 t) | Some v ↦ text_end limits.shell (started_text limits script name v t) next ])
     Keeps-named None name next s h = Keeps-normal limits.device_bound s (λ m. record m { status = 1 })

@@ -15,6 +15,8 @@ pub data Ending : Type 0 where
   Syntax : (name : Text) → Ending
   -- what U-Boot's shell makes of the text of a variable is not said here
   Unsupported : (name : Text) → Ending
+  -- by the text of a variable U-Boot's shell gives up: the board resets or hangs
+  Panic : (name : Text) → Ending
   -- words expand to too many bytes
   Size : Ending
   -- a device command succeeded that ends the run: the board boots, restarts or halts

@@ -12,6 +12,7 @@ halt_shown halts.CutSteps = spec.CutSteps
 halt_shown (halts.Unknown name) = spec.Unknown name.items
 halt_shown (halts.Syntax name) = spec.Syntax name.items
 halt_shown (halts.Unsupported name) = spec.Unsupported name.items
+halt_shown (halts.Panic name) = spec.Panic name.items
 halt_shown halts.Size = spec.Size
 halt_shown (halts.Finished finish name) = spec.Finished finish name.items
 
@@ -22,5 +23,6 @@ ending_shown endings.CutSteps = spec.CutSteps
 ending_shown (endings.Unknown name) = spec.Unknown name.now
 ending_shown (endings.Syntax name) = spec.Syntax name.now
 ending_shown (endings.Unsupported name) = spec.Unsupported name.now
+ending_shown (endings.Panic name) = spec.Panic name.now
 ending_shown endings.Size = spec.Size
 ending_shown (endings.Finished finish name) = spec.Finished finish name.now

@@ -8,12 +8,12 @@ use Rattle.hushlang.specs.Expansion.{size, most_bytes}
 use Rattle.hushlang.specs.declared.tree.Op.{Op}
 use Rattle.hushlang.specs.declared.tree.Op.TheVariants.{And, Or}
 use Rattle.rehearse_terms.specs.Outcomes.{Outcome, Success, Failure, OutcomeWord}
-use Rattle.hushlang_shells.specs.TreesByShell.{tree_in, has_fault_in}
+use Rattle.hushlang_shells.specs.TreesByShell.{TextRead, Runs, Fails, Panics, Unread, first_in, started_in}
 use Rattle.rehearse_terms.specs.State.{Text, Variables, get, with_value, Memory, LoggedCommand, answer_in, State}
 use Rattle.rehearse_terms.specs.declared.shell.Shell.{Shell}
 use Rattle.rehearse_terms.specs.declared.shell.Shell.TheVariants.{Profile, Old2023, Old2025, Modern2025}
 use Rattle.rehearse_rules.specs.Needs.{effect_now}
-pub use Rattle.rehearse_rules.specs.Ending.{Ending, End, CutDevices, CutSteps, Unknown, Syntax, Unsupported, Size, Finished}
+pub use Rattle.rehearse_rules.specs.Ending.{Ending, End, CutDevices, CutSteps, Unknown, Syntax, Unsupported, Panic, Size, Finished}
 use Rattle.rehearse_rules.specs.Parameters.{parameters_in}
 use Rattle.rehearse_rules.specs.ByShell.{unread, reads_again, leaves_in, status_of_exit, left_status, status_of_text, asks_in, question_in, truth_in, truth_if, fields_in, turns_in, skips_rest, status_of_nothing, status_of_no_block, status_of_loop, status_in_turn, status_of_for, status_of_skipped, follows, follows_turns, assigned_in, locals_in}
 use Rattle.device_list.specs.DeviceList.{Effect, Devices}
@@ -272,18 +272,20 @@ module _ (limits : Limits) where
         | false ↦ Ended CutDevices s
       ]
 
-  -- the text of a variable, read when its turn comes. A text without a command gives the status 0
-  abbrev pub run_text : (script : Script → State → Answer) → (name text : Text) → State → Answer
-  run_text script name text s =
-      elim (tree_in limits.shell text) [
-        | None ↦ Ended (unread limits.shell name) s
-        | Some t ↦ script t (elim t [ tree.Empty ↦ set_status 0 s | tree.Runs list more ↦ s ])
-      ]
+  -- the text of a variable that has been read. A text without a command gives the status 0, and one with a fault the status 1
+  abbrev pub run_read : (script : Script → State → Answer) → (name : Text) → TextRead → State → Answer
+  run_read script name (Runs t) s = script t (elim t [ tree.Empty ↦ set_status 0 s | tree.Runs list more ↦ s ])
+  run_read script name Fails s = Normal (set_status 1 s)
+  run_read script name Panics s = Ended (Panic name) s
+  run_read script name Unread s = Ended (unread limits.shell name) s
 
-  -- a text that `run` starts. Of one with a fault nothing is run, and the status is 1
+  -- the text with which a run begins
+  abbrev pub run_text : (script : Script → State → Answer) → (name text : Text) → State → Answer
+  run_text script name text = run_read script name (first_in limits.shell text)
+
+  -- a text that `run` starts, read when its turn comes
   abbrev pub started_text : (script : Script → State → Answer) → (name text : Text) → State → Answer
-  started_text script name text s =
-      elim (has_fault_in limits.shell text) [ true ↦ Normal (set_status 1 s) | false ↦ run_text script name text s ]
+  started_text script name text = run_read script name (started_in limits.shell text)
 
   -- the texts of these variables in turn, up to the first that fails or is not set
   abbrev pub run_all : (script : Script → State → Answer) → List Text → State → Answer

@@ -7,7 +7,7 @@ use Rattle.text.specs.Escapes.{text_form, word_form}
 use Rattle.text.specs.Words.{joined_words}
 use Rattle.rehearse_terms.specs.Outcomes.{Outcome, OutcomeWord}
 use Rattle.rehearse_terms.specs.State.{Text, Variables, get, State, LoggedCommand}
-use Rattle.rehearse_rules.specs.Execution.{Ending, End, CutDevices, CutSteps, Unknown, Syntax, Unsupported, Size, Finished, succeeds}
+use Rattle.rehearse_rules.specs.Execution.{Ending, End, CutDevices, CutSteps, Unknown, Syntax, Unsupported, Panic, Size, Finished, succeeds}
 use Rattle.rehearse_rules.specs.Runs.{Task, run_on, state_of, ending_of}
 use Rattle.rehearse_terms.specs.declared.wanted.Page.{Page}
 
@@ -66,6 +66,7 @@ last_line CutSteps = codes "cut steps"
 last_line (Unknown name) = codes "stop unknown " ++ word_form name
 last_line (Syntax name) = codes "stop syntax " ++ word_form name
 last_line (Unsupported name) = codes "stop unsupported " ++ word_form name
+last_line (Panic name) = codes "stop panic " ++ word_form name
 last_line Size = codes "stop size"
 last_line (Finished finish name) = finish_word finish ++ word_form name
 

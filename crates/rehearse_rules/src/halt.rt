@@ -19,6 +19,8 @@ pub enum Halt {
     Syntax(Vec<u8>),
     /// What U-Boot's shell makes of the text of a variable is not known.
     Unsupported(Vec<u8>),
+    /// By the text of a variable U-Boot's shell gives up: the board resets or hangs.
+    Panic(Vec<u8>),
     /// Words expand to too many bytes.
     Size,
     /// A device command succeeded that ends the run so.
@@ -40,6 +42,8 @@ pub enum Ending<'v> {
     Syntax(&'v [u8]),
     /// What U-Boot's shell makes of the text of a variable is not known.
     Unsupported(&'v [u8]),
+    /// By the text of a variable U-Boot's shell gives up: the board resets or hangs.
+    Panic(&'v [u8]),
     /// Words expand to too many bytes.
     Size,
     /// A device command succeeded that ends the run so.
@@ -71,6 +75,7 @@ impl Halt {
             Halt::Unknown(name) => Ending::Unknown(name),
             Halt::Syntax(name) => Ending::Syntax(name),
             Halt::Unsupported(name) => Ending::Unsupported(name),
+            Halt::Panic(name) => Ending::Panic(name),
             Halt::Size => Ending::Size,
             Halt::Finished(finish, name) => Ending::Finished(*finish, name),
         }

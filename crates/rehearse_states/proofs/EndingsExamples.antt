@@ -9,7 +9,7 @@ use Rattle.device_list.specs.DeviceLaws.{quiet}
 use Rattle.device_list.specs.DeviceList.{only}
 use Rattle.hushlang.specs.Trees.{tree_of}
 use Rattle.rehearse_terms.specs.State.{Text}
-use Rattle.rehearse_rules.specs.Execution.{Ending, End, CutDevices, CutSteps, Unknown, Syntax, Unsupported, Size, Finished}
+use Rattle.rehearse_rules.specs.Execution.{Ending, End, CutDevices, CutSteps, Unknown, Syntax, Unsupported, Panic, Size, Finished}
 use Rattle.rehearse_rules.specs.Runs.{Task, all_runs}
 use Rattle.rehearse_rules.proofs.ExampleRehearsals.{only_load, limits, bootcmd}
 use Rattle.rehearse_states.specs.Endings.{RunEnd, Row, Counted, ending_eq, end_eq, fewer, joined as with_further, with_row, gather, endings, counts_at, of_both}
@@ -149,17 +149,17 @@ both_are_told = refl
 abbrev kinds : List Ending
 kinds =
     End 0 ∷ End 1 ∷ CutDevices ∷ CutSteps ∷ Unknown (codes "a") ∷ Unknown (codes "b") ∷ Syntax (codes "a") ∷ Syntax (codes "b")
-    ∷ Unsupported (codes "a") ∷ Unsupported (codes "b") ∷ Size ∷ Finished Boots (codes "a") ∷ Finished Boots (codes "b") ∷ Finished Restarts (codes "a") ∷ Finished Halts (codes "a") ∷ []
+    ∷ Unsupported (codes "a") ∷ Unsupported (codes "b") ∷ Panic (codes "a") ∷ Panic (codes "b") ∷ Size ∷ Finished Boots (codes "a") ∷ Finished Boots (codes "b") ∷ Finished Restarts (codes "a") ∷ Finished Halts (codes "a") ∷ []
 
 -- to which of the kinds an ending is equal
 abbrev equals : Ending → List Bool
 equals e = map (ending_eq e) kinds
 
--- true at one place of fifteen
+-- true at one place of seventeen
 abbrev only_at : ℕ → List Bool
-only_at n = map (nat_eq n) (0 ∷ 1 ∷ 2 ∷ 3 ∷ 4 ∷ 5 ∷ 6 ∷ 7 ∷ 8 ∷ 9 ∷ 10 ∷ 11 ∷ 12 ∷ 13 ∷ 14 ∷ [])
+only_at n = map (nat_eq n) (0 ∷ 1 ∷ 2 ∷ 3 ∷ 4 ∷ 5 ∷ 6 ∷ 7 ∷ 8 ∷ 9 ∷ 10 ∷ 11 ∷ 12 ∷ 13 ∷ 14 ∷ 15 ∷ 16 ∷ [])
 
-each_equals_itself : map equals kinds ≡ map only_at (0 ∷ 1 ∷ 2 ∷ 3 ∷ 4 ∷ 5 ∷ 6 ∷ 7 ∷ 8 ∷ 9 ∷ 10 ∷ 11 ∷ 12 ∷ 13 ∷ 14 ∷ [])
+each_equals_itself : map equals kinds ≡ map only_at (0 ∷ 1 ∷ 2 ∷ 3 ∷ 4 ∷ 5 ∷ 6 ∷ 7 ∷ 8 ∷ 9 ∷ 10 ∷ 11 ∷ 12 ∷ 13 ∷ 14 ∷ 15 ∷ 16 ∷ [])
 each_equals_itself = refl
 
 -- how runs end: the ending alone, a value alone, and both

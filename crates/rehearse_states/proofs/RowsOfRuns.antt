@@ -9,7 +9,7 @@ use Rattle.device_list.specs.declared.finish.BoardEnd.{BoardEnd}
 use Rattle.device_list.specs.declared.finish.BoardEnd.TheVariants.{Boots, Restarts, Halts}
 use Rattle.rehearse_terms.specs.Outcomes.{OutcomeWord, Outcome, Success, Failure, WordKind, Run, Short, Long, is_run_kind, words, beyond, runs_within, IsChoice}
 use Rattle.rehearse_terms.specs.State.{Text}
-use Rattle.rehearse_rules.specs.Execution.{Ending, End, CutDevices, CutSteps, Unknown, Syntax, Unsupported, Size, Finished}
+use Rattle.rehearse_rules.specs.Execution.{Ending, End, CutDevices, CutSteps, Unknown, Syntax, Unsupported, Panic, Size, Finished}
 use Rattle.rehearse_states.specs.Endings.{same_finish, ending_eq, RunEnd, value_eq, values_eq, end_eq, Counted, fewer, counts_at, Row, joined, with_row, merge, one_run, gather, rows_within, in_front, of_both, HasRows, ends, asks}
 
 -- ---- endings
@@ -32,6 +32,7 @@ ending_same (End a) CutSteps h = absurd (let f = h in cc)
 ending_same (End a) (Unknown b) h = absurd (let f = h in cc)
 ending_same (End a) (Syntax b) h = absurd (let f = h in cc)
 ending_same (End a) (Unsupported b) h = absurd (let f = h in cc)
+ending_same (End a) (Panic b) h = absurd (let f = h in cc)
 ending_same (End a) Size h = absurd (let f = h in cc)
 ending_same (End a) (Finished f b) h = absurd (let f = h in cc)
 ending_same CutDevices CutDevices h = refl
@@ -40,6 +41,7 @@ ending_same CutDevices CutSteps h = absurd (let f = h in cc)
 ending_same CutDevices (Unknown b) h = absurd (let f = h in cc)
 ending_same CutDevices (Syntax b) h = absurd (let f = h in cc)
 ending_same CutDevices (Unsupported b) h = absurd (let f = h in cc)
+ending_same CutDevices (Panic b) h = absurd (let f = h in cc)
 ending_same CutDevices Size h = absurd (let f = h in cc)
 ending_same CutDevices (Finished f b) h = absurd (let f = h in cc)
 ending_same CutSteps CutSteps h = refl
@@ -48,6 +50,7 @@ ending_same CutSteps CutDevices h = absurd (let f = h in cc)
 ending_same CutSteps (Unknown b) h = absurd (let f = h in cc)
 ending_same CutSteps (Syntax b) h = absurd (let f = h in cc)
 ending_same CutSteps (Unsupported b) h = absurd (let f = h in cc)
+ending_same CutSteps (Panic b) h = absurd (let f = h in cc)
 ending_same CutSteps Size h = absurd (let f = h in cc)
 ending_same CutSteps (Finished f b) h = absurd (let f = h in cc)
 ending_same (Unknown a) (Unknown b) h = ap Unknown ((bytes_eq-Decides a b).0 h)
@@ -56,6 +59,7 @@ ending_same (Unknown a) CutDevices h = absurd (let f = h in cc)
 ending_same (Unknown a) CutSteps h = absurd (let f = h in cc)
 ending_same (Unknown a) (Syntax b) h = absurd (let f = h in cc)
 ending_same (Unknown a) (Unsupported b) h = absurd (let f = h in cc)
+ending_same (Unknown a) (Panic b) h = absurd (let f = h in cc)
 ending_same (Unknown a) Size h = absurd (let f = h in cc)
 ending_same (Unknown a) (Finished f b) h = absurd (let f = h in cc)
 ending_same (Syntax a) (Syntax b) h = ap Syntax ((bytes_eq-Decides a b).0 h)
@@ -64,6 +68,7 @@ ending_same (Syntax a) CutDevices h = absurd (let f = h in cc)
 ending_same (Syntax a) CutSteps h = absurd (let f = h in cc)
 ending_same (Syntax a) (Unknown b) h = absurd (let f = h in cc)
 ending_same (Syntax a) (Unsupported b) h = absurd (let f = h in cc)
+ending_same (Syntax a) (Panic b) h = absurd (let f = h in cc)
 ending_same (Syntax a) Size h = absurd (let f = h in cc)
 ending_same (Syntax a) (Finished f b) h = absurd (let f = h in cc)
 ending_same (Unsupported a) (Unsupported b) h = ap Unsupported ((bytes_eq-Decides a b).0 h)
@@ -72,8 +77,18 @@ ending_same (Unsupported a) CutDevices h = absurd (let f = h in cc)
 ending_same (Unsupported a) CutSteps h = absurd (let f = h in cc)
 ending_same (Unsupported a) (Unknown b) h = absurd (let f = h in cc)
 ending_same (Unsupported a) (Syntax b) h = absurd (let f = h in cc)
+ending_same (Unsupported a) (Panic b) h = absurd (let f = h in cc)
 ending_same (Unsupported a) Size h = absurd (let f = h in cc)
 ending_same (Unsupported a) (Finished f b) h = absurd (let f = h in cc)
+ending_same (Panic a) (Panic b) h = ap Panic ((bytes_eq-Decides a b).0 h)
+ending_same (Panic a) (End b) h = absurd (let f = h in cc)
+ending_same (Panic a) CutDevices h = absurd (let f = h in cc)
+ending_same (Panic a) CutSteps h = absurd (let f = h in cc)
+ending_same (Panic a) (Unknown b) h = absurd (let f = h in cc)
+ending_same (Panic a) (Syntax b) h = absurd (let f = h in cc)
+ending_same (Panic a) (Unsupported b) h = absurd (let f = h in cc)
+ending_same (Panic a) Size h = absurd (let f = h in cc)
+ending_same (Panic a) (Finished f b) h = absurd (let f = h in cc)
 ending_same Size Size h = refl
 ending_same Size (End b) h = absurd (let f = h in cc)
 ending_same Size CutDevices h = absurd (let f = h in cc)
@@ -81,6 +96,7 @@ ending_same Size CutSteps h = absurd (let f = h in cc)
 ending_same Size (Unknown b) h = absurd (let f = h in cc)
 ending_same Size (Syntax b) h = absurd (let f = h in cc)
 ending_same Size (Unsupported b) h = absurd (let f = h in cc)
+ending_same Size (Panic b) h = absurd (let f = h in cc)
 ending_same Size (Finished f b) h = absurd (let f = h in cc)
 ending_same (Finished f a) (Finished g b) h =
     let parts = and_parts (same_finish f g) (bytes_eq a b) h in
@@ -91,6 +107,7 @@ ending_same (Finished f a) CutSteps h = absurd (let f = h in cc)
 ending_same (Finished f a) (Unknown b) h = absurd (let f = h in cc)
 ending_same (Finished f a) (Syntax b) h = absurd (let f = h in cc)
 ending_same (Finished f a) (Unsupported b) h = absurd (let f = h in cc)
+ending_same (Finished f a) (Panic b) h = absurd (let f = h in cc)
 ending_same (Finished f a) Size h = absurd (let f = h in cc)
 
 pub ending_itself : (a : Ending) → ending_eq a a ≡ true
@@ -100,6 +117,7 @@ ending_itself CutSteps = refl
 ending_itself (Unknown a) = (bytes_eq-Decides a a).1 refl
 ending_itself (Syntax a) = (bytes_eq-Decides a a).1 refl
 ending_itself (Unsupported a) = (bytes_eq-Decides a a).1 refl
+ending_itself (Panic a) = (bytes_eq-Decides a a).1 refl
 ending_itself Size = refl
 ending_itself (Finished Boots a) = (bytes_eq-Decides a a).1 refl
 ending_itself (Finished Restarts a) = (bytes_eq-Decides a a).1 refl

@@ -5,7 +5,7 @@ use Rattle.std.specs.Str.{bytes_eq}
 use Rattle.device_list.specs.declared.finish.BoardEnd.{BoardEnd}
 use Rattle.device_list.specs.declared.finish.BoardEnd.TheVariants.{Boots, Restarts, Halts}
 use Rattle.rehearse_terms.specs.Outcomes.{OutcomeWord, Outcome, Success, Failure, WordKind, Run, Short, Long, runs_within, beyond}
-use Rattle.rehearse_rules.specs.Execution.{Ending, End, CutDevices, CutSteps, Unknown, Syntax, Unsupported, Size, Finished}
+use Rattle.rehearse_rules.specs.Execution.{Ending, End, CutDevices, CutSteps, Unknown, Syntax, Unsupported, Panic, Size, Finished}
 use Rattle.rehearse_terms.specs.State.{Text, Variables, get}
 use Rattle.rehearse_rules.specs.Runs.{Task, run_on, state_of, ending_of, unexpected, all_runs}
 
@@ -22,6 +22,7 @@ ending_eq CutSteps CutSteps = true
 ending_eq (Unknown a) (Unknown b) = bytes_eq a b
 ending_eq (Syntax a) (Syntax b) = bytes_eq a b
 ending_eq (Unsupported a) (Unsupported b) = bytes_eq a b
+ending_eq (Panic a) (Panic b) = bytes_eq a b
 ending_eq Size Size = true
 ending_eq (Finished one a) (Finished other b) = same_finish one other && bytes_eq a b
 ending_eq _ _ = false

@@ -103,6 +103,10 @@ pub fn put_ending(text: &mut Vec<u8>, halt: &Halt) -> Result<(), StoreError>
             put(text, b"stop unsupported ")?;
             put_word(text, name)
         }
+        Halt::Panic(name) => {
+            put(text, b"stop panic ")?;
+            put_word(text, name)
+        }
         Halt::Size => put(text, b"stop size"),
         Halt::Finished(finish, name) => {
             put(text, finish_word(*finish))?;

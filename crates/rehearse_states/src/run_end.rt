@@ -29,6 +29,7 @@ pub fn same_halt(a: &Halt, b: &Halt) -> bool
         (Halt::Unknown(x), Halt::Unknown(y)) => x == y,
         (Halt::Syntax(x), Halt::Syntax(y)) => x == y,
         (Halt::Unsupported(x), Halt::Unsupported(y)) => x == y,
+        (Halt::Panic(x), Halt::Panic(y)) => x == y,
         (Halt::Size, Halt::Size) => true,
         (Halt::Finished(one, x), Halt::Finished(other, y)) => one == other && x == y,
         _ => false,
@@ -46,6 +47,7 @@ pub(crate) fn copy_halt(halt: &Halt) -> Result<Halt, StoreError>
         Halt::Unknown(name) => Halt::Unknown(name.clone()?),
         Halt::Syntax(name) => Halt::Syntax(name.clone()?),
         Halt::Unsupported(name) => Halt::Unsupported(name.clone()?),
+        Halt::Panic(name) => Halt::Panic(name.clone()?),
         Halt::Size => Halt::Size,
         Halt::Finished(finish, name) => Halt::Finished(*finish, name.clone()?),
     })

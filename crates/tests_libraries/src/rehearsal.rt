@@ -200,6 +200,7 @@ fn name_of(ending: Ending<'_>) -> &'static str {
         Ending::Unknown(_) => "stop unknown",
         Ending::Syntax(_) => "stop syntax",
         Ending::Unsupported(_) => "stop unsupported",
+        Ending::Panic(_) => "stop panic",
         Ending::Size => "stop size",
         Ending::Finished(finish, _) => match finish {
             BoardEnd::Boots => "booted",

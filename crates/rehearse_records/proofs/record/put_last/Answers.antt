@@ -11,3 +11,6 @@ returns-in-Syntax g c = rw c.in-Syntax.is c.put_word_line-in-Syntax.ensures
 
 pub returns-in-Unsupported : goal.returns-in-Unsupported
 returns-in-Unsupported g c = rw c.in-Unsupported.is c.put_word_line-in-Unsupported.ensures
+
+pub returns-in-Panic : goal.returns-in-Panic
+returns-in-Panic g c = rw c.in-Panic.is c.put_word_line-in-Panic.ensures
