@@ -38,7 +38,7 @@ seventeen words and a file, by old
 a text that is not followed, by old
   $ text 'ls\nif ls; then if ls; then ls; fi fi' --shell old
   bootcmd: ok
-  bootcmd:1:1: warning: a rehearsal by this shell stops where this text is run
+  bootcmd:1:1: warning: a rehearsal by this shell does not run this text
   ls
   ^
   bootcmd:2:32: warning: U-Boot's old shell wants ; before this word
@@ -48,7 +48,7 @@ a text that is not followed, by old
 a reserved name, by old
   $ text 'for fi in a; do ls; done' --shell old
   bootcmd: ok
-  bootcmd:1:1: warning: a rehearsal by this shell stops where this text is run
+  bootcmd:1:1: warning: a rehearsal by this shell does not run this text
   for fi in a; do ls; done
   ^
   bootcmd:1:5: warning: U-Boot's old shell refuses a reserved word here
@@ -71,7 +71,7 @@ a text that no shell reads, by old
   bootcmd:1:1: unexpected token
   fi ls
   ^
-  bootcmd:1:1: warning: a rehearsal by this shell stops where this text is run
+  bootcmd:1:1: warning: a rehearsal by this shell does not run this text
   fi ls
   ^
   bootcmd:1:4: warning: U-Boot's old shell wants ; before this word

@@ -28,4 +28,4 @@ warning_text OddName = codes "warning: U-Boot's modern shell refuses this name i
 warning_text SpecialParameter = codes "warning: U-Boot's modern shell takes $ and the byte after it for a variable"
 warning_text Parenthesis = codes "warning: U-Boot's modern shell refuses ( outside quotes"
 warning_text BackslashAtLineEnd = codes "warning: U-Boot's old shell keeps the line's end behind this backslash"
-warning_text NotFollowedText = codes "warning: a rehearsal by this shell stops where this text is run"
+warning_text NotFollowedText = codes "warning: a rehearsal by this shell does not run this text"

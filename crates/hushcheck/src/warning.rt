@@ -107,8 +107,6 @@ pub(crate) fn warning_text(warning: Warning) -> &'static [u8]
         Warning::BackslashAtLineEnd => {
             b"warning: U-Boot's old shell keeps the line's end behind this backslash"
         }
-        Warning::NotFollowedText => {
-            b"warning: a rehearsal by this shell stops where this text is run"
-        }
+        Warning::NotFollowedText => { b"warning: a rehearsal by this shell does not run this text" }
     }
 }
