@@ -3,14 +3,14 @@ use Rattle.std.proofs.Common.{◌≡◌, subst, ℕ, Bool, true, false, ◌&&◌
 use Rattle.hushlang.specs.Tree as tree
 use Rattle.hushlang.specs.Tree.{Script, Command, IsProper, IsProperCommand}
 use Rattle.hushlang.specs.declared.tree.Op.{Op}
-use Rattle.hushlang_old.specs.Nests as nests
-use Rattle.hushlang_old.specs.Nests.{is_in, is_do}
-use Rattle.hushlang_old.specs.declared.part.Part.{Part}
-use Rattle.hushlang_old.specs.declared.part.Part.TheVariants as p
-use Rattle.hushlang_old.specs.declared.reserved.Reserved.{Reserved}
-use Rattle.hushlang_old.specs.declared.reserved.Reserved.TheVariants as r
-use Rattle.hushlang_old.proofs.NestLemmas as nesting
-use Rattle.hushlang_old.proofs.NestLemmas.{IsNest, IsGone}
+use Rattle.hushlang_parts.specs.Nests as nests
+use Rattle.hushlang_parts.specs.Nests.{is_in, is_do}
+use Rattle.hushlang_parts.specs.declared.part.Part.{Part}
+use Rattle.hushlang_parts.specs.declared.part.Part.TheVariants as p
+use Rattle.hushlang_parts.specs.declared.reserved.Reserved.{Reserved}
+use Rattle.hushlang_parts.specs.declared.reserved.Reserved.TheVariants as r
+use Rattle.hushlang_parts.proofs.NestLemmas as nesting
+use Rattle.hushlang_parts.proofs.NestLemmas.{IsNest, IsGone}
 use Rattle.hushlang_modern.specs.ModernTokens.{FoundWord, Token, Word, NewLine, Semicolon, Ampersand, Joins, FoundTokens, modern_tokens}
 use Rattle.hushlang_modern.specs.ModernWords.{word_of, is_sure, reserved_in, is_sign, name_in, is_strange, is_assignment, value_of, is_hazard}
 use Rattle.hushlang_modern.specs.ModernTrees.{ModernText, Read, Unread, Building, nothing_built, part_in, Step, Goes, Stops, has_values, has_words, has_begun, has_command, command_of, without_words, command_ended, opened, needs_command, gone_to, goes_on, reserved_read, with_word, with_assignment, word_begun, command_begun, plain_word, first_word, command_word, named, word_at, all_ended, list_separated, words_ended, end_at, joined_by, read_token, read_tokens, text_in, text_of_step, text_of_tokens, modern_text}

@@ -15,7 +15,7 @@ use crate::modern_text::ModernText;
 use crate::modern_tokens::{FoundWord, Token};
 use crate::stop::Stop;
 use hushlang::{Command, Op, Word};
-use hushlang_old::{Gone, Nest, Part, Reserved, begins, call_of, is_do, is_header, is_in};
+use hushlang_parts::{Gone, Nest, Part, Reserved, begins, call_of, is_do, is_header, is_in};
 use std::alloc::{AllocError, Global};
 use std::mem;
 

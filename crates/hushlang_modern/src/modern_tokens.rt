@@ -10,7 +10,7 @@ use crate::byte_classes::{
 };
 use crate::stop::Stop;
 use hushlang::{Op, Piece};
-use hushlang_old::{Gathered, sign_of};
+use hushlang_parts::{Gathered, sign_of};
 use std::alloc::{AllocError, Global};
 use std::mem;
 

@@ -1,7 +1,5 @@
-pub mod WordLemmas
+pub mod OldFieldLemmas
 pub mod BuildingLemmas
-pub mod NestLemmas
-pub mod NestViewLemmas
 pub mod OldTreeLemmas
 mod OldFieldsExamples
 mod OldTreesExamples

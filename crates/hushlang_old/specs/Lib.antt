@@ -1,7 +1,3 @@
-pub mod Gathered
-pub mod GatheredShown
-pub mod Nests
-pub mod NestsShown
 pub mod OldFields
 pub mod OldFieldsShown
 pub mod OldTokens

@@ -3,16 +3,14 @@
 -- variable or `$?` is read a second time, as a text in which the values stand: their quotes, backslashes and `#` act.
 -- Bytes above 127 are bytes like others, as in 2025.01. `IFS` and `HUSH_NO_EVAL`, by which a user changes these rules,
 -- are not set.
-use Rattle.std.specs.Prelude.{ℕ, ◌==◌, Bool, true, false, not, ◌&&◌, ◌||◌, List, [], ◌∷◌, ◌++◌, length, map, filter, flat_map, if◌then◌else◌, Option, Some, None, unwrap_or}
+use Rattle.std.specs.Prelude.{ℕ, ◌==◌, Bool, true, false, not, ◌&&◌, ◌||◌, List, [], ◌∷◌, ◌++◌, map, filter, flat_map, if◌then◌else◌, Option, Some, None, unwrap_or}
 use Rattle.std.specs.List.{list_any, slice_split}
 use Rattle.text.specs.Bytes as ascii
-use Rattle.hushlang.specs.Tree as tree
-use Rattle.hushlang.specs.Tree.{Word, Piece}
+use Rattle.hushlang.specs.Tree.{Word}
 use Rattle.hushlang.specs.Expansion.{Parameters, joined, fields}
 use Rattle.hushlang.specs.KnownFields.{is_constant_word, are_constant}
-
-abbrev pub has_bytes : List ℕ → Bool
-has_bytes bytes = not (length bytes == 0)
+use Rattle.hushlang_parts.specs.Pieces.{is_mark}
+use Rattle.hushlang_parts.specs.ReadBytes.{has_bytes, is_newline, is_space_or_tab, unescaped}
 
 -- ---- the values in a word (`insert_var_value`)
 
@@ -26,12 +24,6 @@ inserted parameters word =
 
 -- ---- the text of a command (`make_string`)
 
-abbrev pub is_mark : Piece → Bool
-is_mark (tree.Bytes bytes) = false
-is_mark tree.Mark = true
-is_mark (tree.Var name split) = false
-is_mark tree.Status = false
-
 abbrev pub has_quotes : Word → Bool
 has_quotes word = list_any is_mark word
 
@@ -44,9 +36,6 @@ word_text parameters word =
 -- each word behind a space; the space in front changes nothing
 abbrev pub words_text : Parameters → List Word → List ℕ
 words_text parameters words = flat_map (λ word. ascii.space ∷ word_text parameters word) words
-
-abbrev pub is_newline : ℕ → Bool
-is_newline byte = byte == ascii.newline
 
 -- a newline is added, and first a further one if the text has one already (`parse_string_outer`)
 abbrev pub with_end : List ℕ → List ℕ
@@ -97,15 +86,6 @@ guarded double byte = if double && is_guarded byte then ascii.backslash ∷ byte
 abbrev pub with_guarded : ℕ → Reading → Reading
 with_guarded byte r = with_bytes (guarded r.double byte) r
 
--- a backslash before a byte is dropped, and so is one at the end
-abbrev pub unescaped : (behind : Bool) → List ℕ → List ℕ
-unescaped behind [] = []
-unescaped behind (byte ∷ bytes) =
-    elim (byte == ascii.backslash && not behind) [
-      | true ↦ unescaped true bytes
-      | false ↦ byte ∷ unescaped false bytes
-    ]
-
 -- the word on the way, if it has quotes or bytes
 abbrev pub found : (begun : Bool) → (word : List ℕ) → List (List ℕ)
 found begun word = if begun || has_bytes word then unescaped false word ∷ [] else []
@@ -117,9 +97,6 @@ word_ended r = record r { whole = r.whole ++ found r.begun r.word; word = []; be
 -- `'`, and the byte 4 (`SUBSTED_VAR_SYMBOL`)
 abbrev pub is_single : ℕ → Bool
 is_single byte = byte == ascii.quote || byte == 4
-
-abbrev pub is_space_or_tab : ℕ → Bool
-is_space_or_tab byte = byte == ascii.space || byte == ascii.tab
 
 -- the text ends at a newline, and at `#` where the word on the way has no bytes
 abbrev pub ends_text : ℕ → Reading → Bool

@@ -1,7 +1,5 @@
 -- What the code's values say.
-use Rattle.std.specs.Prelude.{Bool, true, map}
-use Rattle.hushlang.specs.Tree as tree
-use Rattle.hushlang.specs.Tree.{Piece}
+use Rattle.std.specs.Prelude.{map}
 use Rattle.hushlang_old.specs.OldFields as says
 use Rattle.hushlang_old.specs.declared.rereading.Place.{Place}
 use Rattle.hushlang_old.specs.declared.rereading.Place.TheVariants as places
@@ -21,8 +19,3 @@ reading r = record {
   double = r.double;
   place = place r.place;
 }
-
--- a piece that is quotes or has a byte; a variable counts as one
-abbrev pub is_something : Piece → Bool
-is_something (tree.Bytes bytes) = says.has_bytes bytes
-is_something piece = true

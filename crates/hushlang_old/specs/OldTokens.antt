@@ -9,9 +9,9 @@ use Rattle.hushlang.specs.Tree as tree
 use Rattle.hushlang.specs.Tree.{Piece}
 use Rattle.hushlang.specs.declared.tree.Op.{Op}
 use Rattle.hushlang.specs.declared.tree.Op.TheVariants.{And, Or}
-use Rattle.hushlang_old.specs.Gathered as gathered
-use Rattle.hushlang_old.specs.Gathered.{Gathered}
-use Rattle.hushlang_old.specs.OldFields.{has_bytes, is_newline, is_space_or_tab}
+use Rattle.hushlang_parts.specs.Gathered as gathered
+use Rattle.hushlang_parts.specs.Gathered.{Gathered}
+use Rattle.hushlang_parts.specs.ReadBytes.{has_bytes, is_newline, is_space_or_tab, sign_of}
 
 -- a word: its pieces, none of which is quotes; whether it has quotes; whether it has a backslash, which keeps it from being
 -- reserved; and whether a blank or a newline is behind it, and no `;` or operator
@@ -162,10 +162,6 @@ read_brace name byte r =
 
 abbrev pub read_comment : ℕ → Reading → Reading
 read_comment byte r = if is_newline byte then with_token true Ends (at_place Open r) else r
-
-abbrev pub sign_of : Op → ℕ
-sign_of And = ascii.ampersand
-sign_of Or = ascii.bar
 
 abbrev pub read_joint : Op → ℕ → Reading → Reading
 read_joint op byte r = if byte == sign_of op then with_token false (Joins op) (at_place Open r) else at_place Refused r

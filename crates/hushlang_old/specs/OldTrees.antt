@@ -14,13 +14,14 @@ use Rattle.hushlang.specs.KnownFields.{is_constant, known_fields}
 use Rattle.hushlang.specs.declared.tree.Op.{Op}
 use Rattle.hushlang.specs.declared.tree.Op.TheVariants.{And}
 use Rattle.commands.specs.UBootExit.{ends_text}
-use Rattle.hushlang_old.specs.Nests as nests
-use Rattle.hushlang_old.specs.Nests.{Nest, word_of_if, word_of_loop, reserved_bytes, reserved_among, is_in, is_do}
+use Rattle.hushlang_parts.specs.Nests as nests
+use Rattle.hushlang_parts.specs.Nests.{Nest, word_of_if, word_of_loop, reserved_bytes, reserved_among, is_in, is_do}
+use Rattle.hushlang_parts.specs.Pieces.{only_bytes}
 use Rattle.hushlang_old.specs.OldTokens.{FoundWord, Token, Word, Ends, Joins, is_letter, is_name_byte, read, read_open, old_tokens}
-use Rattle.hushlang_old.specs.declared.part.Part.{Part}
-use Rattle.hushlang_old.specs.declared.part.Part.TheVariants as p
-use Rattle.hushlang_old.specs.declared.reserved.Reserved.{Reserved}
-use Rattle.hushlang_old.specs.declared.reserved.Reserved.TheVariants as r
+use Rattle.hushlang_parts.specs.declared.part.Part.{Part}
+use Rattle.hushlang_parts.specs.declared.part.Part.TheVariants as p
+use Rattle.hushlang_parts.specs.declared.reserved.Reserved.{Reserved}
+use Rattle.hushlang_parts.specs.declared.reserved.Reserved.TheVariants as r
 
 -- ---- what a word says
 
@@ -29,12 +30,6 @@ word_of w = if w.quoted then tree.Mark ∷ w.pieces else w.pieces
 
 abbrev pub is_constant_word : FoundWord → Bool
 is_constant_word w = list_all is_constant w.pieces
-
--- the bytes of pieces that nothing can change
-abbrev pub only_bytes : List Piece → Option (List ℕ)
-only_bytes [] = Some []
-only_bytes (tree.Bytes bytes ∷ []) = Some bytes
-only_bytes pieces = None
 
 -- the reserved word that a word is: quotes do not keep it from being one, a backslash does
 abbrev pub reserved_in : FoundWord → Option Reserved

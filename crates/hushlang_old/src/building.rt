@@ -9,12 +9,10 @@ ghost use Rattle.hushlang_old.specs.OldTreesShown as shown;
 use crate::found_words::{
     changes_shell, is_assignment, is_constant_word, name_in, reserved_in, values_of, words_of,
 };
-use crate::nest::{Gone, Nest};
 use crate::old_tokens::{FoundWord, Token};
-use crate::part::{Part, is_header};
 use crate::plain_exit::simple_call;
-use crate::reserved::{Reserved, begins, is_do, is_in};
 use hushlang::{Command, Op, Script};
+use hushlang_parts::{Gone, Nest, Part, Reserved, begins, is_do, is_header, is_in};
 use std::alloc::{AllocError, Global};
 use std::mem;
 

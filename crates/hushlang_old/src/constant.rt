@@ -4,32 +4,15 @@ ghost use Rattle.std.specs.List.{list_any, list_all};
 ghost use Rattle.hushlang.specs.Expansion as expansion;
 ghost use Rattle.hushlang.specs.KnownFields as known;
 ghost use Rattle.hushlang.specs.TreesShown as view;
-ghost use Rattle.hushlang_old.specs.OldFieldsShown as shown;
+ghost use Rattle.hushlang_parts.specs.Pieces as says;
 
 use crate::word_bytes::joined;
 use hushlang::{Piece, Vars, Word};
+use hushlang_parts::are_constant_pieces;
 use std::alloc::{AllocError, Global};
 
-fn is_constant(piece: &Piece) -> bool
-    ensures { result ≡ known.is_constant (view.piece piece.now) }
-{
-    match piece {
-        Piece::Bytes(_) => true,
-        Piece::Mark => true,
-        Piece::Var { name: _, split: _ } => false,
-        Piece::Status => false,
-    }
-}
-
-/// Whether no variable and no status can change pieces.
-pub fn are_constant_pieces(pieces: &[Piece]) -> bool
-    ensures { result ≡ list_all (λ piece. known.is_constant (view.piece piece)) pieces.now }
-{
-    pieces.iter().all(|piece| is_constant(piece))
-}
-
 /// Whether no variable and no status can change a word.
-#[tactic(auto, using(crate::proofs::WordLemmas::all_of_pieces))]
+#[tactic(auto, using(hushlang_parts::proofs::WordLemmas::all_of_pieces))]
 pub(crate) fn is_constant_word(word: &Word) -> bool
     ensures { result ≡ known.is_constant_word (view.word word.now) }
 {
@@ -45,7 +28,7 @@ pub(crate) fn are_constant(words: &[Word]) -> bool
 
 /// Whether a piece is quotes, or has a byte.
 fn is_something(piece: &Piece) -> bool
-    ensures { result ≡ shown.is_something (view.piece piece.now) }
+    ensures { result ≡ says.is_something (view.piece piece.now) }
 {
     match piece {
         Piece::Bytes(bytes) => !bytes.is_empty(),
@@ -56,7 +39,7 @@ fn is_something(piece: &Piece) -> bool
 }
 
 fn has_something(pieces: &[Piece]) -> bool
-    ensures { result ≡ list_any (λ piece. shown.is_something (view.piece piece)) pieces.now }
+    ensures { result ≡ list_any (λ piece. says.is_something (view.piece piece)) pieces.now }
 {
     pieces.iter().any(|piece| is_something(piece))
 }

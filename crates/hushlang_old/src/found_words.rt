@@ -1,5 +1,5 @@
 //! What a word says: a reserved word, a name, an assignment, or a word of a command.
-ghost use Rattle.std.specs.Prelude.{◌≡◌, ◌≤◌, map, drop, length, IfOk};
+ghost use Rattle.std.specs.Prelude.{◌≡◌, ◌≤◌, map, length, IfOk};
 ghost use Rattle.std.specs.List.{list_all, prefix_len};
 ghost use Rattle.text.specs.TextsShown.{option_bytes};
 ghost use Rattle.hushlang.specs.TreesShown as view;
@@ -8,29 +8,17 @@ ghost use Rattle.hushlang_old.specs.OldTokensShown as shown;
 ghost use Rattle.hushlang_old.specs.OldTrees as says;
 ghost use Rattle.hushlang_old.specs.OldTreesShown.{IsCutAtEquals};
 
-use crate::constant::are_constant_pieces;
 use crate::old_tokens::{FoundWord, is_letter, is_name_byte};
-use crate::reserved::{Reserved, reserved_bytes};
 use hushlang::{Piece, Word};
+use hushlang_parts::{Reserved, are_constant_pieces, only_bytes, reserved_bytes, without_first};
 use std::alloc::{AllocError, Global};
 
 /// Whether no variable and no status can change a word.
-#[tactic(auto, using(crate::proofs::WordLemmas::all_of_pieces))]
+#[tactic(auto, using(hushlang_parts::proofs::WordLemmas::all_of_pieces))]
 pub(crate) fn is_constant_word(word: &FoundWord) -> bool
     ensures { result ≡ says.is_constant_word (shown.word word.now) }
 {
     are_constant_pieces(&word.pieces)
-}
-
-/// The bytes of pieces that nothing can change, if they are at most one piece.
-pub fn only_bytes(pieces: &[Piece]) -> Option<&[u8]>
-    ensures { option_bytes result ≡ says.only_bytes (map view.piece pieces.now) }
-{
-    match pieces {
-        [] => Some(&[]),
-        [Piece::Bytes(bytes)] => Some(bytes),
-        _ => None,
-    }
 }
 
 /// The reserved word that a word is.
@@ -128,17 +116,6 @@ pub(crate) fn changes_shell(word: &FoundWord) -> bool
         Some((name, _)) => is_name_of_shell(name),
         None => false,
     }
-}
-
-/// The pieces behind the first one.
-pub fn without_first(pieces: Vec<Piece>) -> Vec<Piece>
-    ensures { map view.piece result.items ≡ drop 1 (map view.piece pieces.items) }
-{
-    let mut pieces = pieces;
-    if !pieces.is_empty() {
-        pieces.remove(0);
-    }
-    pieces
 }
 
 /// The name and the value of an assignment.

@@ -4,8 +4,8 @@ ghost use Rattle.hushlang.specs.ByteClasses as classes;
 ghost use Rattle.hushlang_old.specs.OldTokens as says;
 ghost use Rattle.hushlang_old.specs.OldTokensShown as shown;
 
-use crate::gathered::Gathered;
 use hushlang::{Op, Piece};
+use hushlang_parts::{Gathered, is_between, sign_of};
 use std::alloc::{AllocError, Global};
 use std::mem;
 
@@ -68,13 +68,6 @@ struct TextReading {
     name: Vec<u8>,
 }
 
-/// Whether a byte is one of these two, or between them.
-pub fn is_between(low: u8, high: u8, byte: u8) -> bool
-    ensures { result ≡ classes.is_between low high byte }
-{
-    low <= byte && byte <= high
-}
-
 fn is_foreign(byte: u8) -> bool
     ensures { result ≡ says.is_foreign byte }
 {
@@ -108,16 +101,6 @@ fn is_brace_byte(byte: u8) -> bool
     ensures { result ≡ classes.is_brace_byte byte }
 {
     is_between(b'!', b'~', byte) && !is_brace_exception(byte)
-}
-
-/// The byte that an operator has twice.
-pub fn sign_of(op: Op) -> u8
-    ensures { result ≡ says.sign_of op }
-{
-    match op {
-        Op::And => b'&',
-        Op::Or => b'|',
-    }
 }
 
 impl TextReading {

@@ -4,9 +4,9 @@ ghost use Rattle.hushlang.specs.KnownFields.{known_fields};
 ghost use Rattle.hushlang.specs.TreesShown as view;
 ghost use Rattle.hushlang_old.specs.OldTrees as says;
 
-use crate::calls::call_of;
 use commands::ends_text;
 use hushlang::{Call, Piece, Word};
+use hushlang_parts::call_of;
 use std::alloc::{AllocError, Global};
 
 /// Whether a call is an `exit` with a number, and no variable is in its words.

@@ -1,8 +1,9 @@
 //! The text of a command that is read a second time, and its words.
-ghost use Rattle.std.specs.Prelude.{◌≡◌, [], false, map, unwrap_or, IfOk, OnOk};
+ghost use Rattle.std.specs.Prelude.{◌≡◌, [], map, unwrap_or, IfOk, OnOk};
 ghost use Rattle.hushlang_old.specs.OldFields as says;
 ghost use Rattle.hushlang_old.specs.OldFieldsShown as shown;
 
+use hushlang_parts::unescaped;
 use std::alloc::{AllocError, Global};
 
 /// What the next byte is.
@@ -28,21 +29,6 @@ struct Reading {
     begun: bool,
     double: bool,
     place: Place,
-}
-
-/// Bytes without the backslash before each byte (`unbackslash`). Errors: memory ran out.
-pub fn unescaped(alloc: Global, word: &[u8]) -> Result<Vec<u8>, AllocError>
-    ensures { IfOk result (λ bytes. bytes.items ≡ says.unescaped false word.now) }
-{
-    let mut bytes = Vec::new(alloc);
-    let mut behind = false;
-    for byte in word {
-        behind = *byte == b'\\' && !behind;
-        if !behind {
-            bytes.push(*byte)?;
-        }
-    }
-    Ok(bytes)
 }
 
 /// Whether a backslash is put before a byte in double quotes.

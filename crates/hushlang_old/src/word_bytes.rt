@@ -4,9 +4,11 @@ ghost use Rattle.std.specs.List.{list_any};
 ghost use Rattle.hushlang.specs.Expansion as expansion;
 ghost use Rattle.hushlang.specs.TreesShown as view;
 ghost use Rattle.hushlang_old.specs.OldFields as says;
+ghost use Rattle.hushlang_parts.specs.ReadBytes.{is_newline};
 
 use crate::constant::is_constant_word;
 use hushlang::{Piece, Vars, Word};
+use hushlang_parts::have_quotes;
 use itoa::Buffer;
 use std::alloc::{AllocError, Global};
 
@@ -68,24 +70,6 @@ pub fn inserted<V: Vars>(alloc: Global, word: &Word, vars: &V) -> Result<Vec<u8>
     newlines_to_spaces(alloc, &bytes)
 }
 
-fn is_mark(piece: &Piece) -> bool
-    ensures { result ≡ says.is_mark (view.piece piece.now) }
-{
-    match piece {
-        Piece::Bytes(_) => false,
-        Piece::Mark => true,
-        Piece::Var { name: _, split: _ } => false,
-        Piece::Status => false,
-    }
-}
-
-/// Whether quotes are among pieces.
-pub fn have_quotes(pieces: &[Piece]) -> bool
-    ensures { result ≡ list_any (λ piece. says.is_mark (view.piece piece)) pieces.now }
-{
-    pieces.iter().any(|piece| is_mark(piece))
-}
-
 /// Adds a word to the text of a command.
 fn append_word<V: Vars>(
     alloc: Global,
@@ -110,7 +94,7 @@ fn append_word<V: Vars>(
 
 /// Whether a newline is among some bytes.
 fn has_newline(bytes: &[u8]) -> bool
-    ensures { result ≡ list_any says.is_newline bytes.now }
+    ensures { result ≡ list_any is_newline bytes.now }
 {
     bytes.iter().any(|byte| *byte == b'\n')
 }

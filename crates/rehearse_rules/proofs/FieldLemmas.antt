@@ -8,7 +8,7 @@ use Rattle.rehearse_terms.specs.declared.shell.Shell.{Shell}
 use Rattle.rehearse_terms.specs.declared.shell.Shell.TheVariants.{Profile, Old2023, Old2025, Modern2025}
 use Rattle.rehearse_terms.specs.State.{Text}
 use Rattle.rehearse_rules.specs.ByShell.{fields_in}
-use Rattle.hushlang_old.proofs.WordLemmas.{constant_words}
+use Rattle.hushlang_old.proofs.OldFieldLemmas.{constant_words}
 use Rattle.hushlang_modern.proofs.FieldLemmas as modern
 
 constant_at : (b c : Bool) (found known : List Text) → Some known ≡ (if b && c then Some found else None) → b ≡ true

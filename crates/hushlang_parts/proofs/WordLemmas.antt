@@ -1,5 +1,5 @@
 -- Words and their pieces: what loops over them keep, and the one field of a word that nothing can change.
-use Rattle.std.proofs.Common.{◌≡◌, ◌∙◌, refl, sym, ap, ℕ, Bool, true, false, ◌&&◌, ◌||◌, List, [], ◌∷◌, ◌++◌, map, if◌then◌else◌, unwrap_or, append_assoc, append-nil, arith}
+use Rattle.std.proofs.Common.{◌≡◌, ◌∙◌, refl, sym, ap, ℕ, Bool, true, false, ◌&&◌, ◌||◌, List, [], ◌∷◌, ◌++◌, map, if◌then◌else◌, append_assoc, append-nil, arith}
 use Rattle.std.specs.List.{list_all, list_any, flat_map, filter}
 use Rattle.std.proofs.lemmas.Bool.{and_parts}
 use Rattle.std.proofs.lemmas.List.Folds.{list_all-map}
@@ -8,10 +8,10 @@ use Rattle.hushlang.specs.Tree.{Word, Piece}
 use Rattle.hushlang.specs.TreesShown as view
 use Rattle.hushlang.specs.declared.tree.Word.{Word as Code}
 use Rattle.hushlang.specs.declared.tree.Piece.{Piece as CodePiece}
-use Rattle.hushlang.specs.Expansion.{Atom, Kept, Separator, Mark, Parameters, atoms_of_piece, atoms, onto_first, cut, is_field, kept_bytes, fields_of_word, all_bytes, joined, fields}
+use Rattle.hushlang.specs.Expansion.{Atom, Kept, Separator, Mark, Parameters, atoms_of_piece, atoms, onto_first, cut, is_field, kept_bytes, fields_of_word, all_bytes, joined}
 use Rattle.hushlang.specs.KnownFields.{is_constant, is_constant_word, are_constant}
-use Rattle.hushlang_old.specs.OldFields.{has_bytes, command_text, reread, old_fields}
-use Rattle.hushlang_old.specs.OldFieldsShown.{is_something}
+use Rattle.hushlang_parts.specs.Pieces.{is_something}
+use Rattle.hushlang_parts.specs.ReadBytes.{has_bytes}
 
 -- ---- a test of all or any
 
@@ -123,16 +123,3 @@ one_field p word e =
 -- the first of words that nothing can change, and those behind it
 pub constant_first : (word : Word) (these rest : List Word) → these ≡ word ∷ rest → are_constant these ≡ true → (is_constant_word word ≡ true) × (are_constant rest ≡ true)
 constant_first word these rest first e = and_parts (is_constant_word word) (are_constant rest) (ap are_constant (sym first) ∙ e)
-
--- ---- the words of a command
-
--- one without a variable is not read again
-pub constant_words : (p : Parameters) (words : List Word) → are_constant words ≡ true → old_fields p words ≡ fields p words
-unfolding old_fields
-constant_words p words e =
-    ap (λ constant. if constant then fields p words else unwrap_or (reread (command_text p words)) []) e
-
-pub reread_words : (p : Parameters) (words : List Word) → are_constant words ≡ false → old_fields p words ≡ unwrap_or (reread (command_text p words)) []
-unfolding old_fields
-reread_words p words e =
-    ap (λ constant. if constant then fields p words else unwrap_or (reread (command_text p words)) []) e

@@ -1,0 +1,4 @@
+pub mod WordLemmas
+pub mod LoopLemmas
+pub mod NestLemmas
+pub mod NestViewLemmas
