@@ -16,6 +16,8 @@ TABLE = Path(f"{REPOSITORY}/docs/COMPATIBILITY.md").read_text(encoding="utf-8")
 UBTOOL, SANDBOXES = sys.argv[1], {"2023.01": sys.argv[2], "2025.01": sys.argv[3]}
 DEVICES = "6"
 FAILURES = range(3)
+# Reasons to stop that the two listings show by themselves.
+UNKNOWN, BROKEN = "a command that is not listed", "a fault behind which the shell reads address 0"
 cases = Counter()
 
 
@@ -34,11 +36,11 @@ def holds(name, is_so):
 
 class Script:
     """A script: its lines, its variables, the kind of its image, and for each shell the row that is named and the lines that are
-    said; and what ubtool lists of it, without --failures and with so many."""
+    said; why a rehearsal by a shell of U-Boot stops; and what ubtool lists of it, without --failures and with so many."""
 
     def __init__(self, number, lines):
         self.number, self.block, self.kind, self.entries = number, "\n".join(lines), "image", b""
-        self.row, self.said, self.varies = {}, {"2023.01": "", "modern": ""}, False
+        self.row, self.said, self.varies, self.reason = {}, {"2023.01": "", "modern": ""}, False, ""
         for line in lines:
             self.takes(line)
         self.ours, self.few = "", []
@@ -47,6 +49,8 @@ class Script:
         """Takes a line of the block in."""
         if line == "imported":
             self.kind = "imported"
+        elif line.startswith("stops: "):
+            self.reason = line[7:]
         elif line == "modern differs: likewise":
             self.row["modern"], self.said["modern"] = self.row["2023.01"], self.said["2023.01"]
         elif found := re.match(r"(modern (?:differs|varies)|differs): (.*)", line):
@@ -204,26 +208,37 @@ def beside(ours, their):
 
 
 def with_shell(shell, folder, count, kind="scripts"):
-    """How ubtool's listings with --shell are beside those of the shell's sandbox, without messages: a verdict for each number;
-    and how many are the same and stop. After `exit` in `bootcmd` the modern shell lists `prompt` for
+    """How ubtool's listings with --shell are beside those of the shell's sandbox, without messages: a verdict for each number, and
+    why it stops, as far as the listings show it; and how many are the same and stop. After `exit` in `bootcmd` the modern shell lists `prompt` for
     `end`. Where it gives up it lists `panic`, without the name of the text."""
-    verdicts = []
+    verdicts, reasons = [], []
     for number in range(1, count + 1):
         image = f"{folder if folder.startswith('random.') else '.'}/{number}.stored"
         their = re.sub("^prompt ", "end ", theirs(folder, number, "echoed"), flags=re.M)
         ours = re.sub("^stop panic .*", "panic", rehearsed(image, "--shell", shell), flags=re.M)
         verdicts.append(beside(ours, their))
+        reasons.append(UNKNOWN if "\nstop unknown " in ours else BROKEN if "\nbroken\n" in their else "")
         if verdicts[-1] not in ("same", "stops"):
             entries = Path(image).read_bytes()[4:].replace(b"\0", b"\n").decode("latin-1")
             same(f"with --shell {shell}: {entries}", verdicts[-1], "")
     alike, stops = verdicts.count("same"), verdicts.count("stops")
     print(f"compared with --shell {shell}: {alike} {kind} the same, {stops} that stop", flush=True)
-    return verdicts, alike, stops
+    return verdicts, reasons, alike, stops
+
+
+def told_reasons(shell):
+    """How many scripts the page says that a shell stops at, by the reason."""
+    part = re.search(r"^Why it stops.*?\n\n(.*?)\n\n", TABLE, re.M | re.S)[1]
+    head, _, *lines = [re.split(" *[|] *", it.replace("\\|", "\1")) for it in part.split("\n")]
+    counts = {it[1].replace("\1", "|"): it[head.index(f"`{shell}`")] for it in lines}
+    return {reason: int(count) for reason, count in counts.items() if count}
 
 
 def compare_shell(shell, folder, scripts):
-    """All scripts with --shell, and what the page says of how many are the same and stop."""
-    verdicts, alike, stops = with_shell(shell, folder, len(scripts))
+    """All scripts with --shell, and what the page says of how many are the same, and how many stop, and why."""
+    verdicts, reasons, alike, stops = with_shell(shell, folder, len(scripts))
+    found = [shown or it.reason for it, verdict, shown in zip(scripts, verdicts, reasons) if verdict == "stops"]
+    same(f"why --shell {shell} stops", str(sorted(Counter(found).items())), str(sorted(told_reasons(shell).items())))
     holds(f"--shell {shell}: {alike} the same, {stops} that stop, in the table",
           re.search(f"^\\| `{re.escape(shell)}` \\| {alike} of {alike + stops} \\| {stops}", TABLE, re.M))
     return verdicts
@@ -244,7 +259,7 @@ def compare_random(shell, version, kind):
     os.mkdir(folder)
     subprocess.run([f"{PARTS}/random_scripts", count, os.environ.get("UBTOOL_SEED", "1")], cwd=folder, check=True)
     run_shell(folder, version, kind, count)
-    _, alike, _ = with_shell(shell, folder, int(count), "random scripts")
+    _, _, alike, _ = with_shell(shell, folder, int(count), "random scripts")
     holds(f"--shell {shell}: {alike} of {count} random scripts the same", 5 * alike >= int(count))
 
 
