@@ -457,3 +457,18 @@ a shell of setenv
   !
   ! For more information, try '--help'.
   [2]
+
+a first text in one line that lacks its end, by the old shell: nothing of it is run
+  $ script open 'bootcmd=load; if load; then echo a' $'lines=load\nif load; then echo a'
+  $ ubtool rehearse -c open.config -d devices --shell old z
+  run .
+  unset z
+  end 0
+  done
+
+and of one with a line before it that would be run, it is not said what is
+  $ ubtool rehearse -c open.config -d devices --shell old -b lines z
+  run .
+  unset z
+  stop unsupported lines
+  done
