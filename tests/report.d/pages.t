@@ -312,3 +312,10 @@ without Graphviz
   [1]
   $ grep -c 'There are no pictures, since Graphviz or python3 is not installed' board.html
   1
+
+a text by which the shell gives up: no boot
+  $ echo load >load.devices; printf 'bootcmd=load; fi\n' >gives_up.env
+  $ marked report --text gives_up.env -d load.devices --shell modern -o gives_up.html; by_part gives_up.html verdict
+  Does not boot, though nothing fails.
+  If every command succeeds, it resets or hangs the board at the text of bootcmd, by which the shell gives up (stop panic bootcmd).
+  No run with at most 2 failures boots.
