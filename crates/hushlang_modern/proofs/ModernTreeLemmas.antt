@@ -4,16 +4,14 @@ use Rattle.hushlang.specs.Tree as tree
 use Rattle.hushlang.specs.Tree.{Script, Command, IsProper, IsProperCommand}
 use Rattle.hushlang.specs.declared.tree.Op.{Op}
 use Rattle.hushlang_parts.specs.Nests as nests
-use Rattle.hushlang_parts.specs.Nests.{is_in, is_do}
 use Rattle.hushlang_parts.specs.declared.part.Part.{Part}
 use Rattle.hushlang_parts.specs.declared.part.Part.TheVariants as p
 use Rattle.hushlang_parts.specs.declared.reserved.Reserved.{Reserved}
-use Rattle.hushlang_parts.specs.declared.reserved.Reserved.TheVariants as r
 use Rattle.hushlang_parts.proofs.NestLemmas as nesting
 use Rattle.hushlang_parts.proofs.NestLemmas.{IsNest, IsGone}
-use Rattle.hushlang_modern.specs.ModernTokens.{FoundWord, Token, Word, NewLine, Semicolon, Ampersand, Joins, FoundTokens, modern_tokens}
+use Rattle.hushlang_modern.specs.ModernTokens.{FoundWord, Token, Word, NewLine, Semicolon, Ampersand, Bar, Joins, Opening, Closing, FoundTokens, modern_tokens}
 use Rattle.hushlang_modern.specs.ModernWords.{word_of, is_sure, reserved_in, is_sign, name_in, is_strange, is_assignment, value_of, is_hazard}
-use Rattle.hushlang_modern.specs.ModernTrees.{ModernText, Read, Unread, Building, nothing_built, part_in, Step, Goes, Stops, has_values, has_words, has_begun, has_command, command_of, without_words, command_ended, opened, needs_command, gone_to, goes_on, reserved_read, with_word, with_assignment, word_begun, command_begun, plain_word, first_word, command_word, named, word_at, all_ended, list_separated, words_ended, end_at, joined_by, read_token, read_tokens, text_in, text_of_step, text_of_tokens, modern_text}
+use Rattle.hushlang_modern.specs.ModernTrees.{ModernText, Read, Unread, Building, nothing_built, part_in, Step, Goes, Stops, has_values, has_words, has_begun, has_command, command_of, without_words, command_ended, opened, needs_command, gone_to, goes_on, reserved_read, with_word, with_assignment, doomed, body_ended, reserved_in_for, stray_word, header_word, word_in_for, tree_or_doom, word_begun, command_begun, plain_word, first_word, command_word, named, word_at, all_ended, list_separated, words_ended, end_at, joined_by, group_begun, ends_group, read_token, read_tokens, text_in, text_of_step, text_of_tokens, modern_text}
 use Rattle.hushlang_modern.specs.declared.stop.Stop.{Stop}
 use Rattle.hushlang_modern.specs.declared.stop.Stop.TheVariants.{Fails, Panics, Unsupported}
 
@@ -68,13 +66,13 @@ gone_by nests.Astray b h = tt
 
 goes_by : (word : Reserved) (b : Building) → IsBuilding b → MayBe (goes_on word b)
 goes_by word b h =
-    either (needs_command (part_in b) word && nests.lacks_command b.nest.block) (Stops Unsupported) (gone_to (nests.goes_on word b.nest) b)
-    tt (gone_by (nests.goes_on word b.nest) b (nesting.gone word b.nest h))
+    either (needs_command (part_in b) word && nests.lacks_command b.nest.block) (Stops Unsupported) (gone_to (nests.goes_on word b.nest) (body_ended word b))
+    tt (gone_by (nests.goes_on word b.nest) (body_ended word b) (nesting.gone word b.nest h))
 
 reserved_by : (word : Reserved) (b : Building) → IsBuilding b → MayBe (reserved_read word b)
 reserved_by word b h =
     either (nests.begins word) (opened word b) (goes_on word b)
-    (either (nests.is_full b.nest || b.closed) (Stops Unsupported) (Goes (record b { nest = nests.begun word b.nest; fresh = true; plain = false }))
+    (either (nests.is_full b.nest || b.closed) (Stops Unsupported) (Goes (record b { nest = nests.begun word b.nest; fresh = true; plain = false; untouched = false; alone = b.untouched }))
     tt (nesting.opened word b.nest h))
     (goes_by word b h)
 
@@ -85,7 +83,7 @@ begun_words w b h =
     either b.closed (Stops Panics) _ tt
     (either (b.fresh && is_hazard w) (Stops Unsupported) _ tt
     (either (is_assignment w) (with_assignment (value_of w) b) (word_begun w b)
-    (either (is_strange (value_of w).0) (Stops Unsupported) (Goes (record b { values = b.values ++ value_of w ∷ []; fresh = false })) tt h)
+    (either (is_strange (value_of w).0) (Stops Unsupported) (Goes (record b { values = b.values ++ value_of w ∷ []; fresh = false; untouched = false })) tt h)
     (either (has_values b.values && not (is_sure w)) (Stops Unsupported) (Goes (record (with_word w b) { values = [] })) tt h)))
 
 first_by : (found : Option Reserved) (w : FoundWord) (b : Building) → IsBuilding b → MayBe (elim found [ Some word ↦ reserved_read word b | None ↦ command_begun w b ])
@@ -103,15 +101,20 @@ named_by None b h = tt
 named_by (Some name) b h =
     either (is_strange name) (Stops Unsupported) (Goes (record b { nest = nests.named name b.nest })) tt (nesting.named_is name b.nest h)
 
+header_by : (found : Option Reserved) (w : FoundWord) (b : Building) → IsBuilding b → MayBe (elim found [ Some word ↦ reserved_in_for word b | None ↦ stray_word w b ])
+header_by (Some word) w b h = either (nests.begins word) (Stops Unsupported) (goes_on word b) tt (goes_by word b h)
+header_by None w b h = either (is_sign w) (Stops Unsupported) (Goes (doomed (with_word w b))) tt h
+
+in_for_by : (w : FoundWord) (b : Building) → IsBuilding b → MayBe (word_in_for w b)
+in_for_by w b h = either (has_words b.words) (Goes (with_word w b)) (header_word w b) h (header_by (reserved_in w) w b h)
+
 word_by : (part : Part) (w : FoundWord) (b : Building) → IsBuilding b → MayBe (word_at part w b)
 word_by p.Name w b h =
     either (is_sign w || w.quoted) (Stops Unsupported) (named (name_in w) b) tt (named_by (name_in w) b h)
-word_by p.In w b h =
-    either (is_in (reserved_in w)) (goes_on r.In b) _ (goes_by r.In b h)
-    (either (is_do (reserved_in w)) (goes_on r.Do b) (Stops Unsupported) (goes_by r.Do b h) tt)
+word_by p.In w b h = in_for_by w b h
 word_by p.Words w b h =
     either (is_sign w && not (has_words b.words)) (Stops Unsupported) (Goes (with_word w b)) tt h
-word_by p.Do w b h = either (is_do (reserved_in w)) (goes_on r.Do b) (Stops Unsupported) (goes_by r.Do b h) tt
+word_by p.Do w b h = in_for_by w b h
 word_by p.Outside w b h = command_by w b h
 word_by p.Condition w b h = command_by w b h
 word_by (p.Arm further) w b h = command_by w b h
@@ -141,6 +144,9 @@ token_by NewLine b h = end_by (part_in b) true b h
 token_by Semicolon b h = end_by (part_in b) false b h
 token_by Ampersand b h =
     either (nests.is_header (part_in b) || not b.plain) (Stops Unsupported) (Goes (list_separated b)) tt (separated_building b h)
+token_by Bar b h = either (nests.is_header (part_in b) || has_command b) (Stops Unsupported) (Goes b) tt h
+token_by (Opening quoted) b h = either (quoted && b.fresh) (Stops Unsupported) (Goes group_begun) tt nesting.nothing
+token_by Closing b h = either (has_begun b) (Goes b) (Stops (cond (ends_group b) Unsupported Panics)) h tt
 token_by (Joins op) b h = either (nests.is_header (part_in b)) (Stops Unsupported) (Goes (joined_by op b)) tt (joined_building op b h)
 
 next_by : (next : Step) (tokens : List Token) → ((b : Building) → IsBuilding b → MayBe (read_tokens tokens b)) → MayBe next → MayBe (elim next [ Stops stop ↦ Stops stop | Goes b ↦ read_tokens tokens b ])
@@ -157,15 +163,19 @@ abbrev IsTree : ModernText → Type 0
 IsTree (Unread stop) = Unit {0}
 IsTree (Read script) = IsProper script
 
-closed_by : (is : Bool) (tree : Script) → IsProper tree → IsTree (cond is (Unread Fails) (Read tree))
-closed_by true tree h = tt
-closed_by false tree h = h
+doom_by : (doom : Option Stop) (tree : Script) → IsProper tree → IsTree (tree_or_doom doom tree)
+doom_by (Some stop) tree h = tt
+doom_by None tree h = h
+
+closed_by : (is : Bool) (doom : Option Stop) (tree : Script) → IsProper tree → IsTree (cond is (Unread Fails) (tree_or_doom doom tree))
+closed_by true doom tree h = tt
+closed_by false doom tree h = doom_by doom tree h
 
 text_by : (stop : Option Stop) (quoted : Bool) (b : Building) → IsBuilding b → IsTree (text_in stop quoted b)
 text_by (Some stop) quoted b h = tt
 text_by None quoted b h =
     let ended = (all_ended b).nest in
-    closed_by (nests.is_open b.nest) (nests.script_in ended) (nesting.script_is ended (all_ended_building b h))
+    closed_by (nests.is_open b.nest) b.doom (nests.script_in ended) (nesting.script_is ended (all_ended_building b h))
 
 step_by : (stop : Option Stop) (quoted : Bool) (step : Step) → MayBe step → IsTree (text_of_step stop quoted step)
 step_by stop quoted (Stops first) h = tt

@@ -19,7 +19,10 @@ token (code.Word w) = says.Word (word w)
 token code.NewLine = says.NewLine
 token code.Semicolon = says.Semicolon
 token code.Ampersand = says.Ampersand
+token code.Bar = says.Bar
 token (code.Joins op) = says.Joins op
+token (code.Opening quoted) = says.Opening quoted
+token code.Closing = says.Closing
 
 abbrev pub found : FoundTokens → says.FoundTokens
 found f = record { tokens = map token f.tokens.items; stop = f.stop; quoted = f.quoted }
@@ -59,6 +62,7 @@ reading r = record {
   doubled = r.doubled;
   assigns = r.assigns;
   double = r.double;
+  groups = r.groups;
   place = place r.place r.name.items;
 }
 

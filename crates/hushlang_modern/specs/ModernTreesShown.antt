@@ -17,6 +17,10 @@ building b = record {
   closed = b.closed;
   fresh = b.fresh;
   plain = b.plain;
+  grouped = b.grouped;
+  untouched = b.untouched;
+  alone = b.alone;
+  doom = b.doom;
 }
 
 -- how the reading stops, or what is built

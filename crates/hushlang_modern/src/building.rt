@@ -15,14 +15,16 @@ use crate::modern_text::ModernText;
 use crate::modern_tokens::{FoundWord, Token};
 use crate::stop::Stop;
 use hushlang::{Command, Op, Word};
-use hushlang_parts::{Gone, Nest, Part, Reserved, begins, call_of, is_do, is_header, is_in};
+use hushlang_parts::{Gone, Nest, Part, Reserved, begins, call_of, is_header};
 use std::alloc::{AllocError, Global};
 use std::mem;
 
 /// The block on the way and the compound commands that are open; the assignments on the way; the words
 /// on the way; whether a compound command has just ended; whether the next word may be the first one
-/// behind `if`, `while` or `until` to have a byte; and whether the list on the way has no operator, and
-/// is the first of the text or behind another one of its block.
+/// behind `if`, `while` or `until` to have a byte; whether the list on the way has no operator, and
+/// is the first of the text or behind another one of its block; whether all this is in a group; whether
+/// no word has been read; whether none had been as the last compound command began; and what becomes of
+/// the text as it is run, if a `for` in it is none.
 #[derive(Drop)]
 pub(crate) struct Building {
     alloc: Global,
@@ -32,6 +34,10 @@ pub(crate) struct Building {
     closed: bool,
     fresh: bool,
     plain: bool,
+    grouped: bool,
+    untouched: bool,
+    alone: bool,
+    doom: Option<Stop>,
 }
 
 impl Building {
@@ -47,6 +53,10 @@ impl Building {
             closed: false,
             fresh: false,
             plain: true,
+            grouped: false,
+            untouched: true,
+            alone: false,
+            doom: None,
         }
     }
 
@@ -101,7 +111,32 @@ impl Building {
         self.nest.begin(word)?;
         self.fresh = true;
         self.plain = false;
+        self.alone = self.untouched;
+        self.untouched = false;
         Ok(None)
+    }
+
+    /// The shell gives up where it runs the innermost `for`.
+    fn doom(&mut self)
+        ensures { shown.building self.new ≡ says.doomed (shown.building self.old) }
+    {
+        if self.doom.is_some() {
+            return;
+        }
+        self.doom = Some(if self.alone {
+            Stop::Panics
+        } else {
+            Stop::Unsupported
+        });
+    }
+
+    /// The body of a `for` ends at this word, if it ends one.
+    fn end_body(&mut self, word: Reserved)
+        ensures { shown.building self.new ≡ says.body_ended word (shown.building self.old) }
+    {
+        if is_end_of_for(self.nest.part(), word) && self.nest.lacks_command() {
+            self.doom();
+        }
     }
 
     /// A reserved word goes on with the innermost compound command, or ends it.
@@ -112,6 +147,7 @@ impl Building {
         if needs_command(self.nest.part(), word) && self.nest.lacks_command() {
             return Ok(Some(Stop::Unsupported));
         }
+        self.end_body(word);
         match self.nest.go_on(word)? {
             Gone::Entered => self.closed = false,
             Gone::Closed => {
@@ -142,6 +178,7 @@ impl Building {
     {
         self.words.push(word)?;
         self.fresh = false;
+        self.untouched = false;
         Ok(())
     }
 
@@ -155,6 +192,7 @@ impl Building {
         }
         self.values.push(value)?;
         self.fresh = false;
+        self.untouched = false;
         Ok(None)
     }
 
@@ -248,19 +286,43 @@ impl Building {
         Ok(None)
     }
 
-    /// The word behind the name of a `for`.
-    fn read_behind_name(&mut self, word: FoundWord) -> Result<Option<Stop>, AllocError>
-        ensures { IfOk result (λ stop. says.behind_name (tokens.word word)
+    /// A reserved word behind the name of a `for`, or behind its words.
+    fn read_reserved_in_for(&mut self, word: Reserved) -> Result<Option<Stop>, AllocError>
+        ensures { IfOk result (λ stop. says.reserved_in_for word (shown.building self.old)
+            ≡ shown.unless stop (shown.building self.new)) }
+    {
+        if begins(word) {
+            return Ok(Some(Stop::Unsupported));
+        }
+        self.go_on(word)
+    }
+
+    /// The first word of a command where a `for` has none.
+    fn read_stray_word(&mut self, word: FoundWord) -> Result<Option<Stop>, AllocError>
+        ensures { IfOk result (λ stop. says.stray_word (tokens.word word)
             (shown.building self.old) ≡ shown.unless stop (shown.building self.new)) }
     {
-        let reserved = reserved_in(&word);
-        if is_in(reserved) {
-            return self.go_on(Reserved::In);
+        if is_sign(&word) {
+            return Ok(Some(Stop::Unsupported));
         }
-        if is_do(reserved) {
-            return self.go_on(Reserved::Do);
+        self.push_word(word)?;
+        self.doom();
+        Ok(None)
+    }
+
+    /// A word behind the name of a `for`, or behind its words.
+    fn read_word_in_for(&mut self, word: FoundWord) -> Result<Option<Stop>, AllocError>
+        ensures { IfOk result (λ stop. says.word_in_for (tokens.word word)
+            (shown.building self.old) ≡ shown.unless stop (shown.building self.new)) }
+    {
+        if !self.words.is_empty() {
+            self.push_word(word)?;
+            return Ok(None);
         }
-        Ok(Some(Stop::Unsupported))
+        match reserved_in(&word) {
+            Some(reserved) => self.read_reserved_in_for(reserved),
+            None => self.read_stray_word(word),
+        }
     }
 
     /// A word.
@@ -271,10 +333,8 @@ impl Building {
     {
         match self.nest.part() {
             Part::Name => self.read_name(word),
-            Part::In => self.read_behind_name(word),
+            Part::In | Part::Do => self.read_word_in_for(word),
             Part::Words => self.read_word_of_for(word),
-            Part::Do if is_do(reserved_in(&word)) => self.go_on(Reserved::Do),
-            Part::Do => Ok(Some(Stop::Unsupported)),
             _ => self.read_command_word(word),
         }
     }
@@ -343,7 +403,7 @@ impl Building {
             Part::Name => return Ok(Some(Stop::Unsupported)),
             Part::Words if newline && self.words.is_empty() => (),
             Part::Words => self.end_words()?,
-            Part::In | Part::Do => (),
+            Part::In | Part::Do => self.words = Vec::new(self.alloc),
             _ => self.separate()?,
         }
         Ok(None)
@@ -361,6 +421,65 @@ impl Building {
         Ok(None)
     }
 
+    /// A single `|`.
+    fn read_bar(&self) -> Option<Stop>
+        ensures { says.bar_in (shown.building self.now) ≡ shown.unless result (shown.building self.now) }
+    {
+        if is_header(self.nest.part()) || self.has_command() {
+            return Some(Stop::Unsupported);
+        }
+        None
+    }
+
+    /// A group begins.
+    fn begin_group(&mut self)
+        ensures { shown.building self.new ≡ says.group_begun }
+    {
+        self.nest = Nest::new(self.alloc);
+        self.values = Vec::new(self.alloc);
+        self.words = Vec::new(self.alloc);
+        self.closed = false;
+        self.fresh = false;
+        self.plain = true;
+        self.grouped = true;
+        self.untouched = true;
+        self.alone = false;
+        self.doom = None;
+    }
+
+    /// `(`, and whether it stands behind a word that has quotes.
+    fn read_opening(&mut self, quoted: bool) -> Option<Stop>
+        ensures { says.opening_in quoted (shown.building self.old)
+            ≡ shown.unless result (shown.building self.new) }
+    {
+        if quoted && self.fresh {
+            return Some(Stop::Unsupported);
+        }
+        self.begin_group();
+        None
+    }
+
+    /// Whether a `)` ends a group.
+    fn ends_group(&self) -> bool
+        ensures { result ≡ says.ends_group (shown.building self.now) }
+    {
+        self.grouped && !self.nest.is_open() && !self.nest.lacks_command()
+    }
+
+    /// A `)` that no byte of a word is in front of.
+    fn read_closing(&self) -> Option<Stop>
+        ensures { says.closing_in (shown.building self.now) ≡ shown.unless result (shown.building self.now) }
+    {
+        if self.has_begun() {
+            return None;
+        }
+        Some(if self.ends_group() {
+            Stop::Unsupported
+        } else {
+            Stop::Panics
+        })
+    }
+
     /// Reads a token. The answer is how the reading stops there, if it does.
     #[tactic(auto, unfolding(crate::specs::ModernTrees::read_token))]
     pub(crate) fn read_token(&mut self, token: Token) -> Result<Option<Stop>, AllocError>
@@ -372,7 +491,10 @@ impl Building {
             Token::NewLine => self.end(true),
             Token::Semicolon => self.end(false),
             Token::Ampersand => self.end_at_ampersand(),
+            Token::Bar => Ok(self.read_bar()),
             Token::Joins(op) => self.join(op),
+            Token::Opening(quoted) => Ok(self.read_opening(quoted)),
+            Token::Closing => Ok(self.read_closing()),
         }
     }
 
@@ -393,6 +515,9 @@ impl Building {
     {
         if self.nest.is_open() {
             return Ok(ModernText::Unread(Stop::Fails));
+        }
+        if let Some(stop) = self.doom {
+            return Ok(ModernText::Unread(stop));
         }
         self.end_list()?;
         Ok(ModernText::Read(self.nest.take_script()))
@@ -433,6 +558,15 @@ fn needs_command(part: Part, word: Reserved) -> bool
         (Part::Condition, Reserved::Then) => true,
         (Part::Arm(further), Reserved::Elif) => further,
         (Part::Test, Reserved::Do) => true,
+        _ => false,
+    }
+}
+
+/// Whether the body of a `for` ends at this word, in this part.
+fn is_end_of_for(part: Part, word: Reserved) -> bool
+    ensures { result ≡ says.is_end_of_for part word }
+{
+    match (part, word) {
         (Part::Each, Reserved::Done) => true,
         _ => false,
     }

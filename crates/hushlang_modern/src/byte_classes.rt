@@ -55,11 +55,11 @@ pub(crate) fn is_escapable(byte: u8) -> bool
     byte == b'"' || byte == b'$' || byte == b'`' || byte == b'\\'
 }
 
-/// Whether a byte behind `$` is a parameter that is not followed.
+/// Whether a byte behind `$` is a parameter of the shell.
 pub(crate) fn is_parameter(byte: u8) -> bool
     ensures { result ≡ says.is_parameter byte }
 {
-    byte == b'#' || byte == b'*' || byte == b'@' || byte == b'-'
+    is_digit(byte) || byte == b'#' || byte == b'*' || byte == b'@' || byte == b'-'
 }
 
 /// Whether a byte is `(` or `)`.
@@ -74,6 +74,26 @@ pub(crate) fn is_operator(byte: u8) -> bool
     ensures { result ≡ says.is_operator byte }
 {
     byte == b'%' || byte == b':' || byte == b'-' || byte == b'=' || byte == b'+' || byte == b'?'
+}
+
+/// Whether some bytes are `{` or `}`.
+pub(crate) fn is_brace(bytes: &[u8]) -> bool
+    ensures { result ≡ says.is_brace bytes.now }
+{
+    match bytes {
+        [byte] => *byte == b'{' || *byte == b'}',
+        _ => false,
+    }
+}
+
+/// Whether some bytes begin with a digit.
+pub(crate) fn begins_with_digit(bytes: &[u8]) -> bool
+    ensures { result ≡ classes.begins says.is_digit bytes.now }
+{
+    match bytes {
+        [byte, ..] => is_digit(*byte),
+        [] => false,
+    }
 }
 
 /// Whether some bytes begin with a letter or `_`.

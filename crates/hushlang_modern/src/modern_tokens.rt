@@ -5,14 +5,17 @@ ghost use Rattle.hushlang_modern.specs.ModernTokens as says;
 ghost use Rattle.hushlang_modern.specs.ModernTokensShown as shown;
 
 use crate::byte_classes::{
-    begins_name, begins_with_name, is_digit, is_escapable, is_foreign, is_guarded, is_name,
-    is_name_byte, is_operator, is_parameter, is_parenthesis,
+    begins_name, begins_with_digit, begins_with_name, is_brace, is_digit, is_escapable, is_foreign,
+    is_guarded, is_name, is_name_byte, is_operator, is_parameter, is_parenthesis,
 };
 use crate::stop::Stop;
 use hushlang::{Op, Piece};
 use hushlang_parts::{Gathered, sign_of};
 use std::alloc::{AllocError, Global};
 use std::mem;
+
+/// How many groups may be in one another.
+const MAX_NESTING: usize = 64;
 
 /// A word: its pieces; whether it has quotes or a backslash; and whether it is an assignment where one
 /// may stand.
@@ -34,8 +37,15 @@ pub(crate) enum Token {
     Semicolon,
     /// A single `&`.
     Ampersand,
+    /// A single `|`.
+    Bar,
     /// `&&` or `||`.
     Joins(Op),
+    /// `(`, and whether it stands behind a word that has quotes.
+    Opening(bool),
+    /// A `)` in front of which no byte of a word is. It is one of the next word, if a word is in front of
+    /// it.
+    Closing,
 }
 
 /// What the next byte is. The bytes of a name stand in the reading.
@@ -69,7 +79,7 @@ enum Place {
 
 /// A text that is being read: the tokens that are whole; of the word on the way what has been read,
 /// whether it has quotes or a backslash, whether double quotes, and whether it is an assignment; whether
-/// double quotes are open; what the next byte is; and the bytes of a name.
+/// double quotes are open; how many groups are; what the next byte is; and the bytes of a name.
 #[derive(Drop)]
 struct TextReading {
     alloc: Global,
@@ -79,6 +89,7 @@ struct TextReading {
     doubled: bool,
     assigns: bool,
     double: bool,
+    groups: usize,
     place: Place,
     name: Vec<u8>,
 }
@@ -104,6 +115,7 @@ impl TextReading {
             doubled: false,
             assigns: false,
             double: false,
+            groups: 0,
             place: Place::Open,
             name: Vec::new(alloc),
         }
@@ -188,6 +200,57 @@ impl TextReading {
         Ok(())
     }
 
+    /// Whether the word on the way is `{` or `}`.
+    fn is_lone_brace(&self) -> bool
+        ensures { result ≡ says.is_lone_brace (shown.reading self.now) }
+    {
+        !(self.quoted || self.word.has_pieces()) && is_brace(self.word.bytes())
+    }
+
+    /// Reads `(`.
+    fn read_opening(&mut self) -> Result<(), AllocError>
+        ensures { OnOk result
+            (shown.reading self.new ≡ says.read_opening (shown.reading self.old)) }
+    {
+        if self.groups >= MAX_NESTING {
+            self.place = Place::Stopped(Stop::Unsupported);
+            return Ok(());
+        }
+        self.tokens.push(Token::Opening(self.quoted))?;
+        self.word = Gathered::new(self.alloc);
+        self.quoted = false;
+        self.doubled = false;
+        self.assigns = false;
+        self.groups += 1;
+        Ok(())
+    }
+
+    /// Reads `)`.
+    fn read_closing(&mut self) -> Result<(), AllocError>
+        ensures { OnOk result
+            (shown.reading self.new ≡ says.read_closing (shown.reading self.old)) }
+    {
+        if !self.has_begun() {
+            self.tokens.push(Token::Closing)?;
+        }
+        self.read_ordinary(b')')
+    }
+
+    /// Reads `(` or `)`.
+    fn read_parenthesis(&mut self, byte: u8) -> Result<(), AllocError>
+        ensures { OnOk result (shown.reading self.new
+            ≡ says.read_parenthesis byte (shown.reading self.old)) }
+    {
+        if self.is_lone_brace() {
+            self.place = Place::Stopped(Stop::Unsupported);
+            return Ok(());
+        }
+        if byte == b'(' {
+            return self.read_opening();
+        }
+        self.read_closing()
+    }
+
     /// Reads a byte outside all quotes that is neither a quote, a backslash nor `$`.
     fn read_bare(&mut self, byte: u8) -> Result<(), AllocError>
         ensures { OnOk result
@@ -206,8 +269,7 @@ impl TextReading {
             return Ok(());
         }
         if is_parenthesis(byte) {
-            self.place = Place::Stopped(Stop::Unsupported);
-            return Ok(());
+            return self.read_parenthesis(byte);
         }
         self.read_ordinary(byte)
     }
@@ -380,6 +442,55 @@ impl TextReading {
         Ok(())
     }
 
+    /// Adds the variable that has the name `-`.
+    fn push_minus(&mut self) -> Result<(), AllocError>
+        requires { self.old.place ≡ shown.at_open }
+        ensures { OnOk result (shown.reading self.new
+            ≡ says.variable (shown.one 45) (shown.reading self.old)) }
+    {
+        self.name.clear();
+        self.name.push(b'-')?;
+        self.push_variable()
+    }
+
+    /// Adds the quotes round a parameter of the shell, if they make a word of it.
+    fn mark_parameter(&mut self, byte: u8) -> Result<(), AllocError>
+        ensures { OnOk result (shown.reading self.new
+            ≡ says.parameter_marked byte (shown.reading self.old)) }
+    {
+        if self.double && byte != b'@' {
+            return self.word.push_piece(Piece::Mark);
+        }
+        Ok(())
+    }
+
+    /// Adds the number of the words that the shell has, if the parameter is that.
+    fn count_parameter(&mut self, byte: u8) -> Result<(), AllocError>
+        ensures { OnOk result (shown.reading self.new
+            ≡ says.parameter_counted byte (shown.reading self.old)) }
+    {
+        if byte == b'#' {
+            return self.word.push_byte(b'0');
+        }
+        Ok(())
+    }
+
+    /// Adds a parameter of the shell.
+    fn push_parameter(&mut self, byte: u8) -> Result<(), AllocError>
+        requires { self.old.place ≡ shown.at_open }
+        ensures { OnOk result (shown.reading self.new
+            ≡ says.with_parameter byte (shown.reading self.old)) }
+    {
+        if byte == b'-' {
+            return self.push_minus();
+        }
+        self.mark_parameter(byte)?;
+        self.count_parameter(byte)?;
+        self.quoted = true;
+        self.doubled = true;
+        Ok(())
+    }
+
     /// Reads the byte behind `$`.
     fn read_dollar(&mut self, byte: u8) -> Result<(), AllocError>
         ensures { OnOk result
@@ -397,9 +508,9 @@ impl TextReading {
             self.place = Place::Brace;
             return Ok(());
         }
-        if is_digit(byte) || is_parameter(byte) {
-            self.place = Place::Stopped(Stop::Unsupported);
-            return Ok(());
+        if is_parameter(byte) {
+            self.place = Place::Open;
+            return self.push_parameter(byte);
         }
         self.word.push_byte(b'$')?;
         self.place = Place::Open;
@@ -426,11 +537,10 @@ impl TextReading {
         ensures { OnOk result (shown.reading self.new
             ≡ says.read_brace_first byte (shown.reading self.old)) }
     {
-        if begins_name(byte) || byte == b'?' {
+        if is_name_byte(byte) || byte == b'?' {
             return self.begin_brace(byte);
         }
         let unsupported = is_foreign(byte)
-            || is_digit(byte)
             || is_parameter(byte)
             || byte == b'$'
             || byte == b'!'
@@ -443,16 +553,27 @@ impl TextReading {
         Ok(())
     }
 
-    /// Braces end behind a name or `?`.
+    /// Braces end behind a name, a digit or `?`.
     fn end_brace(&mut self) -> Result<(), AllocError>
         ensures { OnOk result (shown.reading self.new
             ≡ says.brace_ended self.old.name.items (shown.reading self.old)) }
     {
         self.place = Place::Open;
+        if begins_with_digit(&self.name) {
+            return self.push_parameter(b'0');
+        }
         if begins_with_name(&self.name) {
             return self.push_variable();
         }
         self.push_value(Piece::Status)
+    }
+
+    /// Whether a byte in braces is a fault behind a digit.
+    fn spoils(&self, byte: u8) -> bool
+        ensures { result ≡ says.spoils self.now.name.items byte }
+    {
+        let may_be = is_foreign(byte) || is_digit(byte) || is_operator(byte) || byte == b'\\';
+        begins_with_digit(&self.name) && !may_be
     }
 
     /// Reads a further byte in braces.
@@ -463,6 +584,10 @@ impl TextReading {
     {
         if byte == b'}' {
             return self.end_brace();
+        }
+        if self.spoils(byte) {
+            self.place = Place::Stopped(Stop::Fails);
+            return Ok(());
         }
         if is_foreign(byte) || byte == b'=' || !begins_with_name(&self.name) {
             self.place = Place::Stopped(Stop::Unsupported);
@@ -538,12 +663,12 @@ impl TextReading {
         ensures { OnOk result (shown.reading self.new
             ≡ says.read_single_joint op byte (shown.reading self.old)) }
     {
-        if op == Op::Or || byte == b'\\' {
+        if byte == b'\\' {
             self.place = Place::Stopped(Stop::Unsupported);
             return Ok(());
         }
         self.place = Place::Open;
-        self.push_token(Token::Ampersand)?;
+        self.push_token(single(op))?;
         self.read_open(byte)
     }
 
@@ -593,17 +718,21 @@ impl TextReading {
 
     /// How the reading stops if the text ends here.
     fn stop(&self) -> Option<Stop>
-        ensures { result ≡ says.stop_at (shown.place self.now.place self.now.name.items) self.now.double }
+        ensures { result ≡ says.stop_in (shown.reading self.now) }
     {
+        if 0 < self.groups && self.is_lone_brace() {
+            return Some(Stop::Unsupported);
+        }
         match self.place {
             Place::Stopped(stop) => Some(stop),
-            Place::Behind(_) | Place::Joint(Op::Or) => Some(Stop::Unsupported),
-            Place::Brace => {
-                let begun = !self.name.is_empty();
-                Some(if begun { Stop::Panics } else { Stop::Fails })
-            }
+            Place::Behind(_) => Some(Stop::Unsupported),
+            Place::Brace => Some(stop_in_brace(&self.name)),
             Place::Single => Some(Stop::Fails),
-            _ => if self.double { Some(Stop::Fails) } else { None },
+            _ => if self.double || 0 < self.groups {
+                Some(Stop::Fails)
+            } else {
+                None
+            },
         }
     }
 
@@ -617,7 +746,7 @@ impl TextReading {
                 self.place = Place::Open;
                 self.push_variable()?;
             }
-            Place::Joint(Op::And) => self.push_token(Token::Ampersand)?,
+            Place::Joint(op) => self.push_token(single(op))?,
             _ => (),
         }
         self.place = Place::Open;
@@ -648,6 +777,30 @@ impl TextReading {
     {
         self.read_all(text)?;
         self.take_tokens()
+    }
+}
+
+/// A single `&` or `|`.
+fn single(op: Op) -> Token
+    ensures { shown.token result ≡ says.single op }
+{
+    match op {
+        Op::And => Token::Ampersand,
+        Op::Or => Token::Bar,
+    }
+}
+
+/// How the reading stops if the text ends in braces, behind these bytes.
+fn stop_in_brace(name: &[u8]) -> Stop
+    ensures { result ≡ says.stop_in_brace name.now }
+{
+    match name {
+        [] => Stop::Fails,
+        [first, ..] => if is_digit(*first) {
+            Stop::Fails
+        } else {
+            Stop::Panics
+        },
     }
 }
 
