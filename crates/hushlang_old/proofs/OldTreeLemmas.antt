@@ -5,7 +5,7 @@ use Rattle.hushlang.specs.declared.tree.Op.{Op}
 use Rattle.hushlang.specs.declared.tree.Op.TheVariants.{And}
 use Rattle.hushlang_parts.specs.Nests as nests
 use Rattle.hushlang_parts.specs.Nests.{is_in, is_do}
-use Rattle.hushlang_old.specs.OldTokens.{FoundWord, Token, Word, Ends, Joins, old_tokens}
+use Rattle.hushlang_old.specs.OldTokens.{FoundWord, Token, Word, Ends, Joins, Breaks, old_tokens}
 use Rattle.hushlang_old.specs.OldTrees.{Building, nothing_built, is_open, part_in, drops_number, command_of, command_ended, joined_by, opened, needs_command, gone_to, goes_on, reserved_read, with_word, is_void, is_assignment, changes_shell, command_begun, reserved_in, first_word, is_constant_word, is_constant_with, begun_behind, further_word, command_word, name_in, named, word_at, word_of, list_separated, end_at, has_command, joined_in, read_token, read_tokens, tree_in, tree_behind, tree_of_tokens, is_fault, have_fault, tokens_have_fault, old_tree_of, has_fault}
 use Rattle.hushlang_parts.specs.declared.part.Part.{Part}
 use Rattle.hushlang_parts.specs.declared.part.Part.TheVariants as p
@@ -144,6 +144,7 @@ token_by (Word w) b h = word_by (part_in b) w b h
 token_by Ends b h = end_by (part_in b) b h
 token_by (Joins op) b h =
     when_else (nests.is_header (part_in b)) (Some (joined_in op b)) (one_building (has_command b) (joined_by op b) b (joined_building op b h) h)
+token_by Breaks b h = tt
 
 next_by : (next : Option Building) (tokens : List Token) → ((b : Building) → IsBuilding b → MayBe (read_tokens tokens b)) → MayBe next → MayBe (elim next [ None ↦ None | Some b ↦ read_tokens tokens b ])
 next_by None tokens more h = tt

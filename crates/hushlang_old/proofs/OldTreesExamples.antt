@@ -57,6 +57,21 @@ own_words : map (old_tree_of false) (codes "a\\\nb" ∷ codes "a\\" ∷ codes "$
 unfolding old_tree_of
 own_words = refl
 
+-- double quotes that are open at the end hold the newline there. None is added to a text whose first one is at its end
+open_quotes : map (old_tree_of false) (codes "\"a" ∷ codes "\"a\n" ∷ codes "\"a\n\n" ∷ codes "a\"$b" ∷ codes "\"" ∷ codes "a\nb \"c;\n" ∷ codes "if a; then b; fi \"" ∷ codes "if \"a" ∷ [])
+    ≡ one (Mark ∷ Bytes (codes "a\n") ∷ []) ∷ one (Mark ∷ Bytes (codes "a\n") ∷ []) ∷ one (Mark ∷ Bytes (codes "a\n\n\n") ∷ [])
+    ∷ one (Mark ∷ Bytes (codes "a") ∷ Var (codes "b") false ∷ Bytes (codes "\n") ∷ []) ∷ one (Mark ∷ Bytes (codes "\n") ∷ [])
+    ∷ Some (Runs (Starts (Simple ((Bytes (codes "a") ∷ []) ∷ [])) Alone) (Runs (Starts (Simple ((Bytes (codes "b") ∷ []) ∷ (Mark ∷ Bytes (codes "c;\n\n") ∷ []) ∷ [])) Alone) Empty))
+    ∷ None ∷ None ∷ []
+unfolding old_tree_of
+open_quotes = refl
+
+-- in braces other bytes are in a name than elsewhere, and it may be empty
+brace_names : map (old_tree_of false) (codes "${}" ∷ codes "\"${a b}\"" ∷ codes "${'a=\"{\n;#&}" ∷ codes "${a$?}" ∷ [])
+    ≡ one (Var [] true ∷ []) ∷ one (Mark ∷ Var (codes "a b") false ∷ []) ∷ one (Var (codes "'a=\"{\n;#&") true ∷ []) ∷ one (Var (codes "a$?") true ∷ []) ∷ []
+unfolding old_tree_of
+brace_names = refl
+
 -- ---- assignments
 
 abbrev assignments : List Pair
@@ -119,7 +134,7 @@ nothing_of texts = map (λ text. None) texts
 -- quotes, braces and signs
 abbrev broken_words : List Text
 broken_words =
-    codes "'a" ∷ codes "\"a" ∷ codes "${a" ∷ codes "${a:-b}" ∷ codes "${}" ∷ codes "a & b" ∷ codes "a | b" ∷ codes "a &| b" ∷ codes "a &" ∷ codes "'a\\' b"
+    codes "'a" ∷ codes "${a" ∷ codes "${a:-b}" ∷ codes "${$?}" ∷ codes "${a\\b}" ∷ (36 ∷ 123 ∷ 4 ∷ 125 ∷ []) ∷ codes "a & b" ∷ codes "a | b" ∷ codes "a &| b" ∷ codes "a &" ∷ codes "'a\\' b"
     ∷ codes "\"it's\"" ∷ (97 ∷ 3 ∷ []) ∷ (97 ∷ 4 ∷ []) ∷ (97 ∷ 128 ∷ []) ∷ (39 ∷ 200 ∷ 39 ∷ []) ∷ (92 ∷ 200 ∷ []) ∷ []
 
 broken_words_refused : map (old_tree_of false) broken_words ≡ nothing_of broken_words
@@ -153,19 +168,20 @@ abbrev faulty : List Text
 faulty =
     codes "if a; then b" ∷ codes "if a" ∷ codes "if a; then b; else c # fi" ∷ codes "if a; then if b; then c; fi; d" ∷ codes "while a; do" ∷ codes "for x in a b" ∷ codes "for x in a; do b; done; until c\nd" ∷ codes "if a && "
     ∷ codes "fi" ∷ codes "a; \"done\" b; c" ∷ codes "a\nthen\tb" ∷ codes "if a; fi" ∷ codes "if a; then b; else c; elif d; then e; fi" ∷ codes "while a; then b; done" ∷ codes "for x in a; do b; fi" ∷ codes "if a; then b; fi fi" ∷ codes "if a; then b; fi c # d"
-    ∷ codes "for fi in a; do b; done" ∷ codes "for x in if a; do b; done" ∷ []
+    ∷ codes "for fi in a; do b; done" ∷ codes "for x in if a; do b; done"
+    ∷ codes "'a" ∷ codes "if 'a" ∷ codes "a; 'b\\" ∷ codes "\"it's\"" ∷ codes "${a" ∷ codes "if a; then \"${" ∷ codes "a & 'b' ${c:-d}" ∷ codes "a &" ∷ codes "| b" ∷ codes "if a |& b; then" ∷ []
 
 -- texts without one, and those of which it is not known
 abbrev faultless : List Text
 faultless =
-    codes "" ∷ codes "a; b" ∷ codes "if a; then b; fi" ∷ codes "'a" ∷ codes "if 'a" ∷ codes "if a; b; fi; if c" ∷ codes "fi; a" ∷ codes "fi&&a" ∷ codes "fi||a" ∷ codes "x=$a fi" ∷ codes "if a; then b; fi c;" ∷ codes "for" ∷ codes "for x" ∷ codes "if ${a:-b}; then" ∷ codes "if; then b fi" ∷ codes "if a; then elif b; then c; fi" ∷ codes "while; do b; done" ∷ codes "\\fi" ∷ codes "a fi" ∷ codes "for x a" ∷ codes "for x in a; b" ∷ []
+    codes "" ∷ codes "a; b" ∷ codes "if a; then b; fi" ∷ codes "\"a" ∷ codes "fi; 'a" ∷ codes "${$? '" ∷ codes "if a; b; fi; if c" ∷ codes "fi; a" ∷ codes "fi&&a" ∷ codes "fi||a" ∷ codes "x=$a fi" ∷ codes "if a; then b; fi c;" ∷ codes "for" ∷ codes "for x" ∷ codes "if ${a:-b}; then" ∷ codes "if; then b fi" ∷ codes "if a; then elif b; then c; fi" ∷ codes "while; do b; done" ∷ codes "\\fi" ∷ codes "a fi" ∷ codes "for x a" ∷ codes "for x in a; b" ∷ []
 
 faults : map (has_fault false) (faulty ++ faultless) ≡ map (λ text. true) faulty ++ map (λ text. false) faultless
 unfolding has_fault
 faults = refl
 
 -- a fault is not always that the end is missing
-ends_missing : map (lacks_end false) (codes "if a; then b" ∷ codes "while a; do" ∷ codes "for x in a b" ∷ codes "if a && " ∷ codes "fi" ∷ codes "a; if fi" ∷ codes "a" ∷ []) ≡ true ∷ true ∷ true ∷ true ∷ false ∷ false ∷ false ∷ []
+ends_missing : map (lacks_end false) (codes "if a; then \"b" ∷ codes "while a; do" ∷ codes "for x in a b" ∷ codes "if a && " ∷ codes "fi" ∷ codes "a; if fi" ∷ codes "a" ∷ []) ≡ true ∷ true ∷ true ∷ true ∷ false ∷ false ∷ false ∷ []
 unfolding lacks_end
 ends_missing = refl
 

@@ -1,10 +1,10 @@
 -- The tokens of a text as U-Boot's old shell reads it (common/cli_hush.c, `parse_stream`), byte by byte. A text that has a
 -- construct that is not followed here has none: bytes 3 and 4 and those above 127, which that shell uses itself or takes for
--- signed numbers; a single `&` or `|`; quotes or a brace without an end; braces with other bytes than those of
--- `is_brace_byte`; and single quotes that end behind a backslash.
-use Rattle.std.specs.Prelude.{ℕ, ◌==◌, Bool, true, false, not, ◌&&◌, ◌||◌, List, [], ◌∷◌, ◌++◌, nat_le, if◌then◌else◌, Option, Some, None}
+-- signed numbers; a backslash, a `:` or a first `$` in braces; and single quotes that end behind a backslash.
+use Rattle.std.specs.Prelude.{ℕ, ◌+◌, ◌==◌, Bool, true, false, not, ◌&&◌, ◌||◌, List, [], ◌∷◌, ◌++◌, length, nat_le, if◌then◌else◌, Option, Some, None}
+use Rattle.std.specs.List.{prefix_len}
 use Rattle.text.specs.Bytes as ascii
-use Rattle.hushlang.specs.ByteClasses.{is_between, is_brace_byte}
+use Rattle.hushlang.specs.ByteClasses.{is_between}
 use Rattle.hushlang.specs.Tree as tree
 use Rattle.hushlang.specs.Tree.{Piece}
 use Rattle.hushlang.specs.declared.tree.Op.{Op}
@@ -27,6 +27,8 @@ pub data Token : Type 0 where
   Ends : Token
   -- `&&` or `||`
   Joins : (op : Op) → Token
+  -- a fault: a single `&` or `|`, or single quotes or a brace without an end
+  Breaks : Token
 
 -- what the next byte is
 pub data Place : Type 0 where
@@ -44,7 +46,8 @@ pub data Place : Type 0 where
   Comment : Place
   -- the byte behind the first `&` or `|`
   Joint : (op : Op) → Place
-  -- a byte behind what is not followed
+  -- a byte behind a fault, and behind what is not followed
+  Broken : Place
   Refused : Place
 
 -- the tokens that are whole; of the word on the way what has been read, whether it has quotes and whether a backslash; whether
@@ -155,16 +158,23 @@ read_name name byte r =
     if is_name_byte byte then at_place (Name (name ++ byte ∷ [])) r
     else read_open byte (at_place Open (variable name r))
 
+-- a byte in braces that may change what they say (`lookup_param`, `get_local_var`); of a backslash only the byte behind it is left
+abbrev pub acts_in_brace : (is_first : Bool) → ℕ → Bool
+acts_in_brace is_first byte =
+    is_foreign byte || byte == ascii.backslash || byte == ascii.colon || byte == ascii.dollar && is_first
+
+-- other bytes are in the name, which may be empty
 abbrev pub read_brace : (name : List ℕ) → ℕ → Reading → Reading
 read_brace name byte r =
-    if byte == ascii.close_brace && has_bytes name then at_place Open (variable name r)
-    else at_place (if is_brace_byte byte then Brace (name ++ byte ∷ []) else Refused) r
+    if byte == ascii.close_brace then at_place Open (variable name r)
+    else at_place (if acts_in_brace (not (has_bytes name)) byte then Refused else Brace (name ++ byte ∷ [])) r
 
 abbrev pub read_comment : ℕ → Reading → Reading
 read_comment byte r = if is_newline byte then with_token true Ends (at_place Open r) else r
 
 abbrev pub read_joint : Op → ℕ → Reading → Reading
-read_joint op byte r = if byte == sign_of op then with_token false (Joins op) (at_place Open r) else at_place Refused r
+read_joint op byte r =
+    if byte == sign_of op then with_token false (Joins op) (at_place Open r) else with_token false Breaks (at_place Broken r)
 
 abbrev pub read_at : Place → ℕ → Reading → Reading
 read_at Open byte r = read_open byte r
@@ -175,6 +185,7 @@ read_at (Name name) byte r = read_name name byte r
 read_at (Brace name) byte r = read_brace name byte r
 read_at Comment byte r = read_comment byte r
 read_at (Joint op) byte r = read_joint op byte r
+read_at Broken byte r = r
 read_at Refused byte r = r
 
 unfoldable pub read : ℕ → Reading → Reading
@@ -186,17 +197,31 @@ read_all (byte ∷ bytes) r = read_all bytes (read byte r)
 
 -- ---- the whole
 
--- the tokens, if the text ends where a byte may act and outside double quotes
-abbrev pub tokens_read : Place → (double : Bool) → List Token → Option (List Token)
-tokens_read Open false tokens = Some tokens
-tokens_read place double tokens = None
+-- The tokens, if all are followed. If double quotes are open at the end, the newline there is in the last word, and no blank or
+-- newline is behind that
+abbrev pub tokens_read : Place → Reading → Option (List Token)
+tokens_read Open r = Some (r.tokens ++ found (not r.double) r ++ Ends ∷ [])
+tokens_read (Single behind) r = Some (r.tokens ++ Breaks ∷ [])
+tokens_read (Brace name) r = Some (r.tokens ++ Breaks ∷ [])
+tokens_read Broken r = Some r.tokens
+tokens_read place r = None
 
 abbrev pub tokens_in : Reading → Option (List Token)
-tokens_in r = tokens_read r.place r.double (r.tokens ++ found true r ++ Ends ∷ [])
+tokens_in r = tokens_read r.place r
 
--- a newline is added at the end of a text (`parse_string_outer`)
+abbrev pub is_no_newline : ℕ → Bool
+is_no_newline byte = not (is_newline byte)
+
+-- whether the first newline of a text is its last byte
+abbrev pub ends_line : (text : List ℕ) → Bool
+ends_line text = prefix_len is_no_newline text + 1 == length text
+
+-- a newline is added at the end of other texts (`parse_string_outer`)
+abbrev pub end_of : (text : List ℕ) → List ℕ
+end_of text = if ends_line text then [] else ascii.newline ∷ []
+
 abbrev pub tokens_behind : (text : List ℕ) → Reading → Option (List Token)
-tokens_behind text r = tokens_in (read ascii.newline (read_all text r))
+tokens_behind text r = tokens_in (read_all (end_of text) (read_all text r))
 
 unfoldable pub old_tokens : (text : List ℕ) → Option (List Token)
 old_tokens text = tokens_behind text nothing_read

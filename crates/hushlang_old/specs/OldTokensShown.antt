@@ -19,6 +19,7 @@ abbrev pub token : Token → says.Token
 token (code.Word w) = says.Word (word w)
 token code.Ends = says.Ends
 token (code.Joins op) = says.Joins op
+token code.Breaks = says.Breaks
 
 abbrev pub tokens : Vec Token Global → List says.Token
 tokens found = map token found.items
@@ -33,6 +34,7 @@ place places.Name name = says.Name name
 place places.Brace name = says.Brace name
 place places.Comment name = says.Comment
 place (places.Joint op) name = says.Joint op
+place places.Broken name = says.Broken
 place places.Refused name = says.Refused
 
 abbrev pub at_open : Place

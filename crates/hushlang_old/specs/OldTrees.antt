@@ -17,7 +17,7 @@ use Rattle.commands.specs.UBootExit.{ends_text}
 use Rattle.hushlang_parts.specs.Nests as nests
 use Rattle.hushlang_parts.specs.Nests.{Nest, word_of_if, word_of_loop, reserved_bytes, reserved_among, is_in, is_do}
 use Rattle.hushlang_parts.specs.Pieces.{only_bytes}
-use Rattle.hushlang_old.specs.OldTokens.{FoundWord, Token, Word, Ends, Joins, is_letter, is_name_byte, read, read_open, old_tokens}
+use Rattle.hushlang_old.specs.OldTokens.{FoundWord, Token, Word, Ends, Joins, Breaks, is_letter, is_name_byte, read, read_open, old_tokens}
 use Rattle.hushlang_parts.specs.declared.part.Part.{Part}
 use Rattle.hushlang_parts.specs.declared.part.Part.TheVariants as p
 use Rattle.hushlang_parts.specs.declared.reserved.Reserved.{Reserved}
@@ -261,6 +261,7 @@ unfoldable pub read_token : Token → Building → Option Building
 read_token (Word w) b = word_at (part_in b) w b
 read_token Ends b = end_at (part_in b) b
 read_token (Joins op) b = join_in op b
+read_token Breaks b = None
 
 abbrev pub read_tokens : List Token → Building → Option Building
 read_tokens [] b = Some b
@@ -330,6 +331,7 @@ abbrev pub is_fault : Token → Building → Bool
 is_fault (Word w) b = w.apart && is_wrong (part_in b) w b
 is_fault Ends b = false
 is_fault (Joins op) b = false
+is_fault Breaks b = true
 
 -- whether the first token that is not followed is a fault; or if there is none, whether a compound command is open at the end
 abbrev pub have_fault : List Token → Building → Bool

@@ -277,6 +277,7 @@ impl Building {
         match token {
             Token::Word(word) => word.apart && self.is_wrong(word),
             Token::Ends | Token::Joins(_) => false,
+            Token::Breaks => true,
         }
     }
 
@@ -323,6 +324,7 @@ impl Building {
             Token::Word(word) => self.read_word(word),
             Token::Ends => self.end(),
             Token::Joins(op) => self.join(op),
+            Token::Breaks => Ok(false),
         }
     }
 

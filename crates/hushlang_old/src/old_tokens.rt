@@ -1,5 +1,6 @@
 //! The tokens of a text, byte by byte.
-ghost use Rattle.std.specs.Prelude.{◌≡◌, false, option_map, IfOk, OnOk};
+ghost use Rattle.std.specs.Prelude.{◌≡◌, ◌≤◌, length, false, option_map, IfOk, OnOk};
+ghost use Rattle.std.specs.List.{prefix_len};
 ghost use Rattle.hushlang.specs.ByteClasses as classes;
 ghost use Rattle.hushlang_old.specs.OldTokens as says;
 ghost use Rattle.hushlang_old.specs.OldTokensShown as shown;
@@ -28,6 +29,8 @@ pub(crate) enum Token {
     Ends,
     /// `&&` or `||`.
     Joins(Op),
+    /// A fault: a single `&` or `|`, or single quotes or a brace without an end.
+    Breaks,
 }
 
 /// What the next byte is. The bytes of a name stand in the reading.
@@ -49,6 +52,8 @@ enum Place {
     Comment,
     /// The byte behind the first `&` or `|`.
     Joint(Op),
+    /// A byte behind a fault.
+    Broken,
     /// A byte behind what is not followed.
     Refused,
 }
@@ -88,19 +93,32 @@ pub(crate) fn is_name_byte(byte: u8) -> bool
     is_letter(byte) || is_between(b'0', b'9', byte) || byte == b'_'
 }
 
-fn is_brace_exception(byte: u8) -> bool
-    ensures { result ≡ classes.is_brace_exception byte }
+/// Whether a byte in braces may change what they say.
+fn acts_in_brace(is_first: bool, byte: u8) -> bool
+    ensures { result ≡ says.acts_in_brace is_first byte }
 {
-    match byte {
-        b'$' | b'{' | b'}' | b':' | b'=' | b'"' | b'\'' | b'\\' | b'`' => true,
-        _ => false,
-    }
+    is_foreign(byte) || byte == b'\\' || byte == b':' || (byte == b'$' && is_first)
 }
 
-fn is_brace_byte(byte: u8) -> bool
-    ensures { result ≡ classes.is_brace_byte byte }
+fn is_no_newline(byte: u8) -> bool
+    ensures { result ≡ says.is_no_newline byte }
 {
-    is_between(b'!', b'~', byte) && !is_brace_exception(byte)
+    byte != b'\n'
+}
+
+/// How many bytes are before the first newline of a text.
+fn first_line_len(text: &[u8]) -> usize
+    ensures value { result ≡ prefix_len says.is_no_newline text.now }
+    ensures within { result ≤ length text.now }
+{
+    text.iter().take_while(|byte| is_no_newline(**byte)).count()
+}
+
+/// Whether the first newline of a text is its last byte.
+fn ends_line(text: &[u8]) -> bool
+    ensures { result ≡ says.ends_line text.now }
+{
+    first_line_len(text) + 1 == text.len()
 }
 
 impl TextReading {
@@ -308,15 +326,15 @@ impl TextReading {
         ensures { OnOk result (shown.reading self.new
             ≡ says.read_brace self.old.name.items byte (shown.reading self.old)) }
     {
-        if byte == b'}' && !self.name.is_empty() {
+        if byte == b'}' {
             self.place = Place::Open;
             return self.push_variable();
         }
-        if is_brace_byte(byte) {
-            self.name.push(byte)?;
-        } else {
+        if acts_in_brace(self.name.is_empty(), byte) {
             self.place = Place::Refused;
+            return Ok(());
         }
+        self.name.push(byte)?;
         Ok(())
     }
 
@@ -341,8 +359,8 @@ impl TextReading {
             self.place = Place::Open;
             return self.push_token(false, Token::Joins(op));
         }
-        self.place = Place::Refused;
-        Ok(())
+        self.place = Place::Broken;
+        self.push_token(false, Token::Breaks)
     }
 
     /// Reads a byte.
@@ -359,7 +377,7 @@ impl TextReading {
             Place::Brace => self.read_brace(byte),
             Place::Comment => self.read_comment(byte),
             Place::Joint(op) => self.read_joint(op, byte),
-            Place::Refused => Ok(()),
+            Place::Broken | Place::Refused => Ok(()),
         }
     }
 
@@ -374,28 +392,38 @@ impl TextReading {
         Ok(())
     }
 
-    /// Takes the tokens, if the text ends where a byte may act and outside double quotes.
+    /// Takes the tokens, if all are followed.
     fn take_tokens(&mut self) -> Result<Option<Vec<Token>>, AllocError>
         ensures { IfOk result (λ tokens. option_map shown.tokens tokens
             ≡ says.tokens_in (shown.reading self.old)) }
     {
-        if self.double {
-            return Ok(None);
+        match self.place {
+            Place::Open => self.push_token(!self.double, Token::Ends)?,
+            Place::Single(_) | Place::Brace => self.tokens.push(Token::Breaks)?,
+            Place::Broken => (),
+            _ => return Ok(None),
         }
-        let Place::Open = self.place else {
-            return Ok(None);
-        };
-        self.push_token(true, Token::Ends)?;
         Ok(Some(mem::replace(&mut self.tokens, Vec::new(self.alloc))))
     }
 
-    /// Reads a text to its end, and a newline behind it.
+    /// Reads the newline that is added at the end of this text.
+    fn read_end(&mut self, text: &[u8]) -> Result<(), AllocError>
+        ensures { OnOk result (shown.reading self.new
+            ≡ says.read_all (says.end_of text.now) (shown.reading self.old)) }
+    {
+        if ends_line(text) {
+            return Ok(());
+        }
+        self.read(b'\n')
+    }
+
+    /// Reads a text to its end.
     fn read_text(&mut self, text: &[u8]) -> Result<Option<Vec<Token>>, AllocError>
         ensures { IfOk result (λ tokens. option_map shown.tokens tokens
             ≡ says.tokens_behind text.now (shown.reading self.old)) }
     {
         self.read_all(text)?;
-        self.read(b'\n')?;
+        self.read_end(text)?;
         self.take_tokens()
     }
 }
