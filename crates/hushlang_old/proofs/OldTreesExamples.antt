@@ -174,7 +174,7 @@ faulty =
 -- texts without one, and those of which it is not known
 abbrev faultless : List Text
 faultless =
-    codes "" ∷ codes "a; b" ∷ codes "if a; then b; fi" ∷ codes "\"a" ∷ codes "fi; 'a" ∷ codes "${$? '" ∷ codes "if a; b; fi; if c" ∷ codes "fi; a" ∷ codes "fi&&a" ∷ codes "fi||a" ∷ codes "x=$a fi" ∷ codes "if a; then b; fi c;" ∷ codes "for" ∷ codes "for x" ∷ codes "if ${a:-b}; then" ∷ codes "if; then b fi" ∷ codes "if a; then elif b; then c; fi" ∷ codes "while; do b; done" ∷ codes "\\fi" ∷ codes "a fi" ∷ codes "for x a" ∷ codes "for x in a; b" ∷ []
+    codes "" ∷ codes "a; b" ∷ codes "if a; then b; fi" ∷ codes "\"a" ∷ codes "fi; 'a" ∷ codes "${$? '" ∷ codes "if a; b; fi; if c" ∷ codes "fi; a" ∷ codes "fi&&a" ∷ codes "fi||a" ∷ codes "x=$a fi" ∷ codes "if a; then b; fi c;" ∷ codes "a; for x in do b; done" ∷ codes "a; for in b; do c; done" ∷ codes "for" ∷ codes "for x" ∷ codes "if ${a:-b}; then" ∷ codes "if; then b fi" ∷ codes "if a; then elif b; then c; fi" ∷ codes "while; do b; done" ∷ codes "\\fi" ∷ codes "a fi" ∷ codes "for x a" ∷ codes "for x in a; b" ∷ []
 
 faults : map (has_fault false) (faulty ++ faultless) ≡ map (λ text. true) faulty ++ map (λ text. false) faultless
 unfolding has_fault

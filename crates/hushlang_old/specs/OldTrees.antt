@@ -316,12 +316,19 @@ is_stray part (Some word) = strays part word
 abbrev pub lacks_words : Building → Bool
 lacks_words b = elim b.words [ [] ↦ true | word ∷ words ↦ false ]
 
+-- whether a word is a reserved one, but not `in`, or not `do`
+abbrev pub is_other_than_in : Option Reserved → Bool
+is_other_than_in word = is_some word && not (is_in word)
+
+abbrev pub is_other_than_do : Option Reserved → Bool
+is_other_than_do word = is_some word && not (is_do word)
+
 -- a word that is a fault: any straight behind a compound command; and a reserved word that may not be there, is the name of a
--- `for`, or is the first of its words
+-- `for`, or is the first of its words. `in` for the name, and `do` for the first word, are read, but are not followed
 abbrev pub is_wrong : Part → FoundWord → Building → Bool
-is_wrong p.Name w b = is_some (reserved_in w)
+is_wrong p.Name w b = is_other_than_in (reserved_in w)
 is_wrong p.In w b = false
-is_wrong p.Words w b = lacks_words b && is_some (reserved_in w)
+is_wrong p.Words w b = lacks_words b && is_other_than_do (reserved_in w)
 is_wrong p.Do w b = false
 is_wrong part w b = b.closed || lacks_words b && is_stray part (reserved_in w)
 

@@ -263,8 +263,8 @@ impl Building {
     {
         let part = self.nest.part();
         match part {
-            Part::Name => reserved_in(word).is_some(),
-            Part::Words => self.words.is_empty() && reserved_in(word).is_some(),
+            Part::Name => is_other_than_in(reserved_in(word)),
+            Part::Words => self.words.is_empty() && is_other_than_do(reserved_in(word)),
             Part::In | Part::Do => false,
             _ => self.closed || (self.words.is_empty() && is_stray(part, reserved_in(word))),
         }
@@ -356,6 +356,20 @@ fn needs_command(part: Part, word: Reserved, separated: bool) -> bool
         (Part::Test, Reserved::Do) => true,
         _ => false,
     }
+}
+
+/// Whether a word is a reserved one, and not `in`.
+fn is_other_than_in(word: Option<Reserved>) -> bool
+    ensures { result ≡ says.is_other_than_in word }
+{
+    word.is_some() && !is_in(word)
+}
+
+/// Whether a word is a reserved one, and not `do`.
+fn is_other_than_do(word: Option<Reserved>) -> bool
+    ensures { result ≡ says.is_other_than_do word }
+{
+    word.is_some() && !is_do(word)
 }
 
 /// Whether a reserved word may not be in this part of a compound command.
