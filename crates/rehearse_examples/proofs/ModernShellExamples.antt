@@ -116,8 +116,15 @@ left_texts : started (codes "exit 3") (codes "run t; echo $?") ∷ started (code
 unfolding told_of
 left_texts = refl
 
--- calls that are not followed: `exit` with a number above 255, an option of `setenv`, and one that changes the text that the board runs
-calls : by_modern (codes "echo a; exit 256" ∷ codes "echo a; setenv -f b c" ∷ codes "setenv b c; echo $b; setenv bootcmd d" ∷ codes "echo 1 2 3 4 5 6 7 8 9 a b c d e f g" ∷ [])
+-- options of `setenv`
+options_of_setenv : by_modern (codes "setenv -f - b c; echo $b $?" ∷ codes "setenv -g b c; echo $b $?" ∷ codes "echo a; setenv -f bootcmd" ∷ [])
+    ≡ (codes "c 0\n", End 0) ∷ (codes "1\n", End 0) ∷ (codes "a\n", Unsupported (codes "setenv")) ∷ []
+unfolding told_of
+options_of_setenv = refl
+
+-- calls that are not followed: `exit` with a number above 255, `setenv` with an option alone, and one that changes the text that the
+-- board runs
+calls : by_modern (codes "echo a; exit 256" ∷ codes "echo a; setenv -f" ∷ codes "setenv b c; echo $b; setenv bootcmd d" ∷ codes "echo 1 2 3 4 5 6 7 8 9 a b c d e f g" ∷ [])
     ≡ (codes "a\n", Unsupported (codes "exit")) ∷ (codes "a\n", Unsupported (codes "setenv")) ∷ (codes "c\n", Unsupported (codes "setenv")) ∷ (codes "1 2 3 4 5 6 7 8 9 a b c d e f g\n", End 0) ∷ []
 unfolding told_of
 calls = refl

@@ -217,10 +217,24 @@ empty_value : in_each (codes "x=a; x=; echo $?$x; x=$none; echo $?$x") ≡ (code
 unfolding told_of
 empty_value = refl
 
--- calls that are not followed: an option of `setenv`, an empty name, more than one file among the words of `test`, more than 16 words
-option_of_setenv : in_each (codes "echo a; setenv -f b c; echo $?") ≡ (codes "a\n1\n", End 0) ∷ (codes "a\n", Unsupported (codes "setenv")) ∷ (codes "a\n", Unsupported (codes "setenv")) ∷ []
+-- options of `setenv`: `-f` and `-` are dropped, and by another letter it tells its usage
+option_of_setenv : in_each (codes "setenv -f b c; echo $b $?") ≡ (codes "1\n", End 0) ∷ (codes "c 0\n", End 0) ∷ (codes "c 0\n", End 0) ∷ []
 unfolding told_of
 option_of_setenv = refl
+
+options_of_setenv : in_each (codes "o=-; setenv $o -ff b c -f; echo $b $?; setenv -f b; echo $b $?") ≡ (codes "1\n1\n", End 0) ∷ (codes "c -f 0\n0\n", End 0) ∷ (codes "c -f 0\n0\n", End 0) ∷ []
+unfolding told_of
+options_of_setenv = refl
+
+other_option_of_setenv : in_each (codes "setenv -f -x b; echo $?; setenv -fx b c; echo $? $b") ≡ (codes "1\n1\n", End 0) ∷ (codes "1\n1\n", End 0) ∷ (codes "1\n1\n", End 0) ∷ []
+unfolding told_of
+other_option_of_setenv = refl
+
+-- calls that are not followed: `setenv` with an option alone, an empty name, more than one file among the words of `test`, more than
+-- 16 words
+option_alone : in_each (codes "echo a; setenv -f; echo $?") ≡ (codes "a\n1\n", End 0) ∷ (codes "a\n", Unsupported (codes "setenv")) ∷ (codes "a\n", Unsupported (codes "setenv")) ∷ []
+unfolding told_of
+option_alone = refl
 
 empty_name_of_setenv : in_each (codes "setenv \"\" c; echo $?") ≡ (codes "1\n", End 0) ∷ ([], Unsupported (codes "setenv")) ∷ ([], Unsupported (codes "setenv")) ∷ []
 unfolding told_of

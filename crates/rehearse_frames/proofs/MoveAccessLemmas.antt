@@ -16,21 +16,21 @@ use Rattle.rehearse_terms.specs.State.{Text, get, State}
 use Rattle.rehearse_terms.specs.declared.shell.Shell.{Shell}
 use Rattle.rehearse_terms.specs.declared.shell.Shell.TheVariants.{Profile, Old2023, Old2025, Modern2025}
 use Rattle.rehearse_rules.specs.Parameters.{parameters_in}
-use Rattle.rehearse_rules.specs.ByShell.{unread, leaves_in, status_of_exit, asks_in, truth_in, fields_in, turns_in, skips_rest, status_of_loop, follows, assigned_in, reads_again, follows_turns, status_of_no_block}
+use Rattle.rehearse_rules.specs.ByShell.{unread, leaves_in, status_of_exit, asks_in, truth_in, fields_in, turns_in, skips_rest, status_of_loop, follows, assigned_in, reads_again, follows_turns, status_of_no_block, call_in}
 use Rattle.rehearse_rules.specs.Needs.{effect_now}
-use Rattle.rehearse_rules.specs.Execution.{Limits, Answer, Normal, Exit, Ended, Ending, CutDevices, CutSteps, Unknown, Size, Finished, Unsupported, Panic, Request, go_on, set_status, status_when, goes, holds, begin, finish, tell_or_take, told, told_again, logged, set_environment, device, text_end, run_all, command, simple, sized, assign, assign_local, turns, for_each, begin_turn, run_read, started_text, request_of, test_request, text_failed, turns_of, for_words, for_begun, block_skipped, compound, compound_left, Dry}
+use Rattle.rehearse_rules.specs.Execution.{Limits, Answer, Normal, Exit, Ended, Ending, CutDevices, CutSteps, Unknown, Size, Finished, Unsupported, Panic, Request, go_on, set_status, status_when, goes, holds, begin, finish, tell_or_take, told, told_again, logged, set_environment, device, text_end, run_all, command, simple, sized, assign, assign_local, turns, for_each, begin_turn, run_read, started_text, request_of, test_request, text_failed, turns_of, for_words, for_begun, block_skipped, compound, compound_left, Dry, simple_call}
 use Rattle.rehearse_rules.proofs.CompoundLemmas.{compound_normal, compound_ended}
 use Rattle.rehearse_rules.proofs.GrowingSteps.{Grew, AtLeast-track, Grew-block}
 use Rattle.rehearse_rules.proofs.TakenOutcomes.{KeepsAll, Keeps-script, Keeps-exec}
-use Rattle.rehearse_machine.specs.Frames.{Frame, Lists, Linked, IfCondition, LoopCondition, LoopBody, ForBody, RunNames, RunText, Next, Go, Ask, Stop, tell_or_ask, finish_next, leave, begin_assign, begin_for, begin_arms, begin_read, begin_text, begin_names, begin_exit, fitting, ask, begin_called, begin_fields, counted, begin_command, answered, move, begin_turns, begin_words, CommandEnd, leave_compound, behind_block}
+use Rattle.rehearse_machine.specs.Frames.{Frame, Lists, Linked, IfCondition, LoopCondition, LoopBody, ForBody, RunNames, RunText, Next, Go, Ask, Stop, tell_or_ask, finish_next, leave, begin_assign, begin_for, begin_arms, begin_read, begin_text, begin_names, begin_exit, fitting, ask, begin_called, begin_fields, counted, begin_command, answered, move, begin_turns, begin_words, CommandEnd, leave_compound, behind_block, begin_simple_call}
 use Rattle.rehearse_machine.specs.Meaning.{with, full, script, one, joined_of, arms_of, again, resume, AreProperFrames}
 use Rattle.rehearse_machine.proofs.MoveMeaning.{failed_with_1, turn_more}
 use Rattle.rehearse_machine.proofs.StepBoundLemmas.{closed_exec}
 use Rattle.rehearse_machine.proofs.BoundLemmas.{Cut-block}
 use Rattle.rehearse_reads.specs.Keys.{Access, Reads, Writes, Environment, Status, all_read}
-use Rattle.rehearse_reads.specs.Accesses.{needs_reads, listed_accesses, behind, behind_text, status_written, word_reads, words_reads, sized_accesses, local_accesses, assign_accesses, turns_accesses, turn_accesses, each_accesses, for_accesses, begun_accesses, told_reads, answer_accesses, outcome_accesses, device_accesses, computed_accesses, read_accesses, started_accesses, builtin_accesses, call_accesses, simple_accesses, modern_accesses, turns_of_accesses, for_words_accesses, left_accesses, compound_accesses, nothing_accesses}
+use Rattle.rehearse_reads.specs.Accesses.{needs_reads, listed_accesses, behind, behind_text, status_written, word_reads, words_reads, sized_accesses, local_accesses, assign_accesses, turns_accesses, turn_accesses, each_accesses, for_accesses, begun_accesses, told_reads, answer_accesses, outcome_accesses, device_accesses, computed_accesses, read_accesses, started_accesses, builtin_accesses, call_accesses, simple_accesses, modern_accesses, turns_of_accesses, for_words_accesses, left_accesses, compound_accesses, nothing_accesses, simple_call_accesses}
 use Rattle.rehearse_frames.specs.ToCome.{names_read, of_full, of_script, of_one, of_joined, of_arms, of_again, of_condition, of_choice, of_names, of_frames, of_next, choice, condition, turns_left, of_compound}
-use Rattle.rehearse_frames.specs.MoveAccesses.{of_listed, of_leaving, of_exit, of_telling, of_beginning_for, of_beginning_arms, of_beginning_read, of_beginning_text, of_beginning_names, of_asking, of_builtin, of_call, of_fields, of_command, of_move, of_beginning_turns, of_beginning_words, of_leaving_compound}
+use Rattle.rehearse_frames.specs.MoveAccesses.{of_listed, of_leaving, of_exit, of_telling, of_beginning_for, of_beginning_arms, of_beginning_read, of_beginning_text, of_beginning_names, of_asking, of_builtin, of_call, of_fields, of_command, of_move, of_beginning_turns, of_beginning_words, of_leaving_compound, of_simple_call}
 use Rattle.rehearse_frames.specs.Laws.{MovesComeFirst, OutcomesComeFirst}
 use Rattle.rehearse_frames.proofs.NoneBegun.{nothing_behind, None-block}
 use Rattle.rehearse_frames.proofs.SameAccesses.{either, same_behind, turns_same, closed_accesses}
@@ -219,11 +219,14 @@ module _ (limits : Limits) (wanted : List Text) (w : OutcomeWord) where
           in_front (all_read (needs_reads effect.needs)) (of_asking limits request s) (After (ask limits request fs s)) (device_accesses limits request (with w s)) (Rest fs (device limits request (with w s))) (ask_so request fs s)
       by None None None = stops_so fs (Unknown name) s
 
-  fields_so : (again : Bool) (ws : List Text) (fs : List Frame) (s : State) → of_fields limits again fs ws s ++ After (begin_fields limits again ws fs s) ≡ simple_accesses limits (full limits) (of_full limits) ws (with w s) ++ Rest fs (simple limits again (full limits) ws (with w s))
-  fields_so again [] fs s = refl
-  fields_so again (name ∷ ws) fs s =
+  simple_call_so : (again : Bool) (ws : List Text) (fs : List Frame) (s : State) → of_simple_call limits again fs ws s ++ After (begin_simple_call limits again ws fs s) ≡ simple_call_accesses limits (full limits) (of_full limits) ws (with w s) ++ Rest fs (simple_call limits again (full limits) ws (with w s))
+  simple_call_so again [] fs s = refl
+  simple_call_so again (name ∷ ws) fs s =
       if_so (follows limits.shell limits.devices name ws) (of_call limits again name ws fs s) [] (begin_called limits again (called_by limits.devices name ws) name ws fs s) (Stop (Unsupported name) s) fs (call_accesses limits (full limits) (of_full limits) name ws (with w s)) [] (command limits again (full limits) (called_by limits.devices name ws) name ws (with w s)) (Ended (Unsupported name) (with w s))
       (call_so again name ws fs s) (stops_so fs (Unsupported name) s)
+
+  fields_so : (again : Bool) (ws : List Text) (fs : List Frame) (s : State) → of_fields limits again fs ws s ++ After (begin_fields limits again ws fs s) ≡ simple_accesses limits (full limits) (of_full limits) ws (with w s) ++ Rest fs (simple limits again (full limits) ws (with w s))
+  fields_so again ws = simple_call_so again (call_in limits.shell ws)
 
   counted_so : (f : State → List Access) (next : State → Next) (g : State → List Access) (h : State → Answer) (fs : List Frame) (s : State) → ((t : State) → f t ++ After (next t) ≡ g (with w t) ++ Rest fs (h (with w t)))
       → begun_accesses limits f s ++ After (counted limits next s) ≡ begun_accesses limits g (with w s) ++ Rest fs (begin limits h (with w s))

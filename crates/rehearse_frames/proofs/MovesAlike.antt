@@ -17,9 +17,9 @@ use Rattle.rehearse_terms.specs.declared.shell.Shell.TheVariants.{Profile, Old20
 use Rattle.rehearse_rules.specs.Needs.{effect_now}
 use Rattle.rehearse_rules.proofs.NeedsLemmas.{now_same}
 use Rattle.rehearse_rules.specs.Parameters.{parameters_in}
-use Rattle.rehearse_rules.specs.ByShell.{unread, reads_again, leaves_in, status_of_exit, asks_in, truth_in, fields_in, turns_in, skips_rest, status_of_nothing, status_of_no_block, status_of_loop, status_in_turn, follows, assigned_in, follows_turns, left_status}
+use Rattle.rehearse_rules.specs.ByShell.{unread, reads_again, leaves_in, status_of_exit, asks_in, truth_in, fields_in, turns_in, skips_rest, status_of_nothing, status_of_no_block, status_of_loop, status_in_turn, follows, assigned_in, follows_turns, left_status, call_in}
 use Rattle.rehearse_rules.specs.Execution.{Limits, Ending, End, CutDevices, CutSteps, Unknown, Size, Finished, Unsupported, Request, remember, set_status, set_local, begin_turn, status_when, goes, holds, outcome_when, told, told_again, logged, set_environment, assign_local, text_failed, request_of, test_request, for_begun, block_skipped, compound_left}
-use Rattle.rehearse_machine.specs.Frames.{Frame, Lists, Linked, IfCondition, LoopCondition, LoopBody, ForBody, RunNames, RunText, Next, Go, Ask, Stop, tell_or_ask, finish_next, leave, leave_run, begin_assign, begin_for, begin_arms, begin_read, begin_text, begin_names, begin_exit, begun_text, fitting, ask, begin_called, begin_fields, counted, begin_command, answered, move, begin_turns, begin_words, CommandEnd, leave_compound, behind_block}
+use Rattle.rehearse_machine.specs.Frames.{Frame, Lists, Linked, IfCondition, LoopCondition, LoopBody, ForBody, RunNames, RunText, Next, Go, Ask, Stop, tell_or_ask, finish_next, leave, leave_run, begin_assign, begin_for, begin_arms, begin_read, begin_text, begin_names, begin_exit, begun_text, fitting, ask, begin_called, begin_fields, counted, begin_command, answered, move, begin_turns, begin_words, CommandEnd, leave_compound, behind_block, begin_simple_call}
 use Rattle.rehearse_reads.specs.Keys.{Key, Environment, Local, Status, Access, Reads, Writes, AgreeOn, AreAmong, all_read, ReadsWithin, known_after}
 use Rattle.rehearse_reads.specs.Accesses.{status_written, word_reads, words_reads, setenv_accesses, computed_accesses, needs_reads, told_reads, outcome_accesses, names_written, sized_accesses, local_accesses, assign_accesses, turn_accesses, nothing_accesses, begun_accesses, modern_accesses}
 use Rattle.rehearse_reads.specs.Alike.{AreAbreast, IsCutBy}
@@ -30,7 +30,7 @@ use Rattle.rehearse_reads.proofs.AlikeParts.{further_apart}
 use Rattle.rehearse_reads.proofs.AlikeDevices.{told_alike, met_alike}
 use Rattle.rehearse_reads.proofs.AlikeLoops.{near_turn, near_for, near_skipped}
 use Rattle.rehearse_machine.proofs.ProgressLemmas.{IsQuiet, either-quiet, assign-quiet, fields-quiet, for-quiet, words-quiet}
-use Rattle.rehearse_frames.specs.MoveAccesses.{of_leaving, of_exit, of_telling, of_beginning_for, of_beginning_arms, of_beginning_read, of_beginning_text, of_beginning_names, of_asking, of_listed, of_builtin, of_call, of_fields, of_command, of_move, of_beginning_turns, of_beginning_words, of_leaving_compound}
+use Rattle.rehearse_frames.specs.MoveAccesses.{of_leaving, of_exit, of_telling, of_beginning_for, of_beginning_arms, of_beginning_read, of_beginning_text, of_beginning_names, of_asking, of_listed, of_builtin, of_call, of_fields, of_command, of_move, of_beginning_turns, of_beginning_words, of_leaving_compound, of_simple_call}
 
 -- the steps that were begun before what is next, and the room that it needs for device commands
 abbrev pub next_steps : Next → ℕ
@@ -302,11 +302,14 @@ module _ (limits : Limits) (i j : ℕ) (k l : List LoggedCommand) where
       by None None (Some effect) known s t near w = begins_listed name words effect fs known s t near w
       by None None None known s t near w = stops_alike near
 
-  begins_fields : (again : Bool) (found : List Text) (fs : List Frame) → Moves (begin_fields limits again found fs) (of_fields limits again fs found)
-  begins_fields again [] fs known s t near w = keeps_status limits.shell fs known s t near w
-  begins_fields again (name ∷ words) fs known s t near w =
+  begins_simple_call : (again : Bool) (found : List Text) (fs : List Frame) → Moves (begin_simple_call limits again found fs) (of_simple_call limits again fs found)
+  begins_simple_call again [] fs known s t near w = keeps_status limits.shell fs known s t near w
+  begins_simple_call again (name ∷ words) fs known s t near w =
       moves_if (follows limits.shell limits.devices name words) (begin_called limits again (called_by limits.devices name words) name words fs) (Stop (Unsupported name)) (of_call limits again name words fs) (λ x. [])
       (begins_call again name words fs) (stops (Unsupported name)) known s t near w
+
+  begins_fields : (again : Bool) (found : List Text) (fs : List Frame) → Moves (begin_fields limits again found fs) (of_fields limits again fs found)
+  begins_fields again found = begins_simple_call again (call_in limits.shell found)
 
   -- fields that are equal
   fits_alike : (known : List Key) (s t : State) (here there : List Text) (f : List Text → State → Next) (u : List Text → State → List Access) → there ≡ here → Moves (f here) (u here) → Near known s t

@@ -10,14 +10,14 @@ use Rattle.commands.specs.Computed.{Computed}
 use Rattle.device_list.specs.DeviceList.{Effect, effect_of, computed_by}
 use Rattle.rehearse_terms.specs.State.{Text, get, State}
 use Rattle.rehearse_rules.specs.Parameters.{parameters_in}
-use Rattle.rehearse_rules.specs.ByShell.{fields_in, turns_in, skips_rest, follows, follows_turns}
+use Rattle.rehearse_rules.specs.ByShell.{fields_in, turns_in, skips_rest, follows, follows_turns, call_in}
 use Rattle.rehearse_rules.specs.Execution.{Limits, Answer, Normal, Exit, Ended, Dry, CutSteps, go_on, set_status, goes, holds, begin_turn, started_text, run_read, exec_script, exec_list, exec_command, exec, request_of, for_begun, block_skipped, exec_arms, turns, for_each}
 use Rattle.rehearse_rules.proofs.GrowingSteps.{AtLeast, Grew, AtLeast-track, Grew-block}
 use Rattle.rehearse_rules.proofs.TakenOutcomes.{KeepsAll, Keeps-script, Keeps-list, Keeps-one, Keeps-exec, Keeps-started}
 use Rattle.rehearse_machine.proofs.StepBoundLemmas.{same_if, block_proper, same_script, same_exec, same_turns, same_for, same_if_arms}
 use Rattle.rehearse_machine.proofs.BoundLemmas.{Cut-block}
 use Rattle.rehearse_reads.specs.Keys.{Access, Reads, Writes, Environment, Status, all_read}
-use Rattle.rehearse_reads.specs.Accesses.{listed_accesses, behind, behind_text, status_written, words_reads, sized_accesses, turns_accesses, turn_accesses, each_accesses, for_accesses, begun_accesses, device_accesses, computed_accesses, read_accesses, started_accesses, run_accesses, builtin_accesses, call_accesses, simple_accesses, script_accesses, list_accesses, joined_accesses, command_accesses, arms_accesses, accesses, modern_accesses, turns_of_accesses, for_words_accesses, compound_accesses}
+use Rattle.rehearse_reads.specs.Accesses.{listed_accesses, behind, behind_text, status_written, words_reads, sized_accesses, turns_accesses, turn_accesses, each_accesses, for_accesses, begun_accesses, device_accesses, computed_accesses, read_accesses, started_accesses, run_accesses, builtin_accesses, call_accesses, simple_accesses, script_accesses, list_accesses, joined_accesses, command_accesses, arms_accesses, accesses, modern_accesses, turns_of_accesses, for_words_accesses, compound_accesses, simple_call_accesses}
 use Rattle.rehearse_frames.proofs.NoneBegun.{None-block, None-turns}
 
 pub same_both : (xs ys zs ws : List Access) → xs ≡ ys → zs ≡ ws → xs ++ zs ≡ ys ++ ws
@@ -118,9 +118,12 @@ module _ (limits : Limits) where
         by None None (Some effect) = refl
         by None None None = refl
 
+    simple_call_same : (fs : List Text) (t : State) → limits.step_bound < n + t.steps → simple_call_accesses limits text u fs t ≡ simple_call_accesses limits text' u' fs t
+    simple_call_same [] t h = refl
+    simple_call_same (name ∷ ws) t h = either (follows limits.shell limits.devices name ws) (call_accesses limits text u name ws t) [] (call_accesses limits text' u' name ws t) [] (call_same name ws t h) refl
+
     simple_same : (fs : List Text) (t : State) → limits.step_bound < n + t.steps → simple_accesses limits text u fs t ≡ simple_accesses limits text' u' fs t
-    simple_same [] t h = refl
-    simple_same (name ∷ ws) t h = either (follows limits.shell limits.devices name ws) (call_accesses limits text u name ws t) [] (call_accesses limits text' u' name ws t) [] (call_same name ws t h) refl
+    simple_same fs = simple_call_same (call_in limits.shell fs)
 
     begun_same : (f g : State → List Access) (s : State) → limits.step_bound ≤ n + s.steps → ((t : State) → limits.step_bound < n + t.steps → f t ≡ g t) → begun_accesses limits f s ≡ begun_accesses limits g s
     begun_same f g s h k = either (nat_lt s.steps limits.step_bound) (f (record s { steps = suc s.steps })) [] (g (record s { steps = suc s.steps })) [] (k (record s { steps = suc s.steps }) (omega arith)) refl

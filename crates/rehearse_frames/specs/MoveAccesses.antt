@@ -10,7 +10,7 @@ use Rattle.rehearse_terms.specs.State.{Text, get, State}
 use Rattle.rehearse_terms.specs.declared.shell.Shell.{Shell}
 use Rattle.rehearse_terms.specs.declared.shell.Shell.TheVariants.{Profile, Old2023, Old2025, Modern2025}
 use Rattle.rehearse_rules.specs.Parameters.{parameters_in}
-use Rattle.rehearse_rules.specs.ByShell.{reads_again, leaves_in, asks_in, fields_in, turns_in, follows, follows_turns}
+use Rattle.rehearse_rules.specs.ByShell.{reads_again, call_in, leaves_in, asks_in, fields_in, turns_in, follows, follows_turns}
 use Rattle.rehearse_rules.specs.Needs.{effect_now}
 use Rattle.rehearse_rules.specs.Execution.{Limits, goes, holds, outcome_when, Request, told, request_of, test_request, for_begun}
 use Rattle.rehearse_machine.specs.Frames.{Frame, Lists, Linked, IfCondition, LoopCondition, LoopBody, ForBody, RunNames, RunText, CommandEnd}
@@ -125,10 +125,13 @@ module _ (limits : Limits) where
         ]
       ]
 
-  abbrev pub of_fields : (again : Bool) → List Frame → List Text → State → List Access
-  of_fields again fs [] s = nothing_accesses limits.shell
-  of_fields again fs (name ∷ words) s =
+  abbrev pub of_simple_call : (again : Bool) → List Frame → List Text → State → List Access
+  of_simple_call again fs [] s = nothing_accesses limits.shell
+  of_simple_call again fs (name ∷ words) s =
       elim (follows limits.shell limits.devices name words) [ true ↦ of_call again name words fs s | false ↦ [] ]
+
+  abbrev pub of_fields : (again : Bool) → List Frame → List Text → State → List Access
+  of_fields again fs found s = of_simple_call again fs (call_in limits.shell found) s
 
   abbrev pub of_command : Command → List Frame → State → List Access
   of_command (tree.Simple words) fs s =

@@ -1,6 +1,6 @@
 -- A command that asks was not told an answer: it takes an outcome of the word.
 use Rattle.device_list.specs.declared.finish.BoardEnd.{BoardEnd}
-use Rattle.rehearse_rules.specs.ByShell.{leaves_in, status_of_exit, asks_in, truth_in, fields_in, follows, reads_again}
+use Rattle.rehearse_rules.specs.ByShell.{leaves_in, status_of_exit, asks_in, truth_in, fields_in, follows, reads_again, call_in}
 use Rattle.std.proofs.Common.{ℕ, zero, suc, Bool, true, false, List, [], ◌∷◌, length, Option, Some, None, refl, subst, ◌≡◌, nat_lt, nat_le, nat_eq}
 use Rattle.hushlang.specs.Tree as tree
 use Rattle.hushlang.specs.Tree.{Script}
@@ -18,7 +18,7 @@ use Rattle.rehearse_rules.specs.Needs.{effect_now}
 use Rattle.rehearse_terms.specs.declared.shell.Shell.{Shell}
 use Rattle.rehearse_terms.specs.declared.shell.Shell.TheVariants.{Profile, Old2023, Old2025, Modern2025}
 use Rattle.rehearse_rules.specs.Execution.{Limits, CutDevices, Size, Request, told, told_again, logged, set_environment, set_status, status_when, Unsupported, request_of, test_request}
-use Rattle.rehearse_machine.specs.Places.{PlaceNext, GoOn, AskOn, StopOn, left, place_finish, place_exit, place_tell_or_ask, place_ask, place_called, place_fields, left_compound, left_script, left_by, command_over}
+use Rattle.rehearse_machine.specs.Places.{PlaceNext, GoOn, AskOn, StopOn, left, place_finish, place_exit, place_tell_or_ask, place_ask, place_called, place_fields, left_compound, left_script, left_by, command_over, place_simple_call}
 use Rattle.rehearse_machine.specs.AskingCommand.{words_in_front, fields_again, found_again}
 use Rattle.rehearse_machine.specs.Machine.{Asking}
 
@@ -80,9 +80,12 @@ module _ (limits : Limits) where
   called_anew again (Device effect) name ws script ps s = ask_anew (request_of name ws (effect_now s.log effect)) ps s refl
   called_anew again NoCommand name ws script ps s = tt
 
+  call_anew : (again : Bool) (fs : List Text) (script : Script) (ps : List RunningFrame) (s : State) → AsksAnew (place_simple_call limits again fs script ps s)
+  call_anew again [] script ps s = tt
+  call_anew again (name ∷ ws) script ps s = either_anew (follows limits.shell limits.devices name ws) (place_called limits again (called_by limits.devices name ws) name ws script ps s) (StopOn (Unsupported name) s) (called_anew again (called_by limits.devices name ws) name ws script ps s) tt
+
   fields_anew : (again : Bool) (fs : List Text) (script : Script) (ps : List RunningFrame) (s : State) → AsksAnew (place_fields limits again fs script ps s)
-  fields_anew again [] script ps s = tt
-  fields_anew again (name ∷ ws) script ps s = either_anew (follows limits.shell limits.devices name ws) (place_called limits again (called_by limits.devices name ws) name ws script ps s) (StopOn (Unsupported name) s) (called_anew again (called_by limits.devices name ws) name ws script ps s) tt
+  fields_anew again fs = call_anew again (call_in limits.shell fs)
 
   again_anew : (o : Option (List tree.Word)) (f : RunningFrame) (fs : List RunningFrame) (s : State) → AsksAnew (fields_again limits o f fs s)
   again_anew None f fs s = tt

@@ -12,8 +12,8 @@ use Rattle.device_list.specs.Called.{Called, BuiltIn, NoCommand, Device, called_
 use Rattle.commands.specs.BuiltInCommands.{ChangesVariables, WritesText, RunsTexts, Tests, Exits}
 use Rattle.rehearse_rules.specs.Needs.{effect_now}
 use Rattle.rehearse_rules.proofs.CompoundLemmas.{compound_normal, compound_ended, compound_dry}
-use Rattle.rehearse_rules.specs.Execution.{Limits, Answer, Normal, Exit, Ended, Dry, Ending, CutDevices, CutSteps, Unknown, Size, go_on, set_status, status_when, goes, holds, begin, tell_or_take, told, told_again, logged, finish, set_environment, Finished, device, Request, text_end, run_read, run_all, command, simple, sized, assign, turns, for_each, Unsupported, Panic, assign_local, request_of, test_request, started_text, text_failed, turns_of, for_words, for_begun, block_skipped, compound, compound_left}
-use Rattle.rehearse_machine.specs.Frames.{Frame, Lists, Linked, IfCondition, LoopCondition, LoopBody, ForBody, RunNames, RunText, Next, Go, Stop, tell_or_ask, finish_next, leave, begin_assign, begin_for, begin_arms, begin_read, begin_text, begin_names, begin_exit, fitting, ask, begin_called, begin_fields, counted, begin_command, move, begin_turns, begin_words, CommandEnd, leave_compound, behind_block}
+use Rattle.rehearse_rules.specs.Execution.{Limits, Answer, Normal, Exit, Ended, Dry, Ending, CutDevices, CutSteps, Unknown, Size, go_on, set_status, status_when, goes, holds, begin, tell_or_take, told, told_again, logged, finish, set_environment, Finished, device, Request, text_end, run_read, run_all, command, simple, sized, assign, turns, for_each, Unsupported, Panic, assign_local, request_of, test_request, started_text, text_failed, turns_of, for_words, for_begun, block_skipped, compound, compound_left, simple_call}
+use Rattle.rehearse_machine.specs.Frames.{Frame, Lists, Linked, IfCondition, LoopCondition, LoopBody, ForBody, RunNames, RunText, Next, Go, Stop, tell_or_ask, finish_next, leave, begin_assign, begin_for, begin_arms, begin_read, begin_text, begin_names, begin_exit, fitting, ask, begin_called, begin_fields, counted, begin_command, move, begin_turns, begin_words, CommandEnd, leave_compound, behind_block, begin_simple_call}
 use Rattle.rehearse_machine.specs.Came.{Over, Wants}
 use Rattle.rehearse_machine.specs.Meaning.{with, full, script, one, joined_of, arms_of, again, resume, continue, comes_to, AreProperFrames}
 use Rattle.rehearse_rules.proofs.GrowingSteps.{Grew, AtLeast-track, Grew-block}
@@ -23,7 +23,7 @@ use Rattle.rehearse_machine.proofs.BoundLemmas.{Cut-block}
 use Rattle.rehearse_machine.proofs.StepBoundLemmas.{same_go_on, same_if, closed_exec, same_turns}
 use Rattle.rehearse_terms.specs.declared.shell.Shell.{Shell}
 use Rattle.rehearse_terms.specs.declared.shell.Shell.TheVariants.{Profile, Old2023, Old2025, Modern2025}
-use Rattle.rehearse_rules.specs.ByShell.{unread, reads_again, leaves_in, status_of_exit, status_of_text, asks_in, truth_in, fields_in, turns_in, skips_rest, status_of_loop, follows, assigned_in, follows_turns, status_of_no_block}
+use Rattle.rehearse_rules.specs.ByShell.{unread, reads_again, leaves_in, status_of_exit, status_of_text, asks_in, truth_in, fields_in, turns_in, skips_rest, status_of_loop, follows, assigned_in, follows_turns, status_of_no_block, call_in}
 use Rattle.rehearse_rules.proofs.TakenOutcomes.{skipped}
 
 -- the status 1 of a text that is not run is that of its `run`
@@ -146,9 +146,12 @@ module _ (limits : Limits) where
     builtin-is again (Device effect) name ws fs s = ask-is (request_of name ws (effect_now s.log effect)) fs s
     builtin-is again NoCommand name ws fs s = sym (continue-ended fs (Unknown name) (with w s))
 
+    call-is : (again : Bool) (ws : List Text) (fs : List Frame) (s : State) → comes_to limits w (begin_simple_call limits again ws fs s) ≡ continue limits fs (simple_call limits again (full limits) ws (with w s))
+    call-is again [] fs s = refl
+    call-is again (name ∷ ws) fs s = if-is (follows limits.shell limits.devices name ws) (begin_called limits again (called_by limits.devices name ws) name ws fs s) (Stop (Unsupported name) s) fs (command limits again (full limits) (called_by limits.devices name ws) name ws (with w s)) (Ended (Unsupported name) (with w s)) (builtin-is again (called_by limits.devices name ws) name ws fs s) (sym (continue-ended fs (Unsupported name) (with w s)))
+
     fields-is : (again : Bool) (ws : List Text) (fs : List Frame) (s : State) → comes_to limits w (begin_fields limits again ws fs s) ≡ continue limits fs (simple limits again (full limits) ws (with w s))
-    fields-is again [] fs s = refl
-    fields-is again (name ∷ ws) fs s = if-is (follows limits.shell limits.devices name ws) (begin_called limits again (called_by limits.devices name ws) name ws fs s) (Stop (Unsupported name) s) fs (command limits again (full limits) (called_by limits.devices name ws) name ws (with w s)) (Ended (Unsupported name) (with w s)) (builtin-is again (called_by limits.devices name ws) name ws fs s) (sym (continue-ended fs (Unsupported name) (with w s)))
+    fields-is again ws = call-is again (call_in limits.shell ws)
 
     counted-is : (next : State → Next) (f : State → Answer) (fs : List Frame) (s : State) → ((t : State) → comes_to limits w (next t) ≡ continue limits fs (f (with w t))) → comes_to limits w (counted limits next s) ≡ continue limits fs (begin limits f (with w s))
     counted-is next f fs s e = if-is (nat_lt s.steps limits.step_bound) (next (record s { steps = suc s.steps })) (Stop CutSteps s) fs (f (with w (record s { steps = suc s.steps }))) (Ended CutSteps (with w s)) (e (record s { steps = suc s.steps })) (sym (continue-ended fs CutSteps (with w s)))

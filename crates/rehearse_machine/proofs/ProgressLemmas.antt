@@ -14,10 +14,10 @@ use Rattle.rehearse_terms.specs.declared.shell.Shell.{Shell}
 use Rattle.rehearse_terms.specs.declared.shell.Shell.TheVariants.{Profile, Old2023, Old2025, Modern2025}
 use Rattle.rehearse_rules.specs.Execution.{Limits, CutDevices, CutSteps, Size, set_status, status_when, goes, holds, Request, told, told_again, logged, set_environment, Unsupported, assign_local, request_of, test_request, text_failed, for_begun, block_skipped}
 use Rattle.rehearse_terms.specs.Outcomes.{Success}
-use Rattle.rehearse_machine.specs.Frames.{Frame, Lists, Linked, IfCondition, LoopCondition, LoopBody, ForBody, RunNames, RunText, Next, Go, Ask, Stop, tell_or_ask, finish_next, leave, begin_assign, begin_for, begin_arms, begin_read, begin_text, begin_names, begin_exit, fitting, ask, begin_called, begin_fields, begin_command, move, begin_turns, begin_words, CommandEnd, leave_compound, behind_block}
+use Rattle.rehearse_machine.specs.Frames.{Frame, Lists, Linked, IfCondition, LoopCondition, LoopBody, ForBody, RunNames, RunText, Next, Go, Ask, Stop, tell_or_ask, finish_next, leave, begin_assign, begin_for, begin_arms, begin_read, begin_text, begin_names, begin_exit, fitting, ask, begin_called, begin_fields, begin_command, move, begin_turns, begin_words, CommandEnd, leave_compound, behind_block, begin_simple_call}
 use Rattle.rehearse_machine.specs.MoveCounts.{command_depth, arms_depth, script_depth, block_weight, links_weight, arms_weight, read_weight, text_weight, names_weight, weight}
 use Rattle.rehearse_machine.specs.Meaning.{AreProperFrames}
-use Rattle.rehearse_rules.specs.ByShell.{reads_again, leaves_in, status_of_exit, asks_in, truth_in, fields_in, turns_in, skips_rest, status_of_loop, follows, assigned_in, follows_turns}
+use Rattle.rehearse_rules.specs.ByShell.{reads_again, leaves_in, status_of_exit, asks_in, truth_in, fields_in, turns_in, skips_rest, status_of_loop, follows, assigned_in, follows_turns, call_in}
 
 module _ (limits : Limits) where
   -- no step was begun since t
@@ -105,9 +105,12 @@ module _ (limits : Limits) where
   builtin-quiet again (Device effect) name ws fs s = ask-quiet (request_of name ws (effect_now s.log effect)) fs s
   builtin-quiet again NoCommand name ws fs s = refl
 
+  call-quiet : (again : Bool) (ws : List Text) (fs : List Frame) (s : State) → IsQuiet s (begin_simple_call limits again ws fs s)
+  call-quiet again [] fs s = refl
+  call-quiet again (name ∷ ws) fs s = either-quiet s (follows limits.shell limits.devices name ws) (begin_called limits again (called_by limits.devices name ws) name ws fs s) (Stop (Unsupported name) s) (builtin-quiet again (called_by limits.devices name ws) name ws fs s) refl
+
   pub fields-quiet : (again : Bool) (ws : List Text) (fs : List Frame) (s : State) → IsQuiet s (begin_fields limits again ws fs s)
-  fields-quiet again [] fs s = refl
-  fields-quiet again (name ∷ ws) fs s = either-quiet s (follows limits.shell limits.devices name ws) (begin_called limits again (called_by limits.devices name ws) name ws fs s) (Stop (Unsupported name) s) (builtin-quiet again (called_by limits.devices name ws) name ws fs s) refl
+  fields-quiet again ws = call-quiet again (call_in limits.shell ws)
 
   pub for-quiet : (name : Text) (values : List Text) (body : Script) (fs : List Frame) (s : State) → IsQuiet s (begin_for name values body fs s)
   for-quiet name [] body fs s = refl

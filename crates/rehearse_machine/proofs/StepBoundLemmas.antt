@@ -9,12 +9,12 @@ use Rattle.rehearse_terms.specs.declared.shell.Shell.{Shell}
 use Rattle.rehearse_rules.specs.Parameters.{parameters_in}
 use Rattle.device_list.specs.Called.{Called, BuiltIn, NoCommand, Device, called_by}
 use Rattle.commands.specs.BuiltInCommands.{ChangesVariables, WritesText, RunsTexts, Tests, Exits}
-use Rattle.rehearse_rules.specs.Execution.{begin_turn, Limits, Answer, Normal, Exit, Ended, Dry, CutSteps, Size, go_on, set_status, goes, holds, begin, text_end, text_failed, run_read, run_all, command, simple, sized, turns, for_each, exec_script, exec_list, exec_joined, exec_command, exec_arms, exec, Unsupported, started_text, turns_of, for_words, for_begun, block_skipped, compound}
+use Rattle.rehearse_rules.specs.Execution.{begin_turn, Limits, Answer, Normal, Exit, Ended, Dry, CutSteps, Size, go_on, set_status, goes, holds, begin, text_end, text_failed, run_read, run_all, command, simple, sized, turns, for_each, exec_script, exec_list, exec_joined, exec_command, exec_arms, exec, Unsupported, started_text, turns_of, for_words, for_begun, block_skipped, compound, simple_call}
 use Rattle.rehearse_rules.proofs.GrowingSteps.{AtLeast, Grew, AtLeast-track, Grew-block}
 use Rattle.rehearse_rules.proofs.TakenOutcomes.{KeepsAll, after_condition, Keeps-script, Keeps-list, Keeps-one, Keeps-exec, Keeps-started}
 use Rattle.hushlang_shells.proofs.TreeByShellLemmas.{started_texts_are_proper}
 use Rattle.rehearse_machine.proofs.BoundLemmas.{Cut-block, Cut-turns}
-use Rattle.rehearse_rules.specs.ByShell.{reads_again, fields_in, turns_in, skips_rest, status_of_loop, follows, follows_turns}
+use Rattle.rehearse_rules.specs.ByShell.{reads_again, fields_in, turns_in, skips_rest, status_of_loop, follows, follows_turns, call_in}
 use Rattle.rehearse_rules.proofs.TakenOutcomes.{skipped}
 
 pub block_proper : (a : Script) → HoldsCommand a → IsProper a
@@ -73,9 +73,12 @@ module _ (limits : Limits) where
     same_command again (Device effect) name ws t h = refl
     same_command again NoCommand name ws t h = refl
 
+    same_call : (again : Bool) (fs : List Text) (t : State) → limits.step_bound < n + t.steps → simple_call limits again text fs t ≡ simple_call limits again text' fs t
+    same_call again [] t h = refl
+    same_call again (name ∷ ws) t h = ap (λ (a : Answer). let b : Answer = elim (follows limits.shell limits.devices name ws) [ true ↦ a | false ↦ Ended (Unsupported name) t ] in b) (same_command again (called_by limits.devices name ws) name ws t h)
+
     same_simple : (again : Bool) (fs : List Text) (t : State) → limits.step_bound < n + t.steps → simple limits again text fs t ≡ simple limits again text' fs t
-    same_simple again [] t h = refl
-    same_simple again (name ∷ ws) t h = ap (λ (a : Answer). let b : Answer = elim (follows limits.shell limits.devices name ws) [ true ↦ a | false ↦ Ended (Unsupported name) t ] in b) (same_command again (called_by limits.devices name ws) name ws t h)
+    same_simple again fs = same_call again (call_in limits.shell fs)
 
     same_begin : (f g : State → Answer) (s : State) → limits.step_bound ≤ n + s.steps → ((t : State) → limits.step_bound < n + t.steps → f t ≡ g t) → begin limits f s ≡ begin limits g s
     same_begin f g s h k = same_if (nat_lt s.steps limits.step_bound) (f (record s { steps = suc s.steps })) (Ended CutSteps s) (g (record s { steps = suc s.steps })) (Ended CutSteps s) (k (record s { steps = suc s.steps }) (omega arith)) refl

@@ -14,7 +14,7 @@ use Rattle.hushlang_shells.specs.TreesByShell.{TextRead, Runs, Fails, Panics, Un
 use Rattle.rehearse_terms.specs.State.{Text, get, State}
 use Rattle.rehearse_terms.specs.declared.shell.Shell.{Shell}
 use Rattle.rehearse_terms.specs.declared.shell.Shell.TheVariants.{Profile, Old2023, Old2025, Modern2025}
-use Rattle.rehearse_rules.specs.ByShell.{unread, reads_again, leaves_in, status_of_exit, asks_in, truth_in, fields_in, turns_in, skips_rest, status_of_nothing, status_of_no_block, status_of_loop, follows, assigned_in, follows_turns}
+use Rattle.rehearse_rules.specs.ByShell.{unread, reads_again, call_in, leaves_in, status_of_exit, asks_in, truth_in, fields_in, turns_in, skips_rest, status_of_nothing, status_of_no_block, status_of_loop, follows, assigned_in, follows_turns}
 use Rattle.rehearse_rules.specs.Parameters.{parameters_in}
 use Rattle.device_list.specs.Called.{Called, BuiltIn, NoCommand, Device, called_by, sets_in}
 use Rattle.commands.specs.BuiltInCommands.{ChangesVariables, WritesText, RunsTexts, Tests, Exits, variables_changed, text_written}
@@ -355,13 +355,16 @@ module _ (limits : Limits) where
       place_ask (request_of name words (effect_now s.log effect)) ps s
   place_called again NoCommand name words script ps s = StopOn (Unknown name) s
 
-  abbrev pub place_fields : (again : Bool) → List Text → Script → List RunningFrame → State → PlaceNext
-  place_fields again [] script ps s = GoOn ps (set_status (status_of_nothing limits.shell s.memory.status) s)
-  place_fields again (name ∷ ws) script ps s =
+  abbrev pub place_simple_call : (again : Bool) → List Text → Script → List RunningFrame → State → PlaceNext
+  place_simple_call again [] script ps s = GoOn ps (set_status (status_of_nothing limits.shell s.memory.status) s)
+  place_simple_call again (name ∷ ws) script ps s =
       elim (follows limits.shell limits.devices name ws) [
         | true ↦ place_called again (called_by limits.devices name ws) name ws script ps s
         | false ↦ StopOn (Unsupported name) s
       ]
+
+  abbrev pub place_fields : (again : Bool) → List Text → Script → List RunningFrame → State → PlaceNext
+  place_fields again found script ps s = place_simple_call again (call_in limits.shell found) script ps s
 
   abbrev pub place_counted : (State → PlaceNext) → State → PlaceNext
   place_counted next s =

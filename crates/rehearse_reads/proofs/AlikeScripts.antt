@@ -10,12 +10,12 @@ use Rattle.device_list.specs.Called.{BuiltIn, Device, NoCommand, called_by}
 use Rattle.device_list.specs.DeviceList.{Effect, effect_of, computed_by}
 use Rattle.rehearse_terms.specs.State.{Text, State, LoggedCommand, get}
 use Rattle.rehearse_rules.specs.Parameters.{parameters_in}
-use Rattle.rehearse_rules.specs.ByShell.{unread, reads_again, leaves_in, status_of_exit, asks_in, truth_in, fields_in, turns_in, skips_rest, follows}
-use Rattle.rehearse_rules.specs.Execution.{Limits, Answer, Normal, Exit, Ended, Ending, CutSteps, Unknown, Unsupported, Panic, go_on, set_status, status_when, remember, goes, device, test_request, text_end, run_read, run_text, started_text, run_all, command, simple, sized, assign, exec_script, exec_list, exec_joined, exec_command, exec_arms, exec, turns_of, for_words, for_begun, block_skipped, turns}
+use Rattle.rehearse_rules.specs.ByShell.{unread, reads_again, leaves_in, status_of_exit, asks_in, truth_in, fields_in, turns_in, skips_rest, follows, call_in}
+use Rattle.rehearse_rules.specs.Execution.{Limits, Answer, Normal, Exit, Ended, Ending, CutSteps, Unknown, Unsupported, Panic, go_on, set_status, status_when, remember, goes, device, test_request, text_end, run_read, run_text, started_text, run_all, command, simple, sized, assign, exec_script, exec_list, exec_joined, exec_command, exec_arms, exec, turns_of, for_words, for_begun, block_skipped, turns, simple_call}
 use Rattle.rehearse_rules.proofs.TakenOutcomes.{KeepsAll, Keeps-if, Keeps-run, Keeps-simple, Keeps-sized, Keeps-assign, Keeps-script, Keeps-joined, Keeps-arms, Keeps-exec, Keeps-ended, Keeps-words, Keeps-skip}
 use Rattle.rehearse_reads.specs.Keys.{Key, Environment, Status, Access, Reads, AreAmong, AgreeOn, all_read, ReadsWithin, known_after}
 use Rattle.rehearse_reads.specs.Alike.{AreAbreast, IsAlike}
-use Rattle.rehearse_reads.specs.Accesses.{behind, behind_text, status_written, words_reads, device_accesses, listed_accesses, computed_accesses, setenv_accesses, tree_accesses, read_accesses, text_accesses, started_accesses, run_accesses, builtin_accesses, call_accesses, simple_accesses, sized_accesses, assign_accesses, script_accesses, list_accesses, joined_accesses, command_accesses, arms_accesses, accesses, modern_accesses, turns_of_accesses, for_words_accesses, turns_accesses}
+use Rattle.rehearse_reads.specs.Accesses.{behind, behind_text, status_written, words_reads, device_accesses, listed_accesses, computed_accesses, setenv_accesses, tree_accesses, read_accesses, text_accesses, started_accesses, run_accesses, builtin_accesses, call_accesses, simple_accesses, sized_accesses, assign_accesses, script_accesses, list_accesses, joined_accesses, command_accesses, arms_accesses, accesses, modern_accesses, turns_of_accesses, for_words_accesses, turns_accesses, simple_call_accesses}
 use Rattle.rehearse_reads.proofs.AccessLemmas.{read_first, read_then, within_then}
 use Rattle.rehearse_reads.proofs.AbreastLemmas.{near_status, near_computed, near_sets, near_echoed}
 use Rattle.rehearse_reads.proofs.SameWords.{fields_agree, turns_agree}
@@ -108,10 +108,13 @@ module _ (limits : Limits) (i j : ℕ) (k l : List LoggedCommand) where
         by None None (Some effect) known s t near w = Alike-listed limits i j k l name words effect known s t near w
         by None None None known s t near w = ended_alike limits i j k l known (Unknown name) s t near
 
-    pub Alike-simple : (again : Bool) (fs : List Text) → AlwaysDoes (simple limits again script fs) (simple_accesses limits script of_script fs)
-    Alike-simple again [] known s t near w = nothing_alike limits i j k l limits.shell known s t near
-    Alike-simple again (name ∷ words) known s t near w =
+    Alike-simple-call : (again : Bool) (fs : List Text) → AlwaysDoes (simple_call limits again script fs) (simple_call_accesses limits script of_script fs)
+    Alike-simple-call again [] known s t near w = nothing_alike limits i j k l limits.shell known s t near
+    Alike-simple-call again (name ∷ words) known s t near w =
         alike_if (follows limits.shell limits.devices name words) (command limits again script (called_by limits.devices name words) name words) (Ended (Unsupported name)) (call_accesses limits script of_script name words) (λ x. []) (Alike-call again name words) (ends_alike (Unsupported name)) known s t near w
+
+    pub Alike-simple : (again : Bool) (fs : List Text) → AlwaysDoes (simple limits again script fs) (simple_accesses limits script of_script fs)
+    Alike-simple again fs = Alike-simple-call again (call_in limits.shell fs)
 
   -- ---- words that are expanded: to the same fields
 

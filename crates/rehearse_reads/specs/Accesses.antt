@@ -17,7 +17,7 @@ use Rattle.rehearse_terms.specs.State.{Text, get, Memory, State}
 use Rattle.rehearse_terms.specs.declared.shell.Shell.{Shell}
 use Rattle.rehearse_terms.specs.declared.shell.Shell.TheVariants.{Profile, Old2023, Old2025, Modern2025}
 use Rattle.rehearse_rules.specs.Parameters.{parameters_in}
-use Rattle.rehearse_rules.specs.ByShell.{asks_in, fields_in, turns_in, skips_rest, follows, assigned_in, is_refused, follows_turns}
+use Rattle.rehearse_rules.specs.ByShell.{call_in, asks_in, fields_in, turns_in, skips_rest, follows, assigned_in, is_refused, follows_turns}
 use Rattle.rehearse_rules.specs.Needs.{effect_now}
 use Rattle.rehearse_rules.specs.Execution.{Limits, Answer, Normal, Exit, Ended, Dry, CutSteps, Request, set_status, goes, holds, outcome_when, told, assign_local, begin_turn, request_of, test_request, started_text, run_text, exec_script, exec_list, exec_command, exec, for_begun, block_skipped, turns, for_each, exec_arms}
 use Rattle.rehearse_reads.specs.Keys.{Key, Environment, Local, AnswerTo, Succeeded, Status, Access, Reads, Writes, all_read}
@@ -278,10 +278,13 @@ module _ (limits : Limits) where
           ]
         ]
 
-    abbrev pub simple_accesses : List Text → State → List Access
-    simple_accesses [] s = nothing_accesses limits.shell
-    simple_accesses (name ∷ words) s =
+    abbrev pub simple_call_accesses : List Text → State → List Access
+    simple_call_accesses [] s = nothing_accesses limits.shell
+    simple_call_accesses (name ∷ words) s =
         elim (follows limits.shell limits.devices name words) [ true ↦ call_accesses name words s | false ↦ [] ]
+
+    abbrev pub simple_accesses : List Text → State → List Access
+    simple_accesses found s = simple_call_accesses (call_in limits.shell found) s
 
   -- over the tree, with this many steps left; `text` is what the texts do that `run` starts, and `of_text` what they access
   module _ (left : ℕ) (text : Script → State → Answer) (of_text : Script → State → List Access) where

@@ -17,11 +17,11 @@ use Rattle.rehearse_rules.specs.Needs.{is_met, effect_now}
 use Rattle.rehearse_terms.specs.declared.shell.Shell.{Shell}
 use Rattle.rehearse_terms.specs.declared.shell.Shell.TheVariants.{Profile, Old2023, Old2025, Modern2025}
 use Rattle.rehearse_rules.specs.Parameters.{parameters_in}
-use Rattle.rehearse_rules.specs.ByShell.{reads_again, leaves_in, status_of_exit, asks_in, truth_in, fields_in, follows}
+use Rattle.rehearse_rules.specs.ByShell.{reads_again, leaves_in, status_of_exit, asks_in, truth_in, fields_in, follows, call_in}
 use Rattle.rehearse_rules.specs.Execution.{Limits, CutDevices, Size, Unsupported, Request, told, told_again, logged, set_environment, set_status, status_when, request_of, test_request}
 use Rattle.rehearse_machine.specs.AskingCommand.{words_in_front, fields_again, found_again}
 use Rattle.rehearse_machine.specs.Machine.{Asking, IsAsking}
-use Rattle.rehearse_machine.specs.Places.{PlaceNext, GoOn, AskOn, StopOn, frames_of, left, place_exit, place_finish, place_tell_or_ask, place_ask, place_called, place_fields, left_compound, left_script, left_by, command_over}
+use Rattle.rehearse_machine.specs.Places.{PlaceNext, GoOn, AskOn, StopOn, frames_of, left, place_exit, place_finish, place_tell_or_ask, place_ask, place_called, place_fields, left_compound, left_script, left_by, command_over, place_simple_call}
 use Rattle.rehearse_reads.specs.Keys.{AgreeOn, AreAmong, Key}
 use Rattle.rehearse_reads.specs.Accesses.{words_reads}
 use Rattle.rehearse_reads.proofs.KeysRead.{all_itself}
@@ -138,9 +138,12 @@ module _ (limits : Limits) (s t : State) where
   called_same again (Device effect) name ws script ps = listed_same name ws effect ps
   called_same again NoCommand name ws script ps = tt
 
+  simple_call_same : (again : Bool) (fs : List Text) (script : Script) (ps : List RunningFrame) → AskSame (place_simple_call limits again fs script ps s) (place_simple_call limits again fs script ps t)
+  simple_call_same again [] script ps = tt
+  simple_call_same again (name ∷ ws) script ps = either_same (follows limits.shell limits.devices name ws) (place_called limits again (called_by limits.devices name ws) name ws script ps) (StopOn (Unsupported name)) s t (called_same again (called_by limits.devices name ws) name ws script ps) tt
+
   fields_same : (again : Bool) (fs : List Text) (script : Script) (ps : List RunningFrame) → AskSame (place_fields limits again fs script ps s) (place_fields limits again fs script ps t)
-  fields_same again [] script ps = tt
-  fields_same again (name ∷ ws) script ps = either_same (follows limits.shell limits.devices name ws) (place_called limits again (called_by limits.devices name ws) name ws script ps) (StopOn (Unsupported name)) s t (called_same again (called_by limits.devices name ws) name ws script ps) tt
+  fields_same again fs = simple_call_same again (call_in limits.shell fs)
 
   again_same : (o : Option (List tree.Word)) (f : RunningFrame) (fs : List RunningFrame) → AgreeOn (call_reads s.memory o) s t → AskSame (fields_again limits o f fs s) (fields_again limits o f fs t)
   again_same None f fs agree = tt

@@ -13,7 +13,7 @@ use Rattle.bootstore_state.specs.declared.frame.At.{At}
 use Rattle.rehearse_terms.specs.State.{Text, State, get}
 use Rattle.rehearse_terms.specs.declared.shell.Shell.{Shell}
 use Rattle.rehearse_terms.specs.declared.shell.Shell.TheVariants.{Profile, Old2023, Old2025, Modern2025}
-use Rattle.rehearse_rules.specs.ByShell.{leaves_in, asks_in, fields_in, turns_in, follows, reads_again}
+use Rattle.rehearse_rules.specs.ByShell.{leaves_in, asks_in, fields_in, turns_in, follows, reads_again, call_in}
 use Rattle.rehearse_rules.specs.Parameters.{parameters_in}
 use Rattle.rehearse_rules.specs.Execution.{Limits, goes, holds, test_request}
 use Rattle.rehearse_machine.specs.Frames.{Frame, Lists, Linked, IfCondition, LoopCondition, LoopBody, ForBody, RunNames, RunText, CommandEnd}
@@ -21,7 +21,7 @@ use Rattle.rehearse_machine.specs.Places.{drop_joined, joined_at, drop_arms, con
 use Rattle.rehearse_reads.specs.Keys.{Key, Access, Reads, Writes, Environment, Local, Status, all_read, Covers}
 use Rattle.rehearse_reads.specs.Accesses.{status_written, words_reads, setenv_accesses, computed_accesses, sized_accesses, assign_accesses, turn_accesses, nothing_accesses, modern_accesses}
 use Rattle.rehearse_reads.proofs.KeysRead.{covering_joins}
-use Rattle.rehearse_frames.specs.MoveAccesses.{of_leaving, of_exit, of_beginning_for, of_beginning_arms, of_beginning_read, of_beginning_text, of_beginning_names, of_builtin, of_listed, of_call, of_fields, of_command, of_move, of_leaving_compound}
+use Rattle.rehearse_frames.specs.MoveAccesses.{of_leaving, of_exit, of_beginning_for, of_beginning_arms, of_beginning_read, of_beginning_text, of_beginning_names, of_builtin, of_listed, of_call, of_fields, of_command, of_move, of_leaving_compound, of_simple_call}
 use Rattle.rehearse_reports.proofs.ReportLemmas.{covers_itself, covers_through, covers_less, covers_write, reads_cover, reads_alone}
 use Rattle.rehearse_reports.proofs.CoverLemmas.{covers_status, covers_nothing, covers_arms, covers_modern}
 
@@ -83,13 +83,16 @@ module _ (limits : Limits) (fs : List Frame) where
       by None (Some builtin) = builtin_over again builtin name words s
       by None None = covers_itself (elim (effect_of limits.devices name words) [ Some effect ↦ of_listed limits name words effect s | None ↦ [] ])
 
-  fields_over : (again : Bool) (fields : List Text) (s : State) → Covers (of_fields limits again [] fields s) (of_fields limits again fs fields s)
-  fields_over again [] s = covers_itself (nothing_accesses limits.shell)
-  fields_over again (name ∷ words) s = by (follows limits.shell limits.devices name words)
+  simple_call_over : (again : Bool) (fields : List Text) (s : State) → Covers (of_simple_call limits again [] fields s) (of_simple_call limits again fs fields s)
+  simple_call_over again [] s = covers_itself (nothing_accesses limits.shell)
+  simple_call_over again (name ∷ words) s = by (follows limits.shell limits.devices name words)
     where
       by : (b : Bool) → Covers (elim b [ true ↦ of_call limits again name words [] s | false ↦ [] ]) (elim b [ true ↦ of_call limits again name words fs s | false ↦ [] ])
       by true = call_over again name words s
       by false = covers_itself []
+
+  fields_over : (again : Bool) (fields : List Text) (s : State) → Covers (of_fields limits again [] fields s) (of_fields limits again fs fields s)
+  fields_over again fields = simple_call_over again (call_in limits.shell fields)
 
   pub command_over : (command : Command) (s : State) → Covers (of_command limits command [] s) (of_command limits command fs s)
   command_over (tree.Simple words) s = by (nat_lt s.steps limits.step_bound)

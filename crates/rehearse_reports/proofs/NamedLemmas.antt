@@ -10,11 +10,12 @@ use Rattle.commands.specs.Computed.{Computed}
 use Rattle.device_list.specs.DeviceList.{Effect, effect_of, computed_by}
 use Rattle.rehearse_terms.specs.State.{Text, State}
 use Rattle.rehearse_terms.specs.declared.shell.Shell.{Shell}
-use Rattle.rehearse_rules.specs.ByShell.{asks_in, leaves_in, follows, is_refused}
+use Rattle.rehearse_terms.specs.declared.shell.Shell.TheVariants.{Profile, Old2023, Old2025, Modern2025}
+use Rattle.rehearse_rules.specs.ByShell.{asks_in, leaves_in, follows, is_refused, call_in}
 use Rattle.rehearse_rules.specs.Execution.{Limits, test_request}
 use Rattle.rehearse_reads.specs.Keys.{Access, Reads, Writes, Local, Status, Covers}
 use Rattle.rehearse_reads.specs.Accesses.{status_written, local_accesses, computed_accesses, nothing_accesses}
-use Rattle.rehearse_frames.specs.MoveAccesses.{of_exit, of_asking, of_builtin, of_call, of_fields, of_listed}
+use Rattle.rehearse_frames.specs.MoveAccesses.{of_exit, of_asking, of_builtin, of_call, of_fields, of_listed, of_simple_call}
 use Rattle.rehearse_reports.specs.Reports.{Reports, of_test}
 use Rattle.rehearse_reports.proofs.ReportLemmas.{covers_itself, covers_write, reports_nothing, reports_as}
 use Rattle.rehearse_reports.proofs.CoverLemmas.{covers_status, covers_nothing}
@@ -80,25 +81,44 @@ module _ (limits : Limits) (again : Bool) (name : Text) (words : List Text) (s :
 
 -- ---- by fields
 
+call_of_none : (shell : Shell) → [] ≡ call_in shell []
+call_of_none Profile = refl
+call_of_none Old2023 = refl
+call_of_none Old2025 = refl
+call_of_none Modern2025 = refl
+
+-- the call of a shell and a name that are those of another call
+pub call_here : (shell own : Shell) → shell ≡ own → (name first : Text) → name ≡ first → (plain words : List Text) → name ∷ plain ≡ call_in shell (name ∷ words) → first ∷ plain ≡ call_in own (first ∷ words)
+call_here shell own e name first named plain words called =
+    ap (λ (n : Text). n ∷ plain) (sym named)
+    ∙ called
+    ∙ ap (λ (n : Text). call_in shell (n ∷ words)) named
+    ∙ ap (λ (x : Shell). call_in x (first ∷ words)) e
+
 module _ (limits : Limits) (again : Bool) (s : State) where
   pub fields_none : (old : List Access) (fields : List (Vec ℕ Global)) → length fields ≡ 0 → Reports old old (of_fields limits again [] (bytes_of_words fields) s)
-  fields_none old [] e = quietly old (nothing_accesses limits.shell) (covers_nothing limits.shell)
+  fields_none old [] e =
+      subst (λ (fs : List Text). Reports old old (of_simple_call limits again [] fs s)) (call_of_none limits.shell)
+      (quietly old (nothing_accesses limits.shell) (covers_nothing limits.shell))
   fields_none old (x ∷ fields) e = absurd (omega arith)
 
-  module _ (fields : List (Vec ℕ Global)) (first : Vec ℕ Global) (words : List (Vec ℕ Global)) (split : fields ≡ first ∷ words) (shell : Shell) (own : shell ≡ limits.shell) (name : Text) (named : name ≡ first.items) where
+  module _ (fields : List (Vec ℕ Global)) (first : Vec ℕ Global) (words : List (Vec ℕ Global)) (split : fields ≡ first ∷ words) (shell : Shell) (own : shell ≡ limits.shell) (name : Text) (named : name ≡ first.items) (plain : List Text) (called : first.items ∷ plain ≡ call_in limits.shell (first.items ∷ bytes_of_words words)) where
     abbrev fields_if : Bool → List Access
-    fields_if b = elim b [ true ↦ of_call limits again first.items (bytes_of_words words) [] s | false ↦ [] ]
+    fields_if b = elim b [ true ↦ of_call limits again first.items plain [] s | false ↦ [] ]
 
-    followed : (b : Bool) → b ≡ follows shell limits.devices name (bytes_of_words words) → b ≡ follows limits.shell limits.devices first.items (bytes_of_words words)
-    followed b e = e ∙ ap (λ (x : Shell). follows x limits.devices name (bytes_of_words words)) own ∙ ap (λ (n : Text). follows limits.shell limits.devices n (bytes_of_words words)) named
+    call_is : first.items ∷ plain ≡ call_in limits.shell (bytes_of_words fields)
+    call_is = called ∙ ap (λ (fs : List (Vec ℕ Global)). call_in limits.shell (bytes_of_words fs)) (sym split)
 
-    pub fields_unfollowed : (old : List Access) → false ≡ follows shell limits.devices name (bytes_of_words words) → Reports old old (of_fields limits again [] (bytes_of_words fields) s)
+    followed : (b : Bool) → b ≡ follows shell limits.devices name plain → b ≡ follows limits.shell limits.devices first.items plain
+    followed b e = e ∙ ap (λ (x : Shell). follows x limits.devices name plain) own ∙ ap (λ (n : Text). follows limits.shell limits.devices n plain) named
+
+    pub fields_unfollowed : (old : List Access) → false ≡ follows shell limits.devices name plain → Reports old old (of_fields limits again [] (bytes_of_words fields) s)
     fields_unfollowed old e =
-        subst (λ (fs : List (Vec ℕ Global)). Reports old old (of_fields limits again [] (bytes_of_words fs) s)) (sym split)
+        subst (λ (fs : List Text). Reports old old (of_simple_call limits again [] fs s)) call_is
         (subst (λ (b : Bool). Reports old old (fields_if b)) (followed false e) (reports_nothing old))
 
-    pub fields_followed : {E : Type 0} (r : Result (Unit {0}) E) (old new : List Access) (called : Text) → called ≡ first.items → true ≡ follows shell limits.devices name (bytes_of_words words) → OnOk r (Reports old new (of_call limits again called (bytes_of_words words) [] s)) → OnOk r (Reports old new (of_fields limits again [] (bytes_of_words fields) s))
-    fields_followed r old new called c e h =
-        subst (λ (fs : List (Vec ℕ Global)). OnOk r (Reports old new (of_fields limits again [] (bytes_of_words fs) s))) (sym split)
+    pub fields_followed : {E : Type 0} (r : Result (Unit {0}) E) (old new : List Access) (said : Text) → said ≡ first.items → true ≡ follows shell limits.devices name plain → OnOk r (Reports old new (of_call limits again said plain [] s)) → OnOk r (Reports old new (of_fields limits again [] (bytes_of_words fields) s))
+    fields_followed r old new said c e h =
+        subst (λ (fs : List Text). OnOk r (Reports old new (of_simple_call limits again [] fs s))) call_is
         (subst (λ (b : Bool). OnOk r (Reports old new (fields_if b))) (followed true e)
-        (subst (λ (n : Text). OnOk r (Reports old new (of_call limits again n (bytes_of_words words) [] s))) c h))
+        (subst (λ (n : Text). OnOk r (Reports old new (of_call limits again n plain [] s))) c h))

@@ -10,8 +10,8 @@ use Rattle.rehearse_terms.specs.State.{Text, get, State, start}
 use Rattle.rehearse_rules.specs.Parameters.{parameters_in}
 use Rattle.device_list.specs.Called.{Called, BuiltIn, Device, NoCommand, called_by, sets_in}
 use Rattle.commands.specs.BuiltInCommands.{ChangesVariables, WritesText, RunsTexts, Tests, Exits}
-use Rattle.rehearse_rules.specs.ByShell.{unread, leaves_in, status_of_exit, asks_in, truth_in, fields_in, turns_in, skips_rest, status_of_loop, follows, assigned_in, reads_again, follows_turns}
-use Rattle.rehearse_rules.specs.Execution.{Limits, Answer, Normal, Exit, Ended, Dry, Ending, CutDevices, CutSteps, Size, go_on, set_status, status_when, goes, holds, begin, take_outcome, with_outcome, outcome_when, told, told_again, tell_or_take, device, Request, logged, set_environment, finish, text_end, run_read, run_text, run_all, command, simple, sized, assign, turns, begin_turn, for_each, exec_script, exec_list, exec_joined, exec_command, exec_arms, exec, Unsupported, assign_local, request_of, test_request, started_text, text_failed, turns_of, for_words, for_begun, block_skipped, compound, compound_end}
+use Rattle.rehearse_rules.specs.ByShell.{call_in, unread, leaves_in, status_of_exit, asks_in, truth_in, fields_in, turns_in, skips_rest, status_of_loop, follows, assigned_in, reads_again, follows_turns}
+use Rattle.rehearse_rules.specs.Execution.{Limits, Answer, Normal, Exit, Ended, Dry, Ending, CutDevices, CutSteps, Size, go_on, set_status, status_when, goes, holds, begin, take_outcome, with_outcome, outcome_when, told, told_again, tell_or_take, device, Request, logged, set_environment, finish, text_end, run_read, run_text, run_all, command, simple_call, simple, sized, assign, turns, begin_turn, for_each, exec_script, exec_list, exec_joined, exec_command, exec_arms, exec, Unsupported, assign_local, request_of, test_request, started_text, text_failed, turns_of, for_words, for_begun, block_skipped, compound, compound_end}
 use Rattle.rehearse_rules.specs.Needs.{effect_now}
 use Rattle.rehearse_rules.specs.Runs.{Task, run_on, state_of, steps}
 use Rattle.hushlang_shells.proofs.TreeByShellLemmas.{first_texts_are_proper, started_texts_are_proper}
@@ -151,9 +151,12 @@ module _ (limits : Limits) where
     command-ends again (Device effect) name ws t h r = device-ends t (request_of name ws (effect_now t.log effect)) h
     command-ends again NoCommand name ws t h r = (h, tt)
 
+    call-ends : (again : Bool) (fs : List Text) (t : State) → IsWithin t → limits.step_bound < n + t.steps → Ends (simple_call limits again script fs t)
+    call-ends again [] t h r = h
+    call-ends again (name ∷ ws) t h r = Ends-if (follows limits.shell limits.devices name ws) (command limits again script (called_by limits.devices name ws) name ws t) (Ended (Unsupported name) t) (λ e. command-ends again (called_by limits.devices name ws) name ws t h r) (λ e. (h, tt))
+
     simple-ends : (again : Bool) (fs : List Text) (t : State) → IsWithin t → limits.step_bound < n + t.steps → Ends (simple limits again script fs t)
-    simple-ends again [] t h r = h
-    simple-ends again (name ∷ ws) t h r = Ends-if (follows limits.shell limits.devices name ws) (command limits again script (called_by limits.devices name ws) name ws t) (Ended (Unsupported name) t) (λ e. command-ends again (called_by limits.devices name ws) name ws t h r) (λ e. (h, tt))
+    simple-ends again fs = call-ends again (call_in limits.shell fs)
 
   -- over the tree, with n steps left
   module _ (n : ℕ) (text : Script → State → Answer) (kept : (a : Script) → KeepsAll limits (text a)) (ends : (a : Script) → IsProper a → (t : State) → IsWithin t → limits.step_bound < n + t.steps → Ends (text a t)) where

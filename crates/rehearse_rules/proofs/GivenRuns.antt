@@ -15,10 +15,10 @@ use Rattle.device_list.specs.Called.{Called, BuiltIn, listed_by, other_called, c
 use Rattle.commands.specs.BuiltInCommands.{Deed, ChangesVariables, WritesText, RunsTexts, Tests, Exits, deed_of, carried, asks_device, exit_status}
 use Rattle.commands.specs.Verdict.{verdict}
 use Rattle.device_list.specs.DeviceList.{Devices, computed_by}
-use Rattle.rehearse_rules.specs.ByShell.{reads_again, leaves_in, status_of_exit, asks_in, truth_in, fields_in, skips_rest, status_of_nothing, status_of_no_block, follows, question_in, truth_if}
+use Rattle.rehearse_rules.specs.ByShell.{call_in, reads_again, leaves_in, status_of_exit, asks_in, truth_in, fields_in, skips_rest, status_of_nothing, status_of_no_block, follows, question_in, truth_if}
 use Rattle.rehearse_terms.specs.declared.shell.Shell.{Shell}
 use Rattle.rehearse_terms.specs.declared.shell.Shell.TheVariants.{Profile}
-use Rattle.rehearse_rules.specs.Execution.{Limits, Answer, Normal, Exit, Ended, CutDevices, CutSteps, Request, tell_or_take, device, go_on, set_status, status_when, goes, begin, command, simple, sized, turns, text_end, run_text, run_all, exec_script, exec_list, exec_joined, exec_command, exec_arms, exec, Unsupported, assign, started_text, for_words, for_begun, block_skipped, compound}
+use Rattle.rehearse_rules.specs.Execution.{Limits, Answer, Normal, Exit, Ended, CutDevices, CutSteps, Request, tell_or_take, device, go_on, set_status, status_when, goes, begin, command, simple_call, simple, sized, turns, text_end, run_text, run_all, exec_script, exec_list, exec_joined, exec_command, exec_arms, exec, Unsupported, assign, started_text, for_words, for_begun, block_skipped, compound}
 use Rattle.rehearse_rules.specs.GivenExecution.{Others, asked_anew, given_builtin, given_simple, given_script, given_list, given_joined, given_command, given_arms, given_exec, given_run_on}
 
 -- what a part of a script does to states
@@ -144,9 +144,9 @@ module _ (bounds : Limits) (own : bounds.shell ≡ Profile) (devices : Devices) 
     builtin-same again Tests name words s = test-same again name words s
     builtin-same again Exits name words s = exit-same again words s ∙ sym (exit-same false words s)
 
-    simple-same : (again : Bool) (fs : List Text) (s : State) → simple (limits bounds devices) again f fs s ≡ given_simple bounds others g fs s
-    simple-same again [] s = λ i. Normal (set_status (status_of_nothing (own i) s.memory.status) s)
-    simple-same again (name ∷ words) s =
+    call-same : (again : Bool) (fs : List Text) (s : State) → simple_call (limits bounds devices) again f fs s ≡ given_simple bounds others g fs s
+    call-same again [] s = λ i. Normal (set_status (status_of_nothing (own i) s.memory.status) s)
+    call-same again (name ∷ words) s =
         ap (λ (sh : Shell). let a : Answer = elim (follows sh devices name words) [
           | true ↦ command (limits bounds devices) again f (called_by devices name words) name words s
           | false ↦ Ended (Unsupported name) s
@@ -157,6 +157,10 @@ module _ (bounds : Limits) (own : bounds.shell ≡ Profile) (devices : Devices) 
             (elim b [ Some builtin ↦ given_builtin bounds g (deed_of builtin) name words s | None ↦ others name words s ])
         by (Some builtin) = builtin-same again (deed_of builtin) name words s
         by None = given again f name words s
+
+    simple-same : (again : Bool) (fs : List Text) (s : State) → simple (limits bounds devices) again f fs s ≡ given_simple bounds others g fs s
+    simple-same again fs s =
+        ap (λ (sh : Shell). simple_call (limits bounds devices) again f (call_in sh fs) s) own ∙ call-same again fs s
 
   -- ---- the tree
 

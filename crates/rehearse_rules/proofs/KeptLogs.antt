@@ -11,8 +11,8 @@ use Rattle.device_list.specs.DeviceList.{Effect, computed_by, effect_of}
 use Rattle.rehearse_rules.proofs.TakenOutcomes.{skipped}
 use Rattle.rehearse_terms.specs.declared.shell.Shell.{Shell}
 use Rattle.rehearse_terms.specs.declared.shell.Shell.TheVariants.{Profile, Old2023, Old2025, Modern2025}
-use Rattle.rehearse_rules.specs.ByShell.{unread, reads_again, leaves_in, status_of_exit, asks_in, question_in, truth_in, fields_in, turns_in, skips_rest, status_of_loop, follows, assigned_in, follows_turns}
-use Rattle.rehearse_rules.specs.Execution.{Limits, Answer, Normal, Exit, Ended, Dry, CutSteps, Size, Request, go_on, set_status, status_when, goes, holds, begin, device, test_effect, text_end, run_read, run_text, run_all, command, simple, sized, assign, turns, begin_turn, for_each, exec_script, exec_list, exec_joined, exec_command, exec_arms, exec, Unsupported, assign_local, request_of, test_request, started_text, text_failed, turns_of, for_words, for_begun, block_skipped, compound, compound_end}
+use Rattle.rehearse_rules.specs.ByShell.{call_in, unread, reads_again, leaves_in, status_of_exit, asks_in, question_in, truth_in, fields_in, turns_in, skips_rest, status_of_loop, follows, assigned_in, follows_turns}
+use Rattle.rehearse_rules.specs.Execution.{Limits, Answer, Normal, Exit, Ended, Dry, CutSteps, Size, Request, go_on, set_status, status_when, goes, holds, begin, device, test_effect, text_end, run_read, run_text, run_all, command, simple_call, simple, sized, assign, turns, begin_turn, for_each, exec_script, exec_list, exec_joined, exec_command, exec_arms, exec, Unsupported, assign_local, request_of, test_request, started_text, text_failed, turns_of, for_words, for_begun, block_skipped, compound, compound_end}
 use Rattle.rehearse_rules.specs.Needs.{effect_now}
 use Rattle.rehearse_rules.specs.Runs.{state_of}
 use Rattle.rehearse_terms.specs.State.{Text, get, LoggedCommand, State}
@@ -136,11 +136,14 @@ module _ (P : List LoggedCommand → Type 0) where
       keeps-command again (Device effect) name words allowed s h = step (request_of name words (effect_now s.log effect)) refl s (allowed s.log) h
       keeps-command again NoCommand name words allowed s h = h
 
-      keeps-simple : (again : Bool) (fs : List Text) → KeepsLog (simple limits again script fs)
-      keeps-simple again [] s h = h
-      keeps-simple again (name ∷ words) s h =
+      keeps-call : (again : Bool) (fs : List Text) → KeepsLog (simple_call limits again script fs)
+      keeps-call again [] s h = h
+      keeps-call again (name ∷ words) s h =
           keeps-if (follows limits.shell limits.devices name words) (command limits again script (called_by limits.devices name words) name words s) (Ended (Unsupported name) s)
           (keeps-command again (called_by limits.devices name words) name words (called_allowed name words) s h) h
+
+      keeps-simple : (again : Bool) (fs : List Text) → KeepsLog (simple limits again script fs)
+      keeps-simple again fs = keeps-call again (call_in limits.shell fs)
 
     -- ---- the tree
 

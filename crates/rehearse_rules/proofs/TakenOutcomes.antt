@@ -12,8 +12,8 @@ use Rattle.hushlang.specs.Expansion.{size, most_bytes}
 use Rattle.hushlang_shells.specs.TreesByShell.{TextRead, Runs, Fails, Panics, Unread, first_in, started_in}
 use Rattle.device_list.specs.Called.{Called, BuiltIn, Device, NoCommand, called_by, sets_in}
 use Rattle.commands.specs.BuiltInCommands.{ChangesVariables, WritesText, RunsTexts, Tests, Exits, variables_changed, text_written}
-use Rattle.rehearse_rules.specs.ByShell.{unread, leaves_in, status_of_exit, asks_in, truth_in, fields_in, turns_in, skips_rest, status_of_nothing, status_of_no_block, status_of_loop, follows, assigned_in, reads_again, status_of_text, follows_turns, status_of_for, status_of_skipped, left_status}
-use Rattle.rehearse_rules.specs.Execution.{Limits, Answer, Normal, Exit, Ended, Dry, Ending, CutDevices, CutSteps, Unknown, Size, go_on, remember, set_status, status_when, goes, holds, begin, take_outcome, with_outcome, outcome_when, told, told_again, tell_or_take, device, Request, logged, set_environment, finish, text_end, run_read, run_text, run_all, command, simple, sized, assign, turns, begin_turn, for_each, exec_script, exec_list, exec_joined, exec_command, exec_arms, exec, succeeds, Unsupported, Panic, assign_local, request_of, test_request, started_text, text_failed, turns_of, for_words, for_begun, block_skipped, compound, compound_end, compound_left}
+use Rattle.rehearse_rules.specs.ByShell.{call_in, unread, leaves_in, status_of_exit, asks_in, truth_in, fields_in, turns_in, skips_rest, status_of_nothing, status_of_no_block, status_of_loop, follows, assigned_in, reads_again, status_of_text, follows_turns, status_of_for, status_of_skipped, left_status}
+use Rattle.rehearse_rules.specs.Execution.{Limits, Answer, Normal, Exit, Ended, Dry, Ending, CutDevices, CutSteps, Unknown, Size, go_on, remember, set_status, status_when, goes, holds, begin, take_outcome, with_outcome, outcome_when, told, told_again, tell_or_take, device, Request, logged, set_environment, finish, text_end, run_read, run_text, run_all, command, simple_call, simple, sized, assign, turns, begin_turn, for_each, exec_script, exec_list, exec_joined, exec_command, exec_arms, exec, succeeds, Unsupported, Panic, assign_local, request_of, test_request, started_text, text_failed, turns_of, for_words, for_begun, block_skipped, compound, compound_end, compound_left}
 use Rattle.rehearse_rules.specs.Needs.{effect_now}
 use Rattle.rehearse_rules.specs.Expected.{Answered, asked_in}
 use Rattle.rehearse_terms.specs.declared.shell.Shell.{Shell}
@@ -446,9 +446,12 @@ module _ (limits : Limits) where
     Keeps-command again (Device effect) name ws s = Keeps-device (request_of name ws (effect_now s.log effect)) refl s
     Keeps-command again NoCommand name ws s = Keeps-ended limits.device_bound s (Unknown name)
 
+    Keeps-call : (again : Bool) (fs : List Text) → KeepsAll (simple_call limits again script fs)
+    Keeps-call again [] s = Keeps-normal limits.device_bound s (λ m. record m { status = status_of_nothing limits.shell m.status })
+    Keeps-call again (name ∷ ws) s = Keeps-if limits.device_bound s (follows limits.shell limits.devices name ws) (command limits again script (called_by limits.devices name ws) name ws) (Ended (Unsupported name)) (Keeps-command again (called_by limits.devices name ws) name ws s) (Keeps-ended limits.device_bound s (Unsupported name))
+
     pub Keeps-simple : (again : Bool) (fs : List Text) → KeepsAll (simple limits again script fs)
-    Keeps-simple again [] s = Keeps-normal limits.device_bound s (λ m. record m { status = status_of_nothing limits.shell m.status })
-    Keeps-simple again (name ∷ ws) s = Keeps-if limits.device_bound s (follows limits.shell limits.devices name ws) (command limits again script (called_by limits.devices name ws) name ws) (Ended (Unsupported name)) (Keeps-command again (called_by limits.devices name ws) name ws s) (Keeps-ended limits.device_bound s (Unsupported name))
+    Keeps-simple again fs = Keeps-call again (call_in limits.shell fs)
 
   -- what a turn of a loop does after its condition
   abbrev pub after_condition : Bool → (State → Answer) → (State → Answer) → ℕ → State → Answer

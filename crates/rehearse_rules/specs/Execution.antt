@@ -15,7 +15,7 @@ use Rattle.rehearse_terms.specs.declared.shell.Shell.TheVariants.{Profile, Old20
 use Rattle.rehearse_rules.specs.Needs.{effect_now}
 pub use Rattle.rehearse_rules.specs.Ending.{Ending, End, CutDevices, CutSteps, Unknown, Syntax, Unsupported, Panic, Size, Finished}
 use Rattle.rehearse_rules.specs.Parameters.{parameters_in}
-use Rattle.rehearse_rules.specs.ByShell.{unread, reads_again, leaves_in, status_of_exit, left_status, status_of_text, asks_in, question_in, truth_in, truth_if, fields_in, turns_in, skips_rest, status_of_nothing, status_of_no_block, status_of_loop, status_in_turn, status_of_for, status_of_skipped, follows, follows_turns, assigned_in, locals_in}
+use Rattle.rehearse_rules.specs.ByShell.{unread, reads_again, leaves_in, status_of_exit, left_status, status_of_text, call_in, asks_in, question_in, truth_in, truth_if, fields_in, turns_in, skips_rest, status_of_nothing, status_of_no_block, status_of_loop, status_in_turn, status_of_for, status_of_skipped, follows, follows_turns, assigned_in, locals_in}
 use Rattle.device_list.specs.DeviceList.{Effect, Devices}
 use Rattle.device_list.specs.Called.{Called, BuiltIn, NoCommand, Device, called_by, sets_in}
 use Rattle.commands.specs.BuiltInCommands.{ChangesVariables, WritesText, RunsTexts, Tests, Exits, variables_changed, text_written}
@@ -317,14 +317,18 @@ module _ (limits : Limits) where
       device (request_of name words (effect_now s.log effect)) s
   command again script NoCommand name words s = Ended (Unknown name) s
 
-  -- words that expand to no field do nothing
-  abbrev pub simple : (again : Bool) → (script : Script → State → Answer) → List Text → State → Answer
-  simple again script [] s = Normal (set_status (status_of_nothing limits.shell s.memory.status) s)
-  simple again script (name ∷ words) s =
+  -- a call by its fields. Without a field it does nothing
+  abbrev pub simple_call : (again : Bool) → (script : Script → State → Answer) → List Text → State → Answer
+  simple_call again script [] s = Normal (set_status (status_of_nothing limits.shell s.memory.status) s)
+  simple_call again script (name ∷ words) s =
       elim (follows limits.shell limits.devices name words) [
         | true ↦ command again script (called_by limits.devices name words) name words s
         | false ↦ Ended (Unsupported name) s
       ]
+
+  -- a simple command, by the fields of its words
+  abbrev pub simple : (again : Bool) → (script : Script → State → Answer) → List Text → State → Answer
+  simple again script found s = simple_call again script (call_in limits.shell found) s
 
   -- over the tree, with this many steps left; `text` is what the texts do that `run` starts
   module _ (left : ℕ) (text : Script → State → Answer) where
