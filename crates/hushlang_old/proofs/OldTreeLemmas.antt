@@ -4,9 +4,9 @@ use Rattle.hushlang.specs.Tree.{Script, IsProper, IsProperCommand}
 use Rattle.hushlang.specs.declared.tree.Op.{Op}
 use Rattle.hushlang.specs.declared.tree.Op.TheVariants.{And}
 use Rattle.hushlang_parts.specs.Nests as nests
-use Rattle.hushlang_parts.specs.Nests.{is_in, is_do}
+use Rattle.hushlang_parts.specs.Nests.{is_in}
 use Rattle.hushlang_old.specs.OldTokens.{FoundWord, Token, Word, Ends, Joins, Breaks, old_tokens}
-use Rattle.hushlang_old.specs.OldTrees.{Building, nothing_built, is_open, part_in, drops_number, command_of, command_ended, joined_by, opened, needs_command, gone_to, goes_on, reserved_read, with_word, is_void, is_assignment, changes_shell, command_begun, reserved_in, first_word, is_constant_word, is_constant_with, begun_behind, further_word, command_word, name_in, named, word_at, word_of, list_separated, end_at, has_command, joined_in, read_token, read_tokens, tree_in, tree_behind, tree_of_tokens, is_fault, have_fault, tokens_have_fault, old_tree_of, has_fault}
+use Rattle.hushlang_old.specs.OldTrees.{Building, nothing_built, is_open, part_in, drops_number, command_of, command_ended, joined_by, opened, needs_command, gone_to, goes_on, is_idle, with_idle, part_read, reserved_read, spoil, body_begun, nest_at_do, header_read, first_of_for, word_of_for, first_behind, word_behind, word_at_in, without_name, with_word, is_void, is_assignment, changes_shell, command_begun, reserved_in, first_word, is_constant_word, is_constant_with, begun_behind, further_word, command_word, name_in, named, word_at, word_of, list_separated, end_at, has_command, joined_in, read_token, read_tokens, tree_in, tree_behind, tree_of_tokens, is_fault, have_fault, tokens_have_fault, old_tree_of, has_fault}
 use Rattle.hushlang_parts.specs.declared.part.Part.{Part}
 use Rattle.hushlang_parts.specs.declared.part.Part.TheVariants as p
 use Rattle.hushlang_parts.specs.declared.reserved.Reserved.{Reserved}
@@ -80,11 +80,15 @@ goes_by word b h =
     when_else (needs_command (part_in b) word b.separated && nests.lacks_command b.nest.block) (gone_to (nests.goes_on word b.nest) b)
     (gone_by (nests.goes_on word b.nest) b (nesting.gone word b.nest h))
 
+part_by : (word : Reserved) (b : Building) → IsBuilding b → MayBe (part_read word b)
+part_by word b h =
+    goes_by word (with_idle word b) (one_building (is_idle word b) (record b { nest = nests.idle b.nest }) b (nesting.idle_is b.nest h) h)
+
 reserved_by : (word : Reserved) (b : Building) → IsBuilding b → MayBe (reserved_read word b)
 reserved_by word b h =
-    either (nests.begins word) (opened word b) (goes_on word b)
+    either (nests.begins word) (opened word b) (part_read word b)
     (when_else (nests.is_full b.nest) (Some (record b { nest = nests.begun word b.nest; separated = false })) (nesting.opened word b.nest h))
-    (goes_by word b h)
+    (part_by word b h)
 
 -- ---- a token
 
@@ -104,19 +108,80 @@ words_by (v ∷ words) w b h = further_by w b h
 command_by : (w : FoundWord) (b : Building) → IsBuilding b → MayBe (command_word w b)
 command_by w b h = when_else b.closed (elim b.words [ [] ↦ first_word w b | v ∷ words ↦ further_word w b ]) (words_by b.words w b h)
 
-for_by : (words : List FoundWord) (w : FoundWord) (b : Building) → IsBuilding b → MayBe (elim words [ [] ↦ cond (is_some (reserved_in w)) None (Some (with_word w b)) | v ∷ words ↦ Some (with_word w b) ])
-for_by [] w b h = when_else (is_some (reserved_in w)) (Some (with_word w b)) h
+one_nest : (x : Bool) (n m : nests.Nest) → IsNest n → IsNest m → IsNest (cond x n m)
+one_nest true n m h k = h
+one_nest false n m h k = k
+
+body_by : (b : Building) → IsBuilding b → MayBe (body_begun b)
+body_by b h =
+    goes_by r.Do (header_read b)
+    (one_nest b.spoilt (nests.unmet b.nest) (cond b.nameless (nests.idle b.nest) b.nest) (nesting.unmet_is b.nest h)
+    (one_nest b.nameless (nests.idle b.nest) b.nest (nesting.idle_is b.nest h) h))
+
+first_for_by : (found : Option Reserved) (w : FoundWord) (b : Building) → IsBuilding b → MayBe (first_of_for found w b)
+first_for_by None w b h = h
+first_for_by (Some r.Do) w b h = body_by (record b { spoilt = not b.nameless }) h
+first_for_by (Some r.If) w b h = tt
+first_for_by (Some r.Then) w b h = tt
+first_for_by (Some r.Elif) w b h = tt
+first_for_by (Some r.Else) w b h = tt
+first_for_by (Some r.Fi) w b h = tt
+first_for_by (Some r.For) w b h = tt
+first_for_by (Some r.While) w b h = tt
+first_for_by (Some r.Until) w b h = tt
+first_for_by (Some r.Done) w b h = tt
+first_for_by (Some r.In) w b h = tt
+
+for_by : (words : List FoundWord) (w : FoundWord) (b : Building) → IsBuilding b → MayBe (elim words [ [] ↦ first_of_for (reserved_in w) w b | v ∷ words ↦ Some (with_word w b) ])
+for_by [] w b h = first_for_by (reserved_in w) w b h
 for_by (v ∷ words) w b h = h
+
+first_behind_by : (found : Option Reserved) (w : FoundWord) (b : Building) → IsBuilding b → MayBe (first_behind found w b)
+first_behind_by None w b h = h
+first_behind_by (Some r.Do) w b h = body_by b h
+first_behind_by (Some r.If) w b h = tt
+first_behind_by (Some r.Then) w b h = tt
+first_behind_by (Some r.Elif) w b h = tt
+first_behind_by (Some r.Else) w b h = tt
+first_behind_by (Some r.Fi) w b h = tt
+first_behind_by (Some r.For) w b h = tt
+first_behind_by (Some r.While) w b h = tt
+first_behind_by (Some r.Until) w b h = tt
+first_behind_by (Some r.Done) w b h = tt
+first_behind_by (Some r.In) w b h = tt
+
+behind_by : (words : List FoundWord) (w : FoundWord) (b : Building) → IsBuilding b → MayBe (elim words [ [] ↦ first_behind (reserved_in w) w b | v ∷ words ↦ Some (with_word w b) ])
+behind_by [] w b h = first_behind_by (reserved_in w) w b h
+behind_by (v ∷ words) w b h = h
+
+in_by : (found : Option Reserved) (b : Building) → IsBuilding b → MayBe (word_at_in found b)
+in_by None b h = h
+in_by (Some r.In) b h = goes_by r.In b h
+in_by (Some r.If) b h = tt
+in_by (Some r.Then) b h = tt
+in_by (Some r.Elif) b h = tt
+in_by (Some r.Else) b h = tt
+in_by (Some r.Fi) b h = tt
+in_by (Some r.For) b h = tt
+in_by (Some r.While) b h = tt
+in_by (Some r.Until) b h = tt
+in_by (Some r.Do) b h = tt
+in_by (Some r.Done) b h = tt
+
+nameless_by : (b : Building) → IsBuilding b → MayBe (without_name b)
+nameless_by b h =
+    when_else b.spoilt (goes_on r.In (record b { nest = nests.named [] b.nest; nameless = true }))
+    (goes_by r.In (record b { nest = nests.named [] b.nest; nameless = true }) (nesting.named_is [] b.nest h))
 
 named_by : (name : Option (List ℕ)) (b : Building) → IsBuilding b → MayBe (named name b)
 named_by None b h = tt
 named_by (Some name) b h = nesting.named_is name b.nest h
 
 word_by : (part : Part) (w : FoundWord) (b : Building) → IsBuilding b → MayBe (word_at part w b)
-word_by p.Name w b h = named_by (name_in w) b h
-word_by p.In w b h = when_then (is_in (reserved_in w)) (goes_on r.In b) (goes_by r.In b h)
+word_by p.Name w b h = either (is_in (reserved_in w)) (without_name b) (named (name_in w) b) (nameless_by b h) (named_by (name_in w) b h)
+word_by p.In w b h = in_by (reserved_in w) b h
 word_by p.Words w b h = for_by b.words w b h
-word_by p.Do w b h = when_then (is_do (reserved_in w)) (goes_on r.Do b) (goes_by r.Do b h)
+word_by p.Do w b h = behind_by b.words w b h
 word_by p.Outside w b h = command_by w b h
 word_by p.Condition w b h = command_by w b h
 word_by (p.Arm further) w b h = command_by w b h
@@ -126,8 +191,8 @@ word_by p.Body w b h = command_by w b h
 word_by p.Each w b h = command_by w b h
 
 end_by : (part : Part) (b : Building) → IsBuilding b → MayBe (end_at part b)
-end_by p.Name b h = tt
-end_by p.In b h = tt
+end_by p.Name b h = h
+end_by p.In b h = h
 end_by p.Words b h = nesting.worded_is (map word_of b.words) b.nest h
 end_by p.Do b h = h
 end_by p.Outside b h = separated_building b h
@@ -143,7 +208,8 @@ unfolding read_token
 token_by (Word w) b h = word_by (part_in b) w b h
 token_by Ends b h = end_by (part_in b) b h
 token_by (Joins op) b h =
-    when_else (nests.is_header (part_in b)) (Some (joined_in op b)) (one_building (has_command b) (joined_by op b) b (joined_building op b h) h)
+    either (nests.is_header (part_in b)) (end_at (part_in b) b) (Some (joined_in op b)) (end_by (part_in b) b h)
+    (one_building (has_command b) (joined_by op b) b (joined_building op b h) h)
 token_by Breaks b h = tt
 
 next_by : (next : Option Building) (tokens : List Token) → ((b : Building) → IsBuilding b → MayBe (read_tokens tokens b)) → MayBe next → MayBe (elim next [ None ↦ None | Some b ↦ read_tokens tokens b ])

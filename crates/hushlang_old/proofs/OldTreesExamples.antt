@@ -110,6 +110,29 @@ empty_blocks : map (old_tree_of false) (codes "if a; then # b\nfi" ∷ codes "if
 unfolding old_tree_of
 empty_blocks = refl
 
+-- A loop with an empty condition never runs its body, and its status is 0, as that of a `for` without words is. Nor does a `for` without
+-- a name
+abbrev never : Option Script
+never = Some (Runs (Starts (For [] [] a) Alone) Empty)
+
+never_run : map (old_tree_of false) (codes "while; do a; done" ∷ codes "until do a; done" ∷ codes "for in b c; do a; done" ∷ codes "for in do a; done" ∷ [])
+    ≡ never ∷ never ∷ never ∷ never ∷ []
+unfolding old_tree_of
+never_run = refl
+
+-- A `for` that is told as a fault when it is run has the status 1 and runs nothing: `while false` in its place
+abbrev told : List Pair
+told =
+    (codes "for x in b; c; do a; done; d", codes "while false; do a; done; d") ∷ (codes "for x in b && c $d 'e'\n do a; done || d", codes "while false; do a; done || d")
+    ∷ (codes "for x in do a; done", codes "while false; do a; done") ∷ (codes "for x y in b; do a; done", codes "while false; do a; done")
+    ∷ (codes "for x\n in b; do a; done", codes "while false; do a; done") ∷ (codes "for; x in b; do a; done", codes "while false; do a; done")
+    ∷ (codes "for in b; c; do a; done", codes "while false; do a; done") ∷ (codes "for x in; b do; do a; done", codes "while false; do a; done")
+    ∷ (codes "for x in b &&; do a; done", codes "for x in b; do a; done") ∷ []
+
+told_read : by_shell told ≡ by_profile told
+unfolding old_tree_of tree_of
+told_read = refl
+
 -- ---- `exit` in 2025.01, as a sandbox of that version has it
 
 -- Each text is read there as the other one is in 2023.01: within a compound command an `exit` loses its number, unless a variable is
@@ -154,10 +177,10 @@ broken_commands_refused = refl
 -- compound commands
 abbrev broken_compounds : List Text
 broken_compounds =
-    codes "if a; then b" ∷ codes "if a; then b; fi c" ∷ codes "if a; then b; fi fi" ∷ codes "if; then b; fi" ∷ codes "while; do b; done" ∷ codes "if a; then elif b; then c; fi" ∷ codes "if a; else b; fi"
+    codes "if a; then b" ∷ codes "if a; then b; fi c" ∷ codes "if a; then b; fi fi" ∷ codes "if; then b; fi" ∷ codes "if a; then elif b; then c; fi" ∷ codes "if a; else b; fi"
     ∷ codes "if a; then b; else c; elif d; then e; fi" ∷ codes "while a; then b; done" ∷ codes "for x in a; do b; fi" ∷ codes "for fi in a; do b; done" ∷ codes "for 1 in a; do b; done"
-    ∷ codes "for $x in a; do b; done" ∷ codes "for HUSH_VERSION in a; do b; done" ∷ codes "for x; in a; do b; done" ∷ codes "for; x in a; do b; done" ∷ codes "for x on a; do b; done" ∷ codes "for x in fi; do b; done"
-    ∷ codes "for x in a && b; do c; done" ∷ codes "for x in a; b; do c; done" ∷ []
+    ∷ codes "for $x in a; do b; done" ∷ codes "for HUSH_VERSION in a; do b; done" ∷ codes "for; in a; do b; done" ∷ codes "for x on a" ∷ codes "for x do b; done" ∷ codes "for x in fi; do b; done"
+    ∷ codes "for x in a; in b; do c; done" ∷ codes "for x in a; if b; do c; done" ∷ codes "for" ∷ []
 
 broken_compounds_refused : map (old_tree_of false) broken_compounds ≡ nothing_of broken_compounds
 unfolding old_tree_of
@@ -166,22 +189,22 @@ broken_compounds_refused = refl
 -- texts with a fault: their end is missing, or a word may not be where it is and a blank or a newline is behind it
 abbrev faulty : List Text
 faulty =
-    codes "if a; then b" ∷ codes "if a" ∷ codes "if a; then b; else c # fi" ∷ codes "if a; then if b; then c; fi; d" ∷ codes "while a; do" ∷ codes "for x in a b" ∷ codes "for x in a; do b; done; until c\nd" ∷ codes "if a && "
+    codes "if a; then b" ∷ codes "if a" ∷ codes "if a; then b; else c # fi" ∷ codes "if a; then if b; then c; fi; d" ∷ codes "while a; do" ∷ codes "for x in a b" ∷ codes "for x in a; do b; done; until c\nd" ∷ codes "if a && " ∷ codes "for" ∷ codes "for x" ∷ codes "for x a" ∷ codes "for x in a; b" ∷ codes "for && x"
     ∷ codes "fi" ∷ codes "a; \"done\" b; c" ∷ codes "a\nthen\tb" ∷ codes "if a; fi" ∷ codes "if a; then b; else c; elif d; then e; fi" ∷ codes "while a; then b; done" ∷ codes "for x in a; do b; fi" ∷ codes "if a; then b; fi fi" ∷ codes "if a; then b; fi c # d"
-    ∷ codes "for fi in a; do b; done" ∷ codes "for x in if a; do b; done"
+    ∷ codes "for fi in a; do b; done" ∷ codes "for x in if a; do b; done" ∷ codes "for x do a; done" ∷ codes "for x in a; in b; do c; done" ∷ codes "for x in a; b; if c; do d; done"
     ∷ codes "'a" ∷ codes "if 'a" ∷ codes "a; 'b\\" ∷ codes "\"it's\"" ∷ codes "${a" ∷ codes "if a; then \"${" ∷ codes "a & 'b' ${c:-d}" ∷ codes "a &" ∷ codes "| b" ∷ codes "if a |& b; then" ∷ []
 
 -- texts without one, and those of which it is not known
 abbrev faultless : List Text
 faultless =
-    codes "" ∷ codes "a; b" ∷ codes "if a; then b; fi" ∷ codes "\"a" ∷ codes "fi; 'a" ∷ codes "${$? '" ∷ codes "if a; b; fi; if c" ∷ codes "fi; a" ∷ codes "fi&&a" ∷ codes "fi||a" ∷ codes "x=$a fi" ∷ codes "if a; then b; fi c;" ∷ codes "a; for x in do b; done" ∷ codes "a; for in b; do c; done" ∷ codes "for" ∷ codes "for x" ∷ codes "if ${a:-b}; then" ∷ codes "if; then b fi" ∷ codes "if a; then elif b; then c; fi" ∷ codes "while; do b; done" ∷ codes "\\fi" ∷ codes "a fi" ∷ codes "for x a" ∷ codes "for x in a; b" ∷ []
+    codes "" ∷ codes "a; b" ∷ codes "if a; then b; fi" ∷ codes "\"a" ∷ codes "fi; 'a" ∷ codes "${$? '" ∷ codes "if a; b; fi; if c" ∷ codes "fi; a" ∷ codes "fi&&a" ∷ codes "fi||a" ∷ codes "x=$a fi" ∷ codes "if a; then b; fi c;" ∷ codes "for x in do a; done" ∷ codes "for in a; do b; done" ∷ codes "for; in a" ∷ codes "for x in fi; do" ∷ codes "if ${a:-b}; then" ∷ codes "if; then b fi" ∷ codes "if a; then elif b; then c; fi" ∷ codes "while; do b; done" ∷ codes "\\fi" ∷ codes "a fi" ∷ []
 
 faults : map (has_fault false) (faulty ++ faultless) ≡ map (λ text. true) faulty ++ map (λ text. false) faultless
 unfolding has_fault
 faults = refl
 
 -- a fault is not always that the end is missing
-ends_missing : map (lacks_end false) (codes "if a; then \"b" ∷ codes "while a; do" ∷ codes "for x in a b" ∷ codes "if a && " ∷ codes "fi" ∷ codes "a; if fi" ∷ codes "a" ∷ []) ≡ true ∷ true ∷ true ∷ true ∷ false ∷ false ∷ false ∷ []
+ends_missing : map (lacks_end false) (codes "if a; then \"b" ∷ codes "while a; do" ∷ codes "for x in a b" ∷ codes "for x\na" ∷ codes "if a && " ∷ codes "fi" ∷ codes "a; if fi" ∷ codes "a" ∷ []) ≡ true ∷ true ∷ true ∷ true ∷ true ∷ false ∷ false ∷ false ∷ []
 unfolding lacks_end
 ends_missing = refl
 

@@ -1,8 +1,8 @@
 -- The tree of a text as U-Boot's old shell reads it (common/cli_hush.c, `reserved_word`, `done_command`, `done_pipe`), token by
 -- token. A block without a command has one without words: it does nothing and keeps the status. A text that has a
--- construct that is not followed here has no tree: a fault; a condition without a command; a word straight behind a compound
--- command; `then` straight before `elif`; an assignment before a command
--- where either has a variable; and the names `HUSH_VERSION` and `HUSH_NO_EVAL`, by which the shell changes. 2023.01 and 2025.01
+-- construct that is not followed here has no tree: a fault; the condition of an `if` without a command; a word straight behind a
+-- compound command; `then` straight before `elif`; an assignment before a command
+-- where either has a variable; a `for` with a word for its name that is none; and the names `HUSH_VERSION` and `HUSH_NO_EVAL`, by which the shell changes. 2023.01 and 2025.01
 -- read the same; but what `exit` does in 2025.01 depends on where it stands, and that is in its tree.
 use Rattle.std.specs.Prelude.{ℕ, ◌==◌, Bool, true, false, not, ◌&&◌, ◌||◌, List, [], ◌∷◌, ◌++◌, map, take, drop, if◌then◌else◌, Option, Some, None, is_some, unwrap_or, codes, bytes_eq}
 use Rattle.std.specs.List.{list_all, prefix_len}
@@ -82,8 +82,9 @@ changes_shell w = is_name_of_shell (value_of w).0
 -- ---- what is on the way
 
 -- whether the text is read for 2025.01; the block on the way and the compound commands that are open; whether that block has had a
--- separator; the words on the way, whether all of them are assignments, and whether assignments are before them; and
--- whether a compound command has just ended
+-- separator; the words on the way, whether all of them are assignments, and whether assignments are before them; whether a
+-- compound command has just ended; and of a `for` before its body, whether it has no name, and whether it is told as a fault
+-- when it is run
 pub record Building : Type 0 where
   pub newer : Bool
   pub nest : Nest
@@ -92,6 +93,8 @@ pub record Building : Type 0 where
   pub assigning : Bool
   pub behind : Bool
   pub closed : Bool
+  pub nameless : Bool
+  pub spoilt : Bool
 
 abbrev pub nothing_built : (newer : Bool) → Building
 nothing_built newer = record {
@@ -102,6 +105,8 @@ nothing_built newer = record {
   assigning = false;
   behind = false;
   closed = false;
+  nameless = false;
+  spoilt = false;
 }
 
 abbrev pub is_open : Building → Bool
@@ -158,12 +163,11 @@ joined_by op b = record (command_ended b) { nest = nests.operator_read op (comma
 abbrev pub opened : Reserved → Building → Option Building
 opened word b = if nests.is_full b.nest then None else Some (record b { nest = nests.begun word b.nest; separated = false })
 
--- where a block without a command is refused: a condition; and behind `then`, if `elif` is straight after that, which would go
+-- where a block without a command is refused: the condition of an `if`; and behind `then`, if `elif` is straight after that, which would go
 -- by an older condition
 abbrev pub needs_command : Part → Reserved → (separated : Bool) → Bool
 needs_command p.Condition r.Then separated = true
 needs_command (p.Arm further) r.Elif separated = not separated
-needs_command p.Test r.Do separated = true
 needs_command part word separated = false
 
 abbrev pub gone_to : nests.Gone → Building → Option Building
@@ -172,13 +176,28 @@ gone_to (nests.Closed nest) b = Some (record b { nest = nest; closed = true })
 gone_to nests.Astray b = None
 
 -- a reserved word that goes on with the innermost compound command, or ends it
+-- `do` of a `while` or `until`
+abbrev pub is_do_of : Part → Reserved → Bool
+is_do_of p.Test r.Do = true
+is_do_of part word = false
+
 abbrev pub goes_on : Reserved → Building → Option Building
 goes_on word b =
     if needs_command (part_in b) word b.separated && nests.lacks_command b.nest.block then None
     else gone_to (nests.goes_on word b.nest) b
 
+-- A loop with an empty condition ends before its body is run, with the status 0 (`run_list_real`, by its `flag_rep`)
+abbrev pub is_idle : Reserved → Building → Bool
+is_idle word b = is_do_of (part_in b) word && nests.lacks_command b.nest.block
+
+abbrev pub with_idle : Reserved → Building → Building
+with_idle word b = if is_idle word b then record b { nest = nests.idle b.nest } else b
+
+abbrev pub part_read : Reserved → Building → Option Building
+part_read word b = goes_on word (with_idle word b)
+
 abbrev pub reserved_read : Reserved → Building → Option Building
-reserved_read word b = if nests.begins word then opened word b else goes_on word b
+reserved_read word b = if nests.begins word then opened word b else part_read word b
 
 -- ---- words
 
@@ -216,20 +235,59 @@ further_word w b =
 abbrev pub command_word : FoundWord → Building → Option Building
 command_word w b = if b.closed then None else elim b.words [ [] ↦ first_word w b | v ∷ words ↦ further_word w b ]
 
--- the words of a `for`, of which the first may not be reserved
+-- ---- a `for` before its body. It is told as a fault when it is run, and its status is 1, unless one word is its name, with `in`
+-- straight behind it, and all its words are in one list, which a separator ends (`run_list_real`). One without a name does
+-- nothing, and its status is 0
+
+abbrev pub nest_at_do : Building → Nest
+nest_at_do b = if b.spoilt then nests.unmet b.nest else (if b.nameless then nests.idle b.nest else b.nest)
+
+abbrev pub header_read : Building → Building
+header_read b = record b { nest = nest_at_do b; nameless = false; spoilt = false }
+
+abbrev pub body_begun : Building → Option Building
+body_begun b = goes_on r.Do (header_read b)
+
+abbrev pub spoil : Building → Building
+spoil b = record b { spoilt = true }
+
+-- the first word behind `in`: `do` is there without a list of words
+abbrev pub first_of_for : Option Reserved → FoundWord → Building → Option Building
+first_of_for None w b = Some (with_word w b)
+first_of_for (Some r.Do) w b = body_begun (record b { spoilt = not b.nameless })
+first_of_for (Some word) w b = None
+
 abbrev pub word_of_for : FoundWord → Building → Option Building
-word_of_for w b =
-    elim b.words [ [] ↦ if is_some (reserved_in w) then None else Some (with_word w b) | v ∷ words ↦ Some (with_word w b) ]
+word_of_for w b = elim b.words [ [] ↦ first_of_for (reserved_in w) w b | v ∷ words ↦ Some (with_word w b) ]
+
+-- behind the words of a `for`: `do`, or a further list
+abbrev pub first_behind : Option Reserved → FoundWord → Building → Option Building
+first_behind None w b = Some (spoil (with_word w b))
+first_behind (Some r.Do) w b = body_begun b
+first_behind (Some word) w b = None
+
+abbrev pub word_behind : FoundWord → Building → Option Building
+word_behind w b = elim b.words [ [] ↦ first_behind (reserved_in w) w b | v ∷ words ↦ Some (with_word w b) ]
+
+-- behind a name: `in`, or a further word
+abbrev pub word_at_in : Option Reserved → Building → Option Building
+word_at_in None b = Some (spoil b)
+word_at_in (Some r.In) b = goes_on r.In b
+word_at_in (Some word) b = None
 
 abbrev pub named : Option (List ℕ) → Building → Option Building
 named None b = None
 named (Some name) b = Some (record b { nest = nests.named name b.nest })
 
+-- `in` straight behind `for`
+abbrev pub without_name : Building → Option Building
+without_name b = if b.spoilt then None else goes_on r.In (record b { nest = nests.named [] b.nest; nameless = true })
+
 abbrev pub word_at : Part → FoundWord → Building → Option Building
-word_at p.Name w b = named (name_in w) b
-word_at p.In w b = if is_in (reserved_in w) then goes_on r.In b else None
+word_at p.Name w b = if is_in (reserved_in w) then without_name b else named (name_in w) b
+word_at p.In w b = word_at_in (reserved_in w) b
 word_at p.Words w b = word_of_for w b
-word_at p.Do w b = if is_do (reserved_in w) then goes_on r.Do b else None
+word_at p.Do w b = word_behind w b
 word_at part w b = command_word w b
 
 -- `;` or a newline (`done_pipe`)
@@ -241,10 +299,10 @@ abbrev pub for_worded : Building → Building
 for_worded b = record b { nest = nests.worded (map word_of b.words) b.nest; words = [] }
 
 abbrev pub end_at : Part → Building → Option Building
-end_at p.Name b = None
-end_at p.In b = None
+end_at p.Name b = Some (spoil b)
+end_at p.In b = Some (spoil b)
 end_at p.Words b = Some (for_worded b)
-end_at p.Do b = Some b
+end_at p.Do b = Some (record b { words = [] })
 end_at part b = Some (list_separated b)
 
 abbrev pub has_command : Building → Bool
@@ -255,7 +313,7 @@ abbrev pub joined_in : Op → Building → Building
 joined_in op b = if has_command b then joined_by op b else b
 
 abbrev pub join_in : Op → Building → Option Building
-join_in op b = if nests.is_header (part_in b) then None else Some (joined_in op b)
+join_in op b = if nests.is_header (part_in b) then end_at (part_in b) b else Some (joined_in op b)
 
 unfoldable pub read_token : Token → Building → Option Building
 read_token (Word w) b = word_at (part_in b) w b
@@ -316,7 +374,7 @@ is_stray part (Some word) = strays part word
 abbrev pub lacks_words : Building → Bool
 lacks_words b = elim b.words [ [] ↦ true | word ∷ words ↦ false ]
 
--- whether a word is a reserved one, but not `in`, or not `do`
+-- whether a word is a reserved one, but neither `in` nor `do`
 abbrev pub is_other_than_in : Option Reserved → Bool
 is_other_than_in word = is_some word && not (is_in word)
 
@@ -324,12 +382,12 @@ abbrev pub is_other_than_do : Option Reserved → Bool
 is_other_than_do word = is_some word && not (is_do word)
 
 -- a word that is a fault: any straight behind a compound command; and a reserved word that may not be there, is the name of a
--- `for`, or is the first of its words. `in` for the name, and `do` for the first word, are read, but are not followed
+-- `for`, or is the first of its words
 abbrev pub is_wrong : Part → FoundWord → Building → Bool
 is_wrong p.Name w b = is_other_than_in (reserved_in w)
-is_wrong p.In w b = false
+is_wrong p.In w b = is_other_than_in (reserved_in w)
 is_wrong p.Words w b = lacks_words b && is_other_than_do (reserved_in w)
-is_wrong p.Do w b = false
+is_wrong p.Do w b = lacks_words b && is_other_than_do (reserved_in w)
 is_wrong part w b = b.closed || lacks_words b && is_stray part (reserved_in w)
 
 -- whether a token that is not followed is a fault. One straight in front of a `;` or an operator is told, and then the shell reads

@@ -28,6 +28,8 @@ building b = record {
   assigning = b.assigning;
   behind = b.behind;
   closed = b.closed;
+  nameless = b.nameless;
+  spoilt = b.spoilt;
 }
 
 abbrev pub without_words : says.Building → says.Building

@@ -18,7 +18,8 @@ use std::mem;
 
 /// Whether the text is read for 2025.01; the block on the way and the compound commands that are open;
 /// whether that block has had a separator; the words on the way, whether all of them are assignments,
-/// and whether assignments are before them; and whether a compound command has just ended.
+/// and whether assignments are before them; whether a compound command has just ended; and of a `for` in
+/// front of its body, whether it has no name, and whether it is told as a fault when it is run.
 #[derive(Drop)]
 pub(crate) struct Building {
     alloc: Global,
@@ -29,6 +30,8 @@ pub(crate) struct Building {
     assigning: bool,
     behind: bool,
     closed: bool,
+    nameless: bool,
+    spoilt: bool,
 }
 
 impl Building {
@@ -45,6 +48,8 @@ impl Building {
             assigning: false,
             behind: false,
             closed: false,
+            nameless: false,
+            spoilt: false,
         }
     }
 
@@ -110,6 +115,26 @@ impl Building {
         Ok(true)
     }
 
+    /// A loop with an empty condition never runs its body, which this word begins.
+    fn make_idle(&mut self, word: Reserved) -> Result<(), AllocError>
+        ensures { OnOk result (shown.building self.new
+            ≡ says.with_idle word (shown.building self.old)) }
+    {
+        if is_do_of(self.nest.part(), word) && self.nest.lacks_command() {
+            return self.nest.make_idle();
+        }
+        Ok(())
+    }
+
+    /// A reserved word behind a block.
+    fn read_part(&mut self, word: Reserved) -> Result<bool, AllocError>
+        ensures { IfOk result (λ followed. says.part_read word (shown.building self.old)
+            ≡ shown.when followed (shown.building self.new)) }
+    {
+        self.make_idle(word)?;
+        self.go_on(word)
+    }
+
     /// A reserved word at the beginning of a command.
     fn read_reserved(&mut self, word: Reserved) -> Result<bool, AllocError>
         ensures { IfOk result (λ followed. says.reserved_read word (shown.building self.old)
@@ -118,7 +143,7 @@ impl Building {
         if begins(word) {
             return self.begin(word);
         }
-        self.go_on(word)
+        self.read_part(word)
     }
 
     /// The first word of a command, which is not reserved.
@@ -191,16 +216,91 @@ impl Building {
         }
     }
 
-    /// A word of a `for`.
+    /// All in front of the body of a `for` has been read.
+    fn end_header(&mut self) -> Result<(), AllocError>
+        ensures { OnOk result (shown.building self.new ≡ says.header_read (shown.building self.old)) }
+    {
+        let spoilt = mem::replace(&mut self.spoilt, false);
+        let nameless = mem::replace(&mut self.nameless, false);
+        if spoilt {
+            return self.nest.make_unmet();
+        }
+        if nameless {
+            return self.nest.make_idle();
+        }
+        Ok(())
+    }
+
+    /// The body of a `for` begins.
+    fn begin_body(&mut self) -> Result<bool, AllocError>
+        ensures { IfOk result (λ followed. says.body_begun (shown.building self.old)
+            ≡ shown.when followed (shown.building self.new)) }
+    {
+        self.end_header()?;
+        self.go_on(Reserved::Do)
+    }
+
+    /// A word of a `for`. If `do` is the first one, there is no list of words.
     fn read_word_of_for(&mut self, word: FoundWord) -> Result<bool, AllocError>
         ensures { IfOk result (λ followed. says.word_of_for (tokens.word word)
             (shown.building self.old) ≡ shown.when followed (shown.building self.new)) }
     {
-        if self.words.is_empty() && reserved_in(&word).is_some() {
-            return Ok(false);
+        if self.words.is_empty() {
+            match reserved_in(&word) {
+                None => (),
+                Some(Reserved::Do) => {
+                    self.spoilt = !self.nameless;
+                    return self.begin_body();
+                }
+                Some(_) => return Ok(false),
+            }
         }
         self.words.push(word)?;
         Ok(true)
+    }
+
+    /// A word behind the words of a `for`: `do`, or one of a further list.
+    fn read_word_behind(&mut self, word: FoundWord) -> Result<bool, AllocError>
+        ensures { IfOk result (λ followed. says.word_behind (tokens.word word)
+            (shown.building self.old) ≡ shown.when followed (shown.building self.new)) }
+    {
+        if self.words.is_empty() {
+            match reserved_in(&word) {
+                None => self.spoilt = true,
+                Some(Reserved::Do) => return self.begin_body(),
+                Some(_) => return Ok(false),
+            }
+        }
+        self.words.push(word)?;
+        Ok(true)
+    }
+
+    /// A word behind the name of a `for`: `in`, or a further word.
+    fn read_in(&mut self, word: Option<Reserved>) -> Result<bool, AllocError>
+        ensures { IfOk result (λ followed. says.word_at_in word (shown.building self.old)
+            ≡ shown.when followed (shown.building self.new)) }
+    {
+        match word {
+            None => {
+                self.spoilt = true;
+                Ok(true)
+            }
+            Some(Reserved::In) => self.go_on(Reserved::In),
+            Some(_) => Ok(false),
+        }
+    }
+
+    /// `in` straight behind `for`.
+    fn read_without_name(&mut self) -> Result<bool, AllocError>
+        ensures { IfOk result (λ followed. says.without_name (shown.building self.old)
+            ≡ shown.when followed (shown.building self.new)) }
+    {
+        if self.spoilt {
+            return Ok(false);
+        }
+        self.nest.set_name(Vec::new(self.alloc))?;
+        self.nameless = true;
+        self.go_on(Reserved::In)
     }
 
     /// The word behind `for`: its name.
@@ -222,12 +322,11 @@ impl Building {
             ≡ shown.when followed (shown.building self.new)) }
     {
         match self.nest.part() {
+            Part::Name if is_in(reserved_in(&word)) => self.read_without_name(),
             Part::Name => self.read_name(word),
-            Part::In if is_in(reserved_in(&word)) => self.go_on(Reserved::In),
-            Part::In => Ok(false),
+            Part::In => self.read_in(reserved_in(&word)),
             Part::Words => self.read_word_of_for(word),
-            Part::Do if is_do(reserved_in(&word)) => self.go_on(Reserved::Do),
-            Part::Do => Ok(false),
+            Part::Do => self.read_word_behind(word),
             _ => self.read_command_word(word),
         }
     }
@@ -248,7 +347,7 @@ impl Building {
             ≡ shown.when followed (shown.building self.new)) }
     {
         if is_header(self.nest.part()) {
-            return Ok(false);
+            return self.end();
         }
         if self.closed || !self.words.is_empty() {
             self.join_by(op)?;
@@ -263,9 +362,10 @@ impl Building {
     {
         let part = self.nest.part();
         match part {
-            Part::Name => is_other_than_in(reserved_in(word)),
-            Part::Words => self.words.is_empty() && is_other_than_do(reserved_in(word)),
-            Part::In | Part::Do => false,
+            Part::Name | Part::In => is_other_than_in(reserved_in(word)),
+            Part::Words | Part::Do => {
+                self.words.is_empty() && is_other_than_do(reserved_in(word))
+            }
             _ => self.closed || (self.words.is_empty() && is_stray(part, reserved_in(word))),
         }
     }
@@ -306,9 +406,9 @@ impl Building {
             (shown.building self.old) ≡ shown.when followed (shown.building self.new)) }
     {
         match self.nest.part() {
-            Part::Name | Part::In => return Ok(false),
+            Part::Name | Part::In => self.spoilt = true,
             Part::Words => self.end_words()?,
-            Part::Do => (),
+            Part::Do => self.words = Vec::new(self.alloc),
             _ => self.separate()?,
         }
         Ok(true)
@@ -353,6 +453,15 @@ fn needs_command(part: Part, word: Reserved, separated: bool) -> bool
     match (part, word) {
         (Part::Condition, Reserved::Then) => true,
         (Part::Arm(_), Reserved::Elif) => !separated,
+        _ => false,
+    }
+}
+
+/// Whether a word is `do` of a `while` or `until`.
+fn is_do_of(part: Part, word: Reserved) -> bool
+    ensures { result ≡ says.is_do_of part word }
+{
+    match (part, word) {
         (Part::Test, Reserved::Do) => true,
         _ => false,
     }

@@ -1,10 +1,10 @@
 -- The trees of nested commands hold a command in each block.
-use Rattle.std.proofs.Common.{ℕ, List, [], ◌∷◌, ◌++◌, Option, Some, None}
+use Rattle.std.proofs.Common.{ℕ, List, [], ◌∷◌, ◌++◌, Option, Some, None, false}
 use Rattle.hushlang.specs.Tree as tree
 use Rattle.hushlang.specs.Tree.{Script, AndOr, Command, IsProper, IsProperList, IsProperJoined, IsProperCommand, HasArm, AreProperArms, HoldsCommand}
 use Rattle.hushlang.specs.TreesShown.{runs, joins, arms}
 use Rattle.hushlang.specs.declared.tree.Op.{Op}
-use Rattle.hushlang_parts.specs.Nests.{Block, with_command, list_ended, body_of, Compound, Condition, Arm, Else, Test, Body, Name, In, Words, Do, Each, Next, Enters, Closes, Strays, next_part, name_read, words_read, Nest, nothing_open, command_added, operator_read, list_closed, begun, Gone, Entered, Closed, Astray, gone_to, goes_among, goes_on, turned, named, worded, script_in}
+use Rattle.hushlang_parts.specs.Nests.{Block, with_command, list_ended, body_of, Compound, Condition, Arm, Else, Test, Body, Name, In, Words, Do, Each, Next, Enters, Closes, Strays, next_part, name_read, words_read, idle, unmet, Nest, nothing_open, command_added, operator_read, list_closed, begun, Gone, Entered, Closed, Astray, gone_to, goes_among, goes_on, turned, named, worded, script_in}
 use Rattle.hushlang_parts.specs.declared.reserved.Reserved.{Reserved}
 use Rattle.hushlang_parts.specs.declared.reserved.Reserved.TheVariants as r
 
@@ -221,6 +221,12 @@ named_is name n h = (h.0, turned_is (name_read name) n.opens (name_is name) h.1)
 
 pub worded_is : (words : List tree.Word) (n : Nest) → IsNest n → IsNest (worded words n)
 worded_is words n h = (h.0, turned_is (words_read words) n.opens (words_are words) h.1)
+
+pub idle_is : (n : Nest) → IsNest n → IsNest (idle n)
+idle_is n h = (h.0, turned_is (λ compound. In []) n.opens (λ compound c. tt) h.1)
+
+pub unmet_is : (n : Nest) → IsNest n → IsNest (unmet n)
+unmet_is n h = ((tt, tt, tt), turned_is (λ compound. Test false) n.opens (λ compound c. tt) h.1)
 
 pub script_is : (n : Nest) → IsNest n → IsProper (script_in n)
 script_is n h = runs_proper n.block.lists h.0.0

@@ -236,6 +236,17 @@ named name n = record n { opens = turned (name_read name) n.opens }
 abbrev pub worded : (words : List tree.Word) → Nest → Nest
 worded words n = record n { opens = turned (words_read words) n.opens }
 
+-- a loop whose body is never run, and whose status is 0: a `for` without words, before `do`
+abbrev pub idle : Nest → Nest
+idle n = record n { opens = turned (λ compound. In []) n.opens }
+
+abbrev pub false_command : Command
+false_command = tree.Simple ((tree.Bytes (codes "false") ∷ []) ∷ [])
+
+-- a loop whose body is never run, and whose status is 1: `while false`, before `do`
+abbrev pub unmet : Nest → Nest
+unmet n = record { block = with_command false_command no_command; opens = turned (λ compound. Test false) n.opens }
+
 -- the and-or lists that are whole
 abbrev pub script_in : Nest → Script
 script_in n = runs n.block.lists

@@ -4,11 +4,12 @@ ghost use Rattle.hushlang.specs.TreesShown as view;
 ghost use Rattle.hushlang_parts.specs.Nests as says;
 ghost use Rattle.hushlang_parts.specs.NestsShown as shown;
 
+use crate::calls::call_of;
 use crate::next_part::{Next, next_part};
 use crate::open_commands::{Block, Compound, Opens, body_of};
 use crate::part::Part;
 use crate::reserved::Reserved;
-use hushlang::{Command, Op, Script, Word};
+use hushlang::{Command, Op, Piece, Script, Word};
 use std::alloc::{AllocError, Global};
 use std::mem;
 use std::rc::Rc;
@@ -65,6 +66,18 @@ fn worded(words: Vec<Word>, compound: Compound) -> Compound
         Compound::Words(name) => Compound::Do(name, words),
         compound => compound,
     }
+}
+
+/// The command `false`.
+#[tactic(auto, using(hushlang::proofs::ViewLemmas::what_it_says))]
+fn false_command(alloc: Global) -> Result<Command, AllocError>
+    ensures { IfOk result (λ command. view.command command ≡ says.false_command) }
+{
+    let mut pieces = Vec::new(alloc);
+    pieces.push(Piece::Bytes(Vec::from_slice(alloc, b"false")?))?;
+    let mut words = Vec::new(alloc);
+    words.push(Word { pieces })?;
+    Ok(Command::Simple(call_of(alloc, words)?))
 }
 
 impl Nest {
@@ -217,6 +230,32 @@ impl Nest {
             return Ok(());
         };
         self.opens.push(worded(words, compound), outer)
+    }
+
+    /// Makes the innermost compound command one whose body is never run, and whose status is 0: a `for`
+    /// without words, in front of `do`. Errors: memory ran out.
+    #[tactic(auto, unfolding(crate::specs::NestsShown::nest))]
+    pub fn make_idle(&mut self) -> Result<(), AllocError>
+        ensures { OnOk result (shown.nest self.new ≡ says.idle (shown.nest self.old)) }
+    {
+        let Some((_, outer)) = self.opens.pop() else {
+            return Ok(());
+        };
+        self.opens.push(Compound::In(Vec::new(self.alloc)), outer)
+    }
+
+    /// Makes the innermost compound command one whose body is never run, and whose status is 1: `while
+    /// false`, in front of `do`. Errors: memory ran out.
+    #[tactic(auto, unfolding(crate::specs::NestsShown::nest))]
+    pub fn make_unmet(&mut self) -> Result<(), AllocError>
+        ensures { OnOk result (shown.nest self.new ≡ says.unmet (shown.nest self.old)) }
+    {
+        self.block = Block::new(self.alloc);
+        self.block.push(false_command(self.alloc)?)?;
+        let Some((_, outer)) = self.opens.pop() else {
+            return Ok(());
+        };
+        self.opens.push(Compound::Test(false), outer)
     }
 
     /// Takes the and-or lists that are whole.
