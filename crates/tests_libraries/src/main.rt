@@ -37,31 +37,21 @@
 //! Rows of the stores themselves: `start`, with the variables that are set, `store CHANGE` and `show`.
 #![tactic(auto)]
 
-mod both;
-mod calls;
 mod case;
-mod checksum;
-mod growths;
-mod language;
-mod lists;
-mod rehearsal;
-mod set_image;
-mod store;
-mod variables;
-mod verdicts;
+mod endings;
 
-use case::Case;
+use case::Whole;
 use std::process::ExitCode;
 use std::{env, io};
-use tests_rows::transcript;
+use tests_language::Case;
+use tests_rows::answer_input;
+use tests_runs::run_growths;
+use tests_tools::{change_image, time_checksum};
 
 /// Answers the rows of the input.
 fn answer(rt: &HostRuntime) -> anyhow::Result<()> {
-    let alloc = rt.alloc();
-    let rows = io::read_to_string(alloc, rt.reader())?;
-    let mut case = Case::new(alloc)?;
-    let answers = transcript(alloc, rows.as_str(), &mut case)?;
-    Ok(print!(rt; "{answers}")?)
+    let case = Case::new(rt.alloc())?;
+    answer_input(rt, &mut Whole { case })
 }
 
 /// The words after the program's name.
@@ -81,14 +71,14 @@ fn first(words: &[String]) -> Option<&str> {
 /// Runs the job that the words say, and tells whether there is one.
 fn run(rt: &HostRuntime, words: &[String]) -> io::Result<bool> {
     let [what, rest @ ..] = words else {
-        growths::run(rt, None)?;
-        checksum::run(rt)?;
+        run_growths(rt, None)?;
+        time_checksum(rt)?;
         return Ok(true);
     };
     match what.as_str() {
-        "checksum" => checksum::run(rt)?,
-        "growths" => growths::run(rt, first(rest))?,
-        "set_image" => return Ok(set_image::run(rt, rest).is_some()),
+        "checksum" => time_checksum(rt)?,
+        "growths" => run_growths(rt, first(rest))?,
+        "set_image" => return Ok(change_image(rt, rest).is_some()),
         _ => return Ok(false),
     }
     Ok(true)

@@ -2,6 +2,7 @@
 //! nothing, so that an empty word can be written. `\(N TEXT\)` is a text N times; it has no other such text in it.
 
 use std::alloc::{AllocError, Global};
+use std::fmt::Write;
 
 /// What the next byte of a row is read as.
 #[derive(Clone, Copy)]
@@ -132,7 +133,7 @@ pub fn shown(alloc: Global, bytes: &[u8]) -> Result<String, AllocError> {
             b'\n' => text.push_str("\\n")?,
             b'\\' => text.push_str("\\\\")?,
             b' '..=b'~' => text.push(char::from(*byte))?,
-            other => text.push_str(format!(in alloc; "\\x{other:02x}")?.as_str())?,
+            other => write!(text, "\\x{other:02x}")?,
         }
     }
     Ok(text)

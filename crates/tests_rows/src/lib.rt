@@ -6,6 +6,6 @@ mod answers;
 mod escapes;
 mod words;
 
-pub use answers::{Rows, push_lines, transcript};
+pub use answers::{Rows, answer_input, said};
 pub use escapes::{shown, unescaped};
-pub use words::{number, slices, text_of, words_of};
+pub use words::{first_word, number, slices, subject_of, text_of, unescaped_text, words_of};

@@ -4,6 +4,22 @@ use crate::escapes::{shown, unescaped};
 use anyhow::Context;
 use std::alloc::{AllocError, Global};
 
+/// The first word of a text, and what it says after that: nothing where it has one word alone.
+pub fn first_word(says: &str) -> (&str, &str) {
+    says.split_once(' ').unwrap_or((says, ""))
+}
+
+/// What a table has beside a word, or `other` where it has none. A row of the table has several words, a space between
+/// them.
+pub fn subject_of<S: Copy>(subjects: &[(&str, S)], word: &str, other: S) -> S {
+    for (words, subject) in subjects {
+        if words.split(' ').any(|it| it == word) {
+            return *subject;
+        }
+    }
+    other
+}
+
 /// The words of what a row says, a space between them. Where it says nothing there is none.
 pub fn words_of(alloc: Global, text: &str) -> Result<Vec<Vec<u8>>, AllocError> {
     let mut words = Vec::new(alloc);
@@ -35,4 +51,9 @@ pub fn text_of(alloc: Global, bytes: &[u8]) -> Result<String, AllocError> {
         Ok(text) => String::from_str(alloc, text),
         Err(_) => shown(alloc, bytes),
     }
+}
+
+/// What a text of a row stands for, as `text_of` has its bytes.
+pub fn unescaped_text(alloc: Global, says: &str) -> Result<String, AllocError> {
+    text_of(alloc, &unescaped(alloc, says)?)
 }

@@ -1,229 +1,64 @@
-//! What the rows of a paragraph have set.
+//! All rows: those that the libraries answer, and those of the whole program.
 
-use crate::readers::Source;
-use crate::writers::Mode;
-use crate::{environments, faults, files, images, outputs, performing, subcommands};
-use envimage::ByteOrder;
-use envtools::{Env, PrintForm};
-use std::alloc::{AllocError, Global};
-use tests_rows::{Rows, number, text_of, unescaped};
-use tool_files::MemoryFiles;
-use tool_words::CalledAs;
+use crate::faults;
+use crate::performing::{rehearse, run};
+use tests_callers::images::order_of;
+use tests_rows::{Rows, subject_of};
+use tests_tools::{Calls, Case, Performed, answer_call, answer_sweep};
 
-/// A case: what is set, by which the next rows are answered.
+/// What the rows of a paragraph have set.
 #[derive(Drop)]
-pub(crate) struct Case<'a> {
-    pub(crate) rt: &'a HostRuntime,
-    pub(crate) alloc: Global,
-    /// The image, or the first copy of a pair.
-    pub(crate) first: Vec<u8>,
-    /// The second copy of a pair.
-    pub(crate) second: Option<Vec<u8>>,
-    pub(crate) order: ByteOrder,
-    /// How variables of the image are printed.
-    pub(crate) form: PrintForm,
-    pub(crate) env: Env,
-    /// The files that a call begins with.
-    pub(crate) given: Vec<(String, Vec<u8>)>,
-    /// The number of the call of files that fails.
-    pub(crate) failing: Option<usize>,
-    /// The files, as the last call left them.
-    pub(crate) files: MemoryFiles,
-    /// Whether rows of files are answered by those of the machine.
-    pub(crate) is_machine: bool,
-    /// What the input gives, how many bytes a read, and the number of the read that fails.
-    pub(crate) input: Vec<u8>,
-    pub(crate) step: u32,
-    pub(crate) failing_read: u32,
-    /// How often the last call read its input.
-    pub(crate) reads: u32,
-    pub(crate) called: CalledAs,
-    pub(crate) out: Mode,
-    pub(crate) err: Mode,
-    /// The last help.
-    pub(crate) help: String,
-}
-
-impl<'a> Case<'a> {
-    /// A case in which nothing is set.
-    pub(crate) fn new(rt: &'a HostRuntime) -> Case<'a> {
-        let alloc = rt.alloc();
-        Case {
-            rt,
-            alloc,
-            first: Vec::new(alloc),
-            second: None,
-            order: ByteOrder::Little,
-            form: PrintForm {
-                header: true,
-                escaped: false,
-                null: false,
-            },
-            env: Env::new(alloc),
-            given: Vec::new(alloc),
-            failing: None,
-            files: MemoryFiles::new(alloc, None),
-            is_machine: false,
-            input: Vec::new(alloc),
-            step: 3,
-            failing_read: u32::MAX,
-            reads: 0,
-            called: CalledAs::Ubtool,
-            out: Mode::All,
-            err: Mode::All,
-            help: String::new(alloc),
-        }
-    }
-
-    /// The input, which is not read.
-    pub(crate) fn source(&self) -> Source<'_> {
-        Source {
-            bytes: &self.input,
-            step: self.step,
-            failing: self.failing_read,
-            reads: 0,
-            has_ended: false,
-        }
-    }
-
-    /// The files that a call begins with.
-    pub(crate) fn fresh(&self) -> Result<MemoryFiles, AllocError> {
-        let mut files = MemoryFiles::new(self.alloc, self.failing);
-        for (path, bytes) in &self.given {
-            files.add(path.as_str(), bytes)?;
-        }
-        Ok(files)
-    }
-
-    /// Adds a file.
-    fn add(&mut self, says: &str) -> anyhow::Result<()> {
-        let (path, bytes) = says.split_once(' ').unwrap_or((says, ""));
-        let path = String::from_str(self.alloc, path)?;
-        Ok(self.given.push((path, unescaped(self.alloc, bytes)?))?)
-    }
-
-    /// Sets the image, the input or a file.
-    fn put_bytes(&mut self, word: &str, says: &str) -> anyhow::Result<()> {
-        let bytes = unescaped(self.alloc, says)?;
-        match word {
-            "first" => self.first = bytes,
-            "second" => self.second = Some(bytes),
-            _ => self.input = bytes,
-        }
-        Ok(())
-    }
-
-    /// Sets a number.
-    fn put_number(&mut self, word: &str, says: &str) -> anyhow::Result<()> {
-        let number = number(says)?;
-        match word {
-            "failing" => self.failing = Some(number as usize),
-            "step" => self.step = number,
-            _ => self.failing_read = number,
-        }
-        Ok(())
-    }
-
-    /// Sets what an output takes.
-    fn put_mode(&mut self, word: &str, says: &str) -> anyhow::Result<()> {
-        let mode = Mode::new(says)?;
-        match word {
-            "out" => self.out = mode,
-            _ => self.err = mode,
-        }
-        Ok(())
-    }
-
-    /// Sets what is one of two.
-    fn choose(&mut self, word: &str) -> anyhow::Result<()> {
-        match word {
-            "big-endian" => self.order = ByteOrder::Big,
-            "escaped" => self.form.escaped = true,
-            "null" => self.form.null = true,
-            "machine" => self.is_machine = true,
-            "fw-tool" => self.called = CalledAs::FwSetenv,
-            _ => anyhow::bail!("no row begins so"),
-        }
-        Ok(())
-    }
-
-    /// Sets what a row says.
-    fn put(&mut self, word: &str, says: &str) -> anyhow::Result<String> {
-        match word {
-            "first" | "second" | "input" => self.put_bytes(word, says)?,
-            "failing" | "step" | "failing-read" => self.put_number(word, says)?,
-            "out" | "err" => self.put_mode(word, says)?,
-            "file" => self.add(says)?,
-            _ => self.choose(word)?,
-        }
-        Ok(String::new(self.alloc))
-    }
+pub(crate) struct Whole<'a> {
+    pub(crate) case: Case<'a>,
 }
 
 /// What a row speaks of.
 #[derive(Clone, Copy)]
 enum Subject {
-    Setting,
-    Image,
-    Environment,
+    Library,
+    Order,
     Call,
     Sweep,
-    File,
-    Output,
-    Command,
     Fault,
 }
 
-/// The first words of rows, by what they speak of. All others set something.
-const SUBJECTS: [(&str, Subject); 8] = [
-    (
-        "crc data config load order fronts encode copy-of-file change script",
-        Subject::Image,
-    ),
-    ("env", Subject::Environment),
+/// The first words of the rows that no library answers, by what they speak of.
+const SUBJECTS: [(&str, Subject); 4] = [
+    ("order", Subject::Order),
     ("print value standard rehearse run", Subject::Call),
     ("each-out each-err", Subject::Sweep),
-    (
-        "reads open calls bytes locked read part write make remove up-to",
-        Subject::File,
-    ),
-    ("parts pass over buffer flush", Subject::Output),
-    ("words called lock command help has clap", Subject::Command),
-    ("faults fault fault-in", Subject::Fault),
+    ("faults fault", Subject::Fault),
 ];
 
-/// What a row speaks of that begins with a word.
-fn subject_of(word: &str) -> Subject {
-    for (words, subject) in SUBJECTS {
-        if words.split(' ').any(|it| it == word) {
-            return subject;
+impl Calls for Whole<'_> {
+    fn call(&mut self, word: &str, says: &str, done: &mut Performed) -> anyhow::Result<()> {
+        match word {
+            "rehearse" => rehearse(&self.case, says, done),
+            "run" => run(&mut self.case, says, done),
+            _ => self.case.call(word, says, done),
         }
     }
-    Subject::Setting
 }
 
-impl Rows for Case<'_> {
+/// The byte order in which the image is sound.
+fn order(case: &Case<'_>) -> anyhow::Result<String> {
+    let order = order_of(&case.first);
+    Ok(format!(in case.alloc; "{order:?}")?)
+}
+
+impl Rows for Whole<'_> {
     fn forget(&mut self) -> anyhow::Result<()> {
-        *self = Case::new(self.rt);
-        Ok(())
+        self.case.forget()
     }
 
     fn answer(&mut self, word: &str, says: &str) -> anyhow::Result<String> {
-        match subject_of(word) {
-            Subject::Setting => self.put(word, says),
-            Subject::Image => images::told(self, word, says),
-            Subject::Environment => environments::changed(self, says),
-            Subject::Call => performing::told(self, word, says),
-            Subject::Sweep => performing::swept(self, word, says),
-            Subject::File => files::told(self, word, says),
-            Subject::Output => outputs::told(self, word, says),
-            Subject::Command => subcommands::told(self, word, says),
-            Subject::Fault => faults::told(self, word, says),
+        let (alloc, modes) = (self.case.alloc, self.case.modes);
+        match subject_of(&SUBJECTS, word, Subject::Library) {
+            Subject::Library => self.case.answer(word, says),
+            Subject::Order => order(&self.case),
+            Subject::Call => answer_call(alloc, self, modes, word, says),
+            Subject::Sweep => answer_sweep(alloc, self, word, says),
+            Subject::Fault => faults::told(alloc, word, says),
         }
     }
-}
-
-/// Bytes of a row as a text.
-pub(crate) fn text(alloc: Global, says: &str) -> Result<String, AllocError> {
-    text_of(alloc, &unescaped(alloc, says)?)
 }

@@ -40,24 +40,14 @@
 
 mod calls;
 mod case;
-mod environments;
 mod faults;
-mod files;
-mod images;
-mod outputs;
 mod performing;
-mod readers;
-mod subcommands;
-mod writers;
 
-use case::Case;
-use std::io;
-use tests_rows::transcript;
+use case::Whole;
+use tests_rows::answer_input;
+use tests_tools::Case;
 
 fn main(rt: HostRuntime) -> anyhow::Result<()> {
-    let alloc = rt.alloc();
-    let rows = io::read_to_string(alloc, rt.reader())?;
-    let mut case = Case::new(&rt);
-    let answers = transcript(alloc, rows.as_str(), &mut case)?;
-    Ok(print!(rt; "{answers}")?)
+    let case = Case::new(&rt);
+    answer_input(&rt, &mut Whole { case })
 }

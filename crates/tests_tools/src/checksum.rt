@@ -33,7 +33,7 @@ fn fastest(rt: &HostRuntime, bytes: &[u8]) -> io::Result<(u32, u128)> {
 }
 
 /// Writes the checksum, and on the error output the nanoseconds of the fastest turn.
-pub(crate) fn run(rt: &HostRuntime) -> io::Result<()> {
+pub fn time_checksum(rt: &HostRuntime) -> io::Result<()> {
     let bytes = pattern(rt.alloc())?;
     let (crc, best) = fastest(rt, &bytes)?;
     println!(rt; "crc32 of the pattern: {crc:08x}")?;

@@ -38,7 +38,7 @@ fn run_all(rt: &HostRuntime) -> io::Result<()> {
 }
 
 /// Runs the part of a word, or all.
-pub(crate) fn run(rt: &HostRuntime, part: Option<&str>) -> io::Result<()> {
+pub fn run_growths(rt: &HostRuntime, part: Option<&str>) -> io::Result<()> {
     match part {
         Some(part) => run_part(rt, part),
         None => run_all(rt),

@@ -1,11 +1,11 @@
 //! Images: their data, copies, configurations, and changes.
 
 use crate::calls;
-use crate::case::{Case, text};
+use crate::case::Case;
 use envimage::load;
 use std::alloc::Global;
-use tests_callers::images::order_of;
-use tests_rows::{number, shown, slices, unescaped, words_of};
+use std::fmt::Write;
+use tests_rows::{first_word, number, shown, slices, unescaped, unescaped_text, words_of};
 use tool_images::Edit;
 
 /// The places of a configuration, a line each.
@@ -14,8 +14,7 @@ fn places(alloc: Global, says: &str) -> anyhow::Result<String> {
     let mut lines = String::new(alloc);
     for place in &places {
         let (device, offset, size) = (place.device.as_str(), place.offset, place.size);
-        let line = format!(in alloc; "{device}, offset {offset}, size {size}\n")?;
-        lines.push_str(line.as_str())?;
+        writeln!(lines, "{device}, offset {offset}, size {size}")?;
     }
     Ok(lines)
 }
@@ -36,12 +35,8 @@ fn read(case: &Case<'_>, word: &str, says: &str) -> anyhow::Result<String> {
     }
 }
 
-/// Which copy is current, or the byte order in which the image is sound.
-fn loaded(case: &Case<'_>, word: &str) -> anyhow::Result<String> {
-    if word == "order" {
-        let order = order_of(&case.first);
-        return Ok(format!(in case.alloc; "{order:?}")?);
-    }
+/// Which copy is current.
+fn loaded(case: &Case<'_>) -> anyhow::Result<String> {
     let second = case.second.as_ref().map(|bytes| bytes.as_slice());
     let which = load(&case.first, second, case.order)?.which;
     Ok(format!(in case.alloc; "{which:?}")?)
@@ -52,14 +47,14 @@ fn fronts(case: &Case<'_>) -> anyhow::Result<String> {
     let mut lines = String::new(case.alloc);
     for end in 0..case.first.len() {
         let fault = load(&case.first[..end], None, case.order).err();
-        lines.push_str(format!(in case.alloc; "{end}: {fault:?}\n")?.as_str())?;
+        writeln!(lines, "{end}: {fault:?}")?;
     }
     Ok(lines)
 }
 
 /// Makes the image of the environment, of a size and with a flag if one is said, and puts it after the image.
 fn encoded(case: &mut Case<'_>, says: &str) -> anyhow::Result<String> {
-    let (size, flag) = says.split_once(' ').unwrap_or((says, ""));
+    let (size, flag) = first_word(says);
     let flag = match flag {
         "" => None,
         flag => Some(u8::try_from(number(flag)?)?),
@@ -78,7 +73,7 @@ fn encoded(case: &mut Case<'_>, says: &str) -> anyhow::Result<String> {
 /// Adds the image as a file.
 fn into_file(case: &mut Case<'_>, says: &str) -> anyhow::Result<String> {
     let bytes = case.first.clone()?;
-    case.given.push((text(case.alloc, says)?, bytes))?;
+    case.given.push((unescaped_text(case.alloc, says)?, bytes))?;
     Ok(String::new(case.alloc))
 }
 
@@ -96,7 +91,7 @@ fn changed(case: &Case<'_>, word: &str, says: &str) -> anyhow::Result<String> {
         let script = unescaped(case.alloc, says)?;
         return written(case, Edit::Script(&script));
     }
-    let (name, words) = says.split_once(' ').unwrap_or((says, ""));
+    let (name, words) = first_word(says);
     let (name, words) = (unescaped(case.alloc, name)?, words_of(case.alloc, words)?);
     let words = slices(case.alloc, &words)?;
     let edit = Edit::One {
@@ -117,7 +112,7 @@ fn made(case: &mut Case<'_>, word: &str, says: &str) -> anyhow::Result<String> {
 /// The answer to a row of images.
 pub(crate) fn told(case: &mut Case<'_>, word: &str, says: &str) -> anyhow::Result<String> {
     match word {
-        "load" | "order" => loaded(case, word),
+        "load" => loaded(case),
         "fronts" => fronts(case),
         "encode" | "copy-of-file" => made(case, word, says),
         "change" | "script" => changed(case, word, says),

@@ -1,8 +1,6 @@
 //! Rehearsals of a case, over both stores.
 
-use crate::both::agreed;
-use crate::calls::{self, Given, given_of, list, next_word, resumed_at, work_of};
-use crate::case::Case;
+use crate::calls::{Given, given_of, list, next_word, resumed_at, work_of};
 use bootstore_copies::Plain;
 use bootstore_state::Store;
 use bootstore_trail::Trail;
@@ -10,6 +8,8 @@ use device_list::BoardEnd;
 use output::Over;
 use rehearse_runs::{Ending, Runs};
 use std::alloc::Global;
+use std::fmt::Write;
+use tests_language::{Case, agreed};
 use tests_rows::{number, shown, slices, text_of, unescaped};
 
 /// Which page is asked for: after a word, and up to a limit, which is none where it is 0.
@@ -120,7 +120,7 @@ fn works<S: Store>(given: &Given<'_>, page: &Page) -> anyhow::Result<String> {
             break;
         };
         let (word, work) = (text_of(alloc, &word)?, work_of(&runs));
-        words.push_str(format!(in alloc; " {word}:{work}")?.as_str())?;
+        write!(words, " {word}:{work}")?;
     }
     let work = work_of(&runs);
     Ok(format!(in alloc; "begun {begun}, {words}, work {work}")?)
@@ -183,8 +183,7 @@ fn resumed<S: Store>(case: &Case, given: &Given<'_>) -> anyhow::Result<String> {
         let (word, length) = resumed_at(&listing[..size]);
         if length != last {
             let word = text_of(alloc, word)?;
-            let line = format!(in alloc; "from {size} bytes on: behind {word}, after {length}\n")?;
-            lines.push_str(line.as_str())?;
+            writeln!(lines, "from {size} bytes on: behind {word}, after {length}")?;
         }
         last = length;
     }
@@ -226,7 +225,7 @@ fn kinds<S: Store>(given: &Given<'_>, says: &str) -> anyhow::Result<String> {
     let mut kinds = String::from_str(alloc, "kinds")?;
     for word in says.split(' ') {
         let kind = given.kind::<S>(&unescaped(alloc, word)?)?;
-        kinds.push_str(format!(in alloc; " {kind:?}")?.as_str())?;
+        write!(kinds, " {kind:?}")?;
     }
     Ok(kinds)
 }
@@ -270,29 +269,9 @@ fn told_over<S: Store>(case: &Case, word: &str, says: &str) -> anyhow::Result<St
     told_of::<S>(case, &given, word, says)
 }
 
-/// The answer to a row over both stores.
-pub(crate) fn told(case: &Case, word: &str, says: &str) -> anyhow::Result<String> {
+/// The answer to a row of rehearsals, over both stores.
+pub fn rehearsed(case: &Case, word: &str, says: &str) -> anyhow::Result<String> {
     let plain = told_over::<Plain>(case, word, says);
     let trail = told_over::<Trail>(case, word, says);
-    agreed(case.alloc, plain, trail)
-}
-
-/// The endings of all runs, or the flow, and what the call answers, over one store.
-fn endings_over<S: Store>(case: &Case, word: &str, says: &str) -> anyhow::Result<String> {
-    let (devices, states) = says.split_once(' ').unwrap_or((says, ""));
-    let (answer, lines) = calls::endings::<S>(
-        case,
-        number(devices)?,
-        number(states)?,
-        word == "flow",
-    )?;
-    let lines = text_of(case.alloc, &lines)?;
-    Ok(format!(in case.alloc; "{lines}answer {answer:?}")?)
-}
-
-/// The same over both stores.
-pub(crate) fn endings(case: &Case, word: &str, says: &str) -> anyhow::Result<String> {
-    let plain = endings_over::<Plain>(case, word, says);
-    let trail = endings_over::<Trail>(case, word, says);
     agreed(case.alloc, plain, trail)
 }

@@ -1,6 +1,6 @@
 use Rattle.std.proofs.Common.{◌∙◌, sym, ap, Bool, cond, Some}
 use Rattle.std.specs.Ordering.{is_eq}
-use Rattle.tests_libraries.proofs.variables.WithVars.get.Goals as goal
+use Rattle.tests_language.proofs.variables.WithVars.get.Goals as goal
 
 pub returns-then-is_eq : goal.returns-then-is_eq
 returns-then-is_eq g c =

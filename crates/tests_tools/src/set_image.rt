@@ -51,7 +51,7 @@ fn set(
 }
 
 /// Changes an image as the words say.
-pub(crate) fn run(rt: &HostRuntime, words: &[String]) -> Option<()> {
+pub fn change_image(rt: &HostRuntime, words: &[String]) -> Option<()> {
     let [order, first, second, name, values @ ..] = words else {
         return None;
     };

@@ -7,8 +7,9 @@ use crate::language::row_of;
 use bootstore_state::{At, Frame, FrameKind, LogEntry, Store, StoreError};
 use hushlang::Script;
 use std::alloc::{AllocError, Global};
+use std::fmt::Write;
 use std::rc::Rc;
-use tests_rows::{number, shown, unescaped, words_of};
+use tests_rows::{first_word, number, shown, unescaped, words_of};
 
 /// Where a frame is pushed.
 const START: At = At {
@@ -112,7 +113,7 @@ fn change_text<S: Store>(
     change: &str,
     says: &str,
 ) -> anyhow::Result<()> {
-    let (name, value) = says.split_once(' ').unwrap_or((says, ""));
+    let (name, value) = first_word(says);
     let (name, value) = (unescaped(alloc, name)?, unescaped(alloc, value)?);
     Ok(put_one(store, change, &name, &value)?)
 }
@@ -135,7 +136,7 @@ fn change_one<S: Store>(
 
 /// Makes a change of both stores.
 fn change(case: &mut Case, says: &str) -> anyhow::Result<String> {
-    let (change, says) = says.split_once(' ').unwrap_or((says, ""));
+    let (change, says) = first_word(says);
     change_one(case.alloc, &mut case.stores.0, change, says)?;
     change_one(case.alloc, &mut case.stores.1, change, says)?;
     Ok(String::new(case.alloc))
@@ -146,7 +147,7 @@ fn variables_of<S: Store>(alloc: Global, store: &S) -> Result<String, AllocError
     let mut text = String::new(alloc);
     for (name, value) in store.variables() {
         let (name, value) = (shown(alloc, name)?, shown(alloc, value)?);
-        text.push_str(format!(in alloc; " {name}={value}")?.as_str())?;
+        write!(text, " {name}={value}")?;
     }
     Ok(text)
 }
@@ -157,7 +158,7 @@ fn log_of<S: Store>(alloc: Global, store: &S) -> Result<String, AllocError> {
     for entry in store.log() {
         let words = row_of(alloc, &entry.words, false)?;
         let success = entry.success;
-        text.push_str(format!(in alloc; " {words} {success}")?.as_str())?;
+        write!(text, " {words} {success}")?;
     }
     Ok(text)
 }

@@ -4,7 +4,7 @@ use std::io::{self, ErrorKind, Read};
 
 /// An input that gives some bytes a read, of which one read fails, and which fails if it is read again after its end.
 #[derive(Drop)]
-pub(crate) struct Source<'a> {
+pub struct Source<'a> {
     /// What is still to be read.
     pub(crate) bytes: &'a [u8],
     /// How many bytes a read gives.
@@ -12,7 +12,7 @@ pub(crate) struct Source<'a> {
     /// The number of the read that fails.
     pub(crate) failing: u32,
     /// How many reads there were.
-    pub(crate) reads: u32,
+    pub reads: u32,
     /// Whether it told its end.
     pub(crate) has_ended: bool,
 }

@@ -1,10 +1,11 @@
 //! Files, in memory and of the machine.
 
-use crate::case::{Case, text};
+use crate::case::Case;
 use std::alloc::{AllocError, Global};
+use std::fmt::Write;
 use std::fs::File;
 use std::{fs, io, process};
-use tests_rows::{number, shown, unescaped};
+use tests_rows::{first_word, number, shown, unescaped, unescaped_text};
 use tool_files::{Files, LIMIT, Machine, MemoryFiles, Program, read_up_to};
 
 /// The calls that were made, a line each.
@@ -12,21 +13,21 @@ fn calls_of(alloc: Global, files: &MemoryFiles) -> Result<String, AllocError> {
     let mut lines = String::new(alloc);
     for call in files.calls() {
         let (path, action) = (call.path.as_str(), call.action);
-        lines.push_str(format!(in alloc; "{path} {action:?}\n")?.as_str())?;
+        writeln!(lines, "{path} {action:?}")?;
     }
     Ok(lines)
 }
 
 /// The bytes of a file after the last call.
 fn bytes_of(case: &Case<'_>, says: &str) -> anyhow::Result<String> {
-    let path = text(case.alloc, says)?;
+    let path = unescaped_text(case.alloc, says)?;
     let bytes = case.files.bytes(path.as_str()).unwrap_or(b"no file");
     Ok(shown(case.alloc, bytes)?)
 }
 
 /// Begins with the files anew.
 fn open(case: &mut Case<'_>) -> anyhow::Result<String> {
-    case.files = case.fresh()?;
+    case.open()?;
     Ok(String::new(case.alloc))
 }
 
@@ -59,7 +60,7 @@ pub(crate) fn told(case: &mut Case<'_>, word: &str, says: &str) -> anyhow::Resul
 
 /// Writes to a file.
 fn write<F: Files>(alloc: Global, files: &mut F, path: &str, says: &str) -> anyhow::Result<String> {
-    let (offset, bytes) = says.split_once(' ').unwrap_or((says, ""));
+    let (offset, bytes) = first_word(says);
     let bytes = unescaped(alloc, bytes)?;
     files.lock()?;
     files.write_at(path, u64::from(number(offset)?), &bytes)?;
@@ -68,7 +69,7 @@ fn write<F: Files>(alloc: Global, files: &mut F, path: &str, says: &str) -> anyh
 
 /// Reads a part of a file.
 fn part<F: Files>(alloc: Global, files: &mut F, path: &str, says: &str) -> anyhow::Result<String> {
-    let (offset, size) = says.split_once(' ').unwrap_or((says, ""));
+    let (offset, size) = first_word(says);
     let (offset, size) = (u64::from(number(offset)?), number(size)? as usize);
     let bytes = files.read_at(alloc, path, offset, size)?;
     Ok(shown(alloc, &bytes)?)
@@ -104,7 +105,7 @@ fn own_path(case: &Case<'_>) -> Result<String, AllocError> {
 /// The answer of the files of a case, or of the machine, where `own` is a file of this process. A
 /// device is the lock of the machine's files, so that no row waits for the usual one.
 fn asked(case: &mut Case<'_>, word: &str, says: &str) -> anyhow::Result<String> {
-    let (path, says) = says.split_once(' ').unwrap_or((says, ""));
+    let (path, says) = first_word(says);
     if !case.is_machine {
         return ask(case.alloc, &mut case.files, path, word, says);
     }
@@ -153,7 +154,7 @@ fn read_up(case: &Case<'_>, says: &str) -> anyhow::Result<String> {
             Err(error) => format!(in case.alloc; "{error:?}")?,
         };
         let reads = source.reads;
-        lines.push_str(format!(in case.alloc; "{line}, {reads} reads\n")?.as_str())?;
+        writeln!(lines, "{line}, {reads} reads")?;
     }
     Ok(lines)
 }

@@ -4,7 +4,8 @@ use crate::calls;
 use crate::case::Case;
 use envtools::Env;
 use std::alloc::Global;
-use tests_rows::{shown, slices, unescaped, words_of};
+use std::fmt::Write;
+use tests_rows::{first_word, shown, slices, unescaped, words_of};
 
 /// The variables of an environment, a line each.
 fn lines_of(alloc: Global, env: &Env) -> anyhow::Result<String> {
@@ -12,7 +13,7 @@ fn lines_of(alloc: Global, env: &Env) -> anyhow::Result<String> {
     for at in 0..env.len() {
         if let Some((name, value)) = env.pair(at) {
             let (name, value) = (shown(alloc, name)?, shown(alloc, value)?);
-            lines.push_str(format!(in alloc; "{name}={value}\n")?.as_str())?;
+            writeln!(lines, "{name}={value}")?;
         }
     }
     Ok(lines)
@@ -26,7 +27,7 @@ fn from_data(case: &mut Case<'_>, data: &[u8]) -> anyhow::Result<()> {
 
 /// Sets a variable, or changes it to some words.
 fn set(case: &mut Case<'_>, change: &str, says: &str) -> anyhow::Result<()> {
-    let (name, value) = says.split_once(' ').unwrap_or((says, ""));
+    let (name, value) = first_word(says);
     let name = unescaped(case.alloc, name)?;
     if change == "set" {
         let value = unescaped(case.alloc, value)?;
@@ -50,7 +51,7 @@ fn change_one(case: &mut Case<'_>, change: &str, says: &str) -> anyhow::Result<S
 /// Changes the environment of a case, and tells its variables, or those of its copy: `set NAME VALUE`,
 /// `change NAME WORD..`, `remove NAME`, `script TEXT`, `data TEXT`, `copy` and `show`.
 pub(crate) fn changed(case: &mut Case<'_>, says: &str) -> anyhow::Result<String> {
-    let (change, says) = says.split_once(' ').unwrap_or((says, ""));
+    let (change, says) = first_word(says);
     match change {
         "copy" => lines_of(case.alloc, &calls::copy_of(&case.env)?),
         "show" => lines_of(case.alloc, &case.env),

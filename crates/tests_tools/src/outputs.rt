@@ -1,6 +1,7 @@
 //! Outputs, and writers of std below them.
 
 use crate::case::Case;
+use crate::faults::in_room;
 use crate::writers::Tested;
 use output::{Out, Over, write_all, write_parts};
 use std::alloc::Global;
@@ -35,7 +36,7 @@ impl Write for Writer<'_> {
 /// Writes words as parts, and a line end after them, on the output of a case.
 fn parts(case: &Case<'_>, says: &str) -> anyhow::Result<String> {
     let words = words_of(case.alloc, says)?;
-    let mut out = Tested::new(case.alloc, case.out);
+    let mut out = Tested::new(case.alloc, case.modes.0);
     let mut answer = write_parts(&mut out, &slices(case.alloc, &words)?);
     if answer.is_ok() {
         answer = write_all(&mut out, b"\n");
@@ -107,6 +108,7 @@ pub(crate) fn told(case: &Case<'_>, word: &str, says: &str) -> anyhow::Result<St
         "pass" => pass(case.alloc, says),
         "over" => over(case.alloc, number(says)?),
         "buffer" => buffer(case.alloc),
+        "fault-in" => in_room(case.alloc, number(says)?),
         _ => flush(case.alloc),
     }
 }

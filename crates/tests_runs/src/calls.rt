@@ -1,49 +1,16 @@
-//! The calls of the product that rows make. None of these functions promises anything, so that the proof of a caller
+//! The calls of a rehearsal that rows make. None of these functions promises anything, so that the proof of a caller
 //! has little to look at.
 
-use crate::case::Case;
 use bootstore_state::Store;
-use device_list::{Devices, DevicesError};
+use device_list::Devices;
 use envtools::Env;
-use hushlang::{
-    ExpandError, Lexer, Script, SyntaxError, Token, Vars, Word, expand, expand_one, parse,
-};
-use output::{Out, Over};
-use rehearse_endings::{EndingsAsk, endings_env};
+use output::Out;
 use rehearse_runs::{
     Finish, RehearseError, Runs, Source, WordKind, resume_point, try_word, write_listing,
 };
-use rehearse_terms::{Bounds, Page, RunBounds};
+use rehearse_terms::{Bounds, Page};
 use std::alloc::Global;
-use tests_rows::slices;
-
-pub(crate) fn script_of(alloc: Global, text: &[u8]) -> Result<Script, SyntaxError> {
-    parse(alloc, text)
-}
-
-pub(crate) fn next_token<'a>(lexer: &mut Lexer<'a>) -> Result<Option<Token<'a>>, SyntaxError> {
-    lexer.next()
-}
-
-pub(crate) fn fields_of<V: Vars>(
-    alloc: Global,
-    words: &[Word],
-    vars: &V,
-) -> Result<Vec<Vec<u8>>, ExpandError> {
-    expand(alloc, words, vars)
-}
-
-pub(crate) fn joined<V: Vars>(
-    alloc: Global,
-    word: &Word,
-    vars: &V,
-) -> Result<Vec<u8>, ExpandError> {
-    expand_one(alloc, word, vars)
-}
-
-pub(crate) fn devices_of(alloc: Global, list: &[u8]) -> Result<Devices, DevicesError> {
-    Devices::parse(alloc, list)
-}
+use tests_language::{Case, devices_of, env_of};
 
 /// What is rehearsed: the environment and the device list of a case, its variable or its text, and its bounds.
 #[derive(Drop)]
@@ -53,15 +20,6 @@ pub(crate) struct Given<'a> {
     pub(crate) devices: Devices,
     pub(crate) source: Source<'a>,
     pub(crate) bounds: Bounds,
-}
-
-/// The environment with the variables of a case, in their order.
-pub(crate) fn env_of(case: &Case) -> anyhow::Result<Env> {
-    let mut env = Env::new(case.alloc);
-    for (name, value) in &case.variables {
-        env.set(name, value)?;
-    }
-    Ok(env)
 }
 
 /// The variable or the text of a case.
@@ -137,32 +95,4 @@ pub(crate) fn resumed_at(written: &[u8]) -> (&[u8], usize) {
         Some(point) => (point.word, point.length),
         None => (b"none", 0),
     }
-}
-
-/// The endings of all runs of a case, or their flow, within so many device commands a run and so many states.
-pub(crate) fn endings<S: Store>(
-    case: &Case,
-    devices: u32,
-    states: u32,
-    flow: bool,
-) -> anyhow::Result<(Result<(), RehearseError>, Vec<u8>)> {
-    let Some(bounds) = RunBounds::new(devices, 1_000) else {
-        anyhow::bail!("no bounds");
-    };
-    let names = slices(case.alloc, &case.names)?;
-    let source = source_of(case);
-    let ask = EndingsAsk {
-        name: source.name,
-        text: source.text,
-        bounds: bounds.in_shell(case.bounds.shell()),
-        states,
-        work: u32::MAX,
-        names: &names,
-        flow,
-    };
-    let mut out = Over::new(Vec::new(case.alloc));
-    let env = env_of(case)?;
-    let devices = devices_of(case.alloc, &case.devices)?;
-    let answer = endings_env::<S, _>(case.alloc, &env, &devices, &ask, &mut out);
-    Ok((answer, out.into_writer()))
 }

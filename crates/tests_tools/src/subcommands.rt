@@ -1,7 +1,8 @@
 //! Command lines.
 
-use crate::case::{Case, text};
+use crate::case::Case;
 use std::alloc::{AllocError, Global};
+use tests_rows::unescaped_text;
 use tool_words::{Ask, CalledAs, called_as, read_command, read_lock, words_called};
 
 /// The words of a line.
@@ -49,7 +50,7 @@ fn help(case: &mut Case<'_>, says: &str) -> anyhow::Result<String> {
 
 /// Whether the last help has a text.
 fn has(case: &Case<'_>, says: &str) -> anyhow::Result<String> {
-    let part = text(case.alloc, says)?;
+    let part = unescaped_text(case.alloc, says)?;
     let has = case.help.contains(part.as_str());
     Ok(format!(in case.alloc; "{has}")?)
 }

@@ -4,7 +4,7 @@ use crate::calls::devices_of;
 use crate::case::Case;
 use device_list::{BoardEnd, Devices, Effect, LeftSide, RightSide, Setting};
 use std::alloc::{AllocError, Global};
-use tests_rows::{shown, unescaped, words_of};
+use tests_rows::{first_word, shown, unescaped, words_of};
 
 /// A value as a device list writes it.
 fn value_of(alloc: Global, value: &RightSide) -> Result<String, AllocError> {
@@ -73,7 +73,7 @@ fn has(alloc: Global, devices: &Devices, says: &str) -> anyhow::Result<String> {
 
 /// The effect that a device list gives a call.
 fn effect(alloc: Global, devices: &Devices, says: &str) -> anyhow::Result<String> {
-    let (name, words) = says.split_once(' ').unwrap_or((says, ""));
+    let (name, words) = first_word(says);
     let (name, words) = (unescaped(alloc, name)?, words_of(alloc, words)?);
     let answer = match devices.effect(&name, &words) {
         Some(effect) => effect_of(alloc, effect),

@@ -8,7 +8,7 @@ use tests_rows::{number, shown};
 
 /// What an output takes.
 #[derive(Clone, Copy)]
-pub(crate) enum Mode {
+pub enum Mode {
     /// All bytes.
     All,
     /// One byte a write.
@@ -42,13 +42,13 @@ impl Mode {
 
 /// An output into memory. A growth that is refused is a failure.
 #[derive(Drop)]
-pub(crate) struct Tested {
+pub struct Tested {
     /// What was taken.
-    pub(crate) bytes: Vec<u8>,
+    pub bytes: Vec<u8>,
     /// How often it failed.
-    pub(crate) failures: u64,
+    pub failures: u64,
     /// How many writes there were.
-    pub(crate) writes: usize,
+    pub writes: usize,
     mode: Mode,
 }
 

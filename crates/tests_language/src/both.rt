@@ -1,17 +1,10 @@
 //! Answers over both stores.
 
-use std::alloc::{AllocError, Global};
-
-/// An answer, or why there is none.
-fn said(alloc: Global, answer: anyhow::Result<String>) -> Result<String, AllocError> {
-    match answer {
-        Ok(answer) => Ok(answer),
-        Err(error) => format!(in alloc; "refused: {error}"),
-    }
-}
+use std::alloc::Global;
+use tests_rows::said;
 
 /// The answer over both stores, or both answers where they differ.
-pub(crate) fn agreed(
+pub fn agreed(
     alloc: Global,
     plain: anyhow::Result<String>,
     trail: anyhow::Result<String>,

@@ -8,7 +8,7 @@ use bootstore_state::StoreError;
 use device_list::DevicesError;
 use hushlang::{Command, ExpandError, Lexer, OneVariable, Script, SyntaxError, Token, Vars};
 use std::alloc::{AllocError, Global};
-use tests_callers::scripts::is_script;
+use std::fmt::Write;
 use tests_rows::{shown, unescaped};
 
 /// The line of a token, of the end, or of a refusal.
@@ -69,7 +69,7 @@ fn kinds(alloc: Global, script: &Script) -> Result<String, AllocError> {
     let mut kinds = String::from_str(alloc, "commands")?;
     for list in &script.lists {
         let (kind, size) = kind_of(&list.first);
-        kinds.push_str(format!(in alloc; " {kind} {size};")?.as_str())?;
+        write!(kinds, " {kind} {size};")?;
     }
     Ok(kinds)
 }
@@ -78,10 +78,6 @@ fn kinds(alloc: Global, script: &Script) -> Result<String, AllocError> {
 fn read(case: &Case, word: &str, says: &str) -> anyhow::Result<String> {
     let alloc = case.alloc;
     let text = unescaped(alloc, says)?;
-    if word == "script" {
-        let answer = is_script(alloc, &text);
-        return Ok(format!(in alloc; "{answer:?}")?);
-    }
     let script = script_of(alloc, &text)?;
     if word == "commands" {
         return Ok(kinds(alloc, &script)?);
@@ -95,11 +91,10 @@ fn cuts(case: &Case, says: &str) -> anyhow::Result<String> {
     let text = unescaped(alloc, says)?;
     let mut lines = String::new(alloc);
     for size in 0..=text.len() {
-        let line = match script_of(alloc, &text[..size]) {
-            Ok(_) => format!(in alloc; "{size}: a script\n")?,
-            Err(error) => format!(in alloc; "{size}: {error:?}\n")?,
-        };
-        lines.push_str(line.as_str())?;
+        match script_of(alloc, &text[..size]) {
+            Ok(_) => writeln!(lines, "{size}: a script")?,
+            Err(error) => writeln!(lines, "{size}: {error:?}")?,
+        }
     }
     Ok(lines)
 }
@@ -133,7 +128,7 @@ pub(crate) fn row_of(
     for field in fields {
         if are_sizes {
             let size = field.len();
-            row.push_str(format!(in alloc; "{size}")?.as_str())?;
+            write!(row, "{size}")?;
         } else {
             row.push_str(shown(alloc, field)?.as_str())?;
         }
