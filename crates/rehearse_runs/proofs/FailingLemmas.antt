@@ -1,6 +1,6 @@
 -- How many answers of a log are unexpected, and how many device commands took an outcome.
-use Rattle.std.proofs.Common.{◌≡◌, ◌∙◌, ℕ, suc, ◌+◌, ◌<◌, Bool, true, false, not, ◌&&◌, cond, List, [], ◌∷◌, ◌++◌, take, length, length-append, get_or, filter, map, refl, sym, ap, arith}
-use Rattle.std.proofs.lemmas.List.{take_more, map-append}
+use Rattle.std.proofs.Common.{◌≡◌, ◌∙◌, ℕ, ◌+◌, Bool, true, false, not, ◌&&◌, cond, List, [], ◌∷◌, ◌++◌, length, length-append, map, refl, ap, arith}
+use Rattle.std.proofs.lemmas.List.{map-append}
 use Rattle.std.proofs.lemmas.List.Elements.{filter-append}
 use Rattle.device_list.specs.DeviceList.{Devices}
 use Rattle.rehearse_terms.specs.State.{LoggedCommand, asked_of}

@@ -1,5 +1,5 @@
 -- The search for the next run, over the words of runs.
-use Rattle.std.proofs.Common.{◌≡◌, ℕ, zero, suc, ◌+◌, ◌-◌, cond, ◌<◌, ◌≤◌, Bool, true, false, List, [], ◌∷◌, ◌++◌, length, map, Option, Some, None, option_map, pred, refl, sym, ap, subst, ◌∙◌, append_assoc, append-nil, arith, Result, Ok, Err, not, ◌&&◌, take, length-append}
+use Rattle.std.proofs.Common.{◌≡◌, ℕ, zero, suc, ◌+◌, cond, ◌<◌, ◌≤◌, Bool, true, false, List, [], ◌∷◌, ◌++◌, length, map, Option, Some, None, option_map, pred, refl, sym, ap, subst, ◌∙◌, append_assoc, append-nil, arith, Result, Ok, Err, not, ◌&&◌, take, length-append}
 use Rattle.bootstore_state.specs.Moment.{Moment}
 use Rattle.rehearse_terms.specs.Bounds.{most_steps}
 use Rattle.rehearse_terms.specs.Outcomes.{OutcomeWord, Outcome, Success, Failure, WordKind, Run, Short, Long, beyond, common_prefix}
@@ -22,12 +22,12 @@ use Rattle.std.proofs.lemmas.List.{take-map}
 use Rattle.bootstore_state.specs.Record.{Record, gone_back, returned}
 use Rattle.bootstore_state.specs.declared.store.StoreError.{StoreError}
 use Rattle.rehearse_rules.specs.declared.halt.Halt.{Halt}
-use Rattle.rehearse_runs.specs.Searching.{AreMarks, MarksIf, Found, FoundFirst, FoundBehind, FoundNext, counted}
+use Rattle.rehearse_runs.specs.Searching.{AreMarks, MarksIf, Found, FoundFirst, FoundBehind, FoundNext, AreUnexpected, CountsFor, IsCounted, ExpectsFor, counted}
 use Rattle.rehearse_machine.specs.StoppedTexts.{StoppedAt}
 use Rattle.rehearse_machine.specs.declared.rehearsal.Stop.{Stop}
 use Rattle.rehearse_machine.specs.declared.rehearsal.Stop.TheVariants.{Asks, Ends}
 use Rattle.rehearse_machine.proofs.StoppedTextLemmas.{dry_there, asked_within, asked_kind, stopped_on}
-use Rattle.rehearse_machine.specs.Expecting.{Expects, StillAsks}
+use Rattle.rehearse_machine.specs.Expecting.{Expects}
 use Rattle.rehearse_machine.proofs.ExpectedLemmas.{expected_there}
 use Rattle.rehearse_rules.proofs.ChoiceTreeLemmas.{Test}
 use Rattle.rehearse_rules.proofs.UnexpectedAnswers.{asked_many, unexpected_within, none_unexpected}
@@ -193,17 +193,54 @@ counted_both task p true false h = h.1
 counted_both task p false true h = h.1
 counted_both task p false false h = h.0
 
-pub counted_there : (task : Task) (digits : Text) (m : Moment) (expected success : Bool) (count : ℕ) → StoppedAt task (outcomes digits) Asks m → Expects task.limits m expected → count ≡ unexpected task (outcomes digits) → counted count expected success ≡ unexpected task (outcomes digits ++ outcome_when success ∷ [])
+counted_there : (task : Task) (digits : Text) (m : Moment) (expected success : Bool) (count : ℕ) → StoppedAt task (outcomes digits) Asks m → Expects task.limits m expected → count ≡ unexpected task (outcomes digits) → counted count expected success ≡ unexpected task (outcomes digits ++ outcome_when success ∷ [])
 counted_there task digits m expected success count h e n =
     ap (λ (k : ℕ). counted k expected success) n ∙ sym (counted_both task (outcomes digits) expected success (expected_there task (outcomes digits) m expected h e))
 
-pub counted_on : (task : Task) (digits digits' : Text) (m : Moment) (expected success : Bool) (count : ℕ) → StoppedAt task (outcomes digits) Asks m → Expects task.limits m expected → count ≡ unexpected task (outcomes digits) → digits' ≡ digits ++ outcome_digit (outcome_when success) ∷ [] → counted count expected success ≡ unexpected task (outcomes digits')
+-- if a bound asks for it
+counted_for : (o : Option ℕ) (task : Task) (digits : Text) (m : Moment) (expected success : Bool) (count : ℕ) → StoppedAt task (outcomes digits) Asks m → ExpectsFor o task.limits m expected → AreUnexpected o task (outcomes digits) count → AreUnexpected o task (outcomes digits ++ outcome_when success ∷ []) (counted count expected success)
+counted_for None task digits m expected success count h e n = tt
+counted_for (Some most) task digits m expected success count h e n = counted_there task digits m expected success count h e n
+
+one_more : (count : ℕ) (expected success : Bool) → counted count expected success ≤ count + 1
+one_more count true true = omega arith
+one_more count true false = omega arith
+one_more count false true = omega arith
+one_more count false false = omega arith
+
+pub counted_on : (task : Task) (digits digits' : Text) (m : Moment) (expected success : Bool) (count : ℕ) → StoppedAt task (outcomes digits) Asks m → ExpectsFor task.failures task.limits m expected → IsCounted task (outcomes digits) count → digits' ≡ digits ++ outcome_digit (outcome_when success) ∷ [] → IsCounted task (outcomes digits') (counted count expected success)
 counted_on task digits digits' m expected success count h e n d =
-    counted_there task digits m expected success count h e n ∙ ap (unexpected task) (sym (outcomes_on digits digits' (outcome_when success) d))
+    let more = one_more count expected success in
+    let longer = length-append (outcomes digits) (outcome_when success ∷ []) in
+    let few = n.0 in
+    subst (λ (w : OutcomeWord). IsCounted task w (counted count expected success)) (sym (outcomes_on digits digits' (outcome_when success) d))
+    (omega (arith, more, longer, few), counted_for task.failures task digits m expected success count h e n.1)
+
+-- a count is so, if there is a bound
+pub counts_so : (o : Option ℕ) (task : Task) (w : OutcomeWord) (are count : ℕ) → CountsFor o are count → are ≡ unexpected task w → AreUnexpected o task w count
+counts_so None task w are count h e = tt
+counts_so (Some most) task w are count h e = h ∙ e
+
+pub counts_within : (o : Option ℕ) (are count most : ℕ) → CountsFor o are count → are ≤ most → count ≤ most
+counts_within None are count most h e = omega (arith, h)
+counts_within (Some bound) are count most h e = omega (arith, h, e)
+
+none_of : (o : Option ℕ) (task : Task) → AreUnexpected o task [] 0
+none_of None task = tt
+none_of (Some most) task = sym (none_unexpected task)
+
+pub none_counted : (task : Task) (digits : Text) → digits ≡ [] → IsCounted task (outcomes digits) 0
+none_counted task digits e = subst (λ (t : Text). IsCounted task (outcomes t) 0) (sym e) (omega arith, none_of task.failures task)
 
 -- whether an outcome is allowed
-pub allowed_there : (task : Task) (digits : Text) (m : Moment) (expected success : Bool) (count : ℕ) (most : Option ℕ) → StoppedAt task (outcomes digits) Asks m → Expects task.limits m expected → count ≡ unexpected task (outcomes digits) → most ≡ task.failures → is_at_most most (counted count expected success) ≡ is_allowed task (outcomes digits ++ outcome_when success ∷ [])
-allowed_there task digits m expected success count most h e n is = λ i. is_at_most (is i) (counted_there task digits m expected success count h e n i)
+allowed_for : (o : Option ℕ) (task : Task) (digits : Text) (m : Moment) (expected success : Bool) (count : ℕ) → StoppedAt task (outcomes digits) Asks m → ExpectsFor o task.limits m expected → AreUnexpected o task (outcomes digits) count → is_at_most o (counted count expected success) ≡ is_at_most o (unexpected task (outcomes digits ++ outcome_when success ∷ []))
+allowed_for None task digits m expected success count h e n = refl
+allowed_for (Some most) task digits m expected success count h e n = ap (is_at_most (Some most)) (counted_there task digits m expected success count h e n)
+
+pub allowed_there : (task : Task) (digits : Text) (m : Moment) (expected success : Bool) (count : ℕ) (most : Option ℕ) → StoppedAt task (outcomes digits) Asks m → ExpectsFor task.failures task.limits m expected → IsCounted task (outcomes digits) count → most ≡ task.failures → is_at_most most (counted count expected success) ≡ is_allowed task (outcomes digits ++ outcome_when success ∷ [])
+allowed_there task digits m expected success count most h e n is =
+    ap (λ (o : Option ℕ). is_at_most o (counted count expected success)) is
+    ∙ allowed_for task.failures task digits m expected success count h e n.1
 
 -- where the text stops then
 pub goes_on : (may success : Bool) (task : Task) (digits digits' : Text) (next : Stop) (r₀ r r₁ : Record) → StoppedAt task (outcomes digits) Asks r₀.present → MarksIf may r₀ r → digits' ≡ digits ++ outcome_digit (outcome_when success) ∷ []
@@ -347,6 +384,12 @@ unexpected_logged task p Asks m h = sym (ap (λ (a : Answer). length (unexpected
 unexpected_logged task p (Ends halt) m h =
     let a : IsAnswer (halt_shown halt) (state_at m []) (run_on task p) = is_over (run_on task p) (halt_shown halt) (state_at m []) (ap (λ (v : OutcomeWord). settled (run_on task v)) (sym (append-nil p)) ∙ h []) in
     sym (ap (λ (s : State). length (unexpected_of task.limits.devices (asked_in s.log))) a.state_is)
+
+-- a count of the log, where a device command asks
+pub counted_behind : (task : Task) (q : OutcomeWord) (stop : Stop) (m : Moment) (are count : ℕ) → StoppedAt task q stop m → are ≡ unexpected task q → CountsFor task.failures are count → stop ≡ Asks → IsCounted task q count
+counted_behind task q stop m are count h e n asks =
+    let few = unexpected_within task q (asked_kind task q m (subst (λ (s : Stop). StoppedAt task q s m) asks h)) in
+    (counts_within task.failures are count (length q) n (omega (arith, few, e)), counts_so task.failures task q are count n e)
 
 outcomes_take : (n : ℕ) (digits : Text) → outcomes (take n digits) ≡ take n (outcomes digits)
 outcomes_take n digits = sym (take-map outcome_of n digits)

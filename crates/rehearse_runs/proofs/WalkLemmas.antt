@@ -1,17 +1,15 @@
 -- The walk along the digits of a word.
-use Rattle.std.proofs.Common.{ℕ, ◌≡◌, ◌≢◌, ◌+◌, ◌<◌, ◌≤◌, true, false, List, [], ◌∷◌, ◌++◌, length, map, rules, Result, Ok, Err, refl, sym, ap, subst, ◌∙◌, append_assoc, append-nil, arith}
+use Rattle.std.proofs.Common.{◌≡◌, ◌≢◌, ◌+◌, ◌≤◌, true, false, [], ◌∷◌, ◌++◌, length, map, rules, Result, Ok, Err, refl, sym, ap, subst, ◌∙◌, append_assoc, append-nil, arith}
 use Rattle.std.specs.Prelude.{IfOk}
 use Rattle.std.specs.Bool.{◌==◌}
-use Rattle.bootstore_state.specs.Moment.{Moment}
 use Rattle.bootstore_state.specs.Record.{Record}
 use Rattle.bootstore_state.specs.declared.store.StoreError.{StoreError}
 use Rattle.rehearse_terms.specs.Bounds.{most_steps}
-use Rattle.rehearse_terms.specs.Outcomes.{OutcomeWord, Outcome, Success, Failure, Run}
+use Rattle.rehearse_terms.specs.Outcomes.{OutcomeWord, Outcome, Run}
 use Rattle.rehearse_terms.specs.State.{Text}
 use Rattle.rehearse_rules.specs.Runs.{Task, kind}
 use Rattle.rehearse_rules.specs.Listing.{outcome_digit}
 use Rattle.rehearse_runs.specs.RunsShown.{outcomes, outcome_of}
-use Rattle.rehearse_machine.specs.Machine.{Stops, asked_at, outcome_when}
 use Rattle.rehearse_runs.specs.Searching.{AreMarks}
 use Rattle.rehearse_machine.specs.StoppedTexts.{StoppedAt}
 use Rattle.rehearse_runs.specs.Walking.{Reached, IsLongBehind, IsShortBehind, IsWordBehind, Walks, WalksTo}
@@ -22,7 +20,7 @@ use Rattle.rehearse_machine.specs.declared.rehearsal.Stop.{Stop}
 use Rattle.rehearse_machine.specs.declared.rehearsal.Stop.TheVariants.{Asks, Ends}
 use Rattle.rehearse_rules.proofs.TaskChoices.{longer_is_long}
 use Rattle.rehearse_runs.proofs.SearchLemmas.{found_end, read_digit, outcomes_on}
-use Rattle.rehearse_machine.proofs.StoppedTextLemmas.{asked_kind, stopped_on}
+use Rattle.rehearse_machine.proofs.StoppedTextLemmas.{asked_kind}
 
 -- ---- where the walk ends
 

@@ -1,13 +1,15 @@
 -- The search for the next run. Ours.
-use Rattle.std.specs.Prelude.{ℕ, ◌≡◌, ◌+◌, ◌≤◌, Bool, true, false, Option, None, List, [], ◌∷◌, ◌++◌, Some}
+use Rattle.std.specs.Prelude.{ℕ, ◌≡◌, ◌+◌, ◌≤◌, Bool, true, false, Option, None, List, [], ◌∷◌, ◌++◌, length, Some}
 use Rattle.bootstore_state.specs.Moment.{Moment}
 use Rattle.bootstore_state.specs.Record.{Record, with_mark}
 use Rattle.rehearse_terms.specs.Bounds.{most_steps}
 use Rattle.rehearse_terms.specs.Outcomes.{OutcomeWord, Failure, Run, common_prefix}
 use Rattle.bootstore_state.specs.StoredState.{state_at}
 use Rattle.rehearse_rules.specs.Choosing.{turned, first_from}
-use Rattle.rehearse_rules.specs.Runs.{Task, run_on, state_of, ending_of, kind, runs, is_allowed, rest, asked}
+use Rattle.rehearse_rules.specs.Execution.{Limits}
+use Rattle.rehearse_rules.specs.Runs.{Task, run_on, state_of, ending_of, kind, runs, unexpected, is_allowed, rest, asked}
 use Rattle.rehearse_rules.specs.EndingsShown.{halt_shown}
+use Rattle.rehearse_machine.specs.Expecting.{Expects, StillAsks}
 use Rattle.rehearse_machine.specs.StoppedTexts.{StoppedAt}
 use Rattle.rehearse_rules.specs.declared.halt.Halt.{Halt}
 use Rattle.rehearse_machine.specs.declared.rehearsal.Stop.TheVariants.{Asks}
@@ -18,6 +20,29 @@ counted n true true = n
 counted n false false = n
 counted n true false = n + 1
 counted n false true = n + 1
+
+-- so many answers of a word are unexpected, if a bound asks for it
+abbrev pub AreUnexpected : (most : Option ℕ) → Task → OutcomeWord → (count : ℕ) → Type 0
+AreUnexpected None task w count = Unit {0}
+AreUnexpected (Some most) task w count = count ≡ unexpected task w
+
+-- a count, if a bound asks for it
+abbrev pub CountsFor : (most : Option ℕ) → (are count : ℕ) → Type 0
+CountsFor None are count = count ≡ 0
+CountsFor (Some most) are count = count ≡ are
+
+abbrev pub IsCounted : Task → OutcomeWord → (count : ℕ) → Type 0
+IsCounted task w count = (count ≤ length w) × AreUnexpected task.failures task w count
+
+-- whether a success is expected of the command that asks, if a bound asks for it
+abbrev pub ExpectsFor : (most : Option ℕ) → Limits → Moment → (success : Bool) → Type 0
+ExpectsFor None limits m success = Unit {0}
+ExpectsFor (Some most) limits m success = Expects limits m success
+
+-- the same command still asks, and this is expected of it, if a bound asks for it
+pub record ExpectedFor (task : Task) (old new : Record) (success : Bool) : Type 0 where
+  pub still : StillAsks task.limits old new
+  pub expects : ExpectsFor task.failures task.limits new.present success
 
 -- the marked moments are those at which device commands asked for the successes of a word that may be failures, the last
 -- first

@@ -2,7 +2,7 @@
 ghost use Rattle.std.specs.Prelude.{◌≡◌, ◌+◌, ◌<◌, ◌≤◌, ◌^◌, length, take};
 ghost use Rattle.rehearse_rules.specs.Expected.{asked_in, unexpected_of};
 ghost use Rattle.rehearse_rules.specs.Runs.{is_at_most};
-ghost use Rattle.rehearse_runs.specs.Searching.{counted};
+ghost use Rattle.rehearse_runs.specs.Searching.{CountsFor, counted};
 
 use bootstore_state::LogEntry;
 use device_list::Devices;
@@ -19,6 +19,17 @@ pub(crate) fn unexpected(devices: &Devices, log: &[LogEntry]) -> usize
         }
     }
     count
+}
+
+/// How many answers in a log are not the expected ones, if so many at most may be. Without such a bound
+/// the answer is 0, and takes no time.
+pub(crate) fn unexpected_for(most: Option<u32>, devices: &Devices, log: &[LogEntry]) -> usize
+    ensures { CountsFor most (length (unexpected_of devices.now (asked_in log.now))) result }
+{
+    match most {
+        Some(_) => unexpected(devices, log),
+        None => 0,
+    }
 }
 
 /// How many device commands of a log took an outcome.

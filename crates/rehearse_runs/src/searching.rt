@@ -2,17 +2,25 @@
 ghost use Rattle.std.specs.Prelude.{◌≡◌, ◌+◌, ◌-◌, ◌*◌, ◌<◌, ◌≤◌, ◌^◌, ◌∷◌, [], ◌++◌, ◌&&◌, length, take, IfOk, OnOk};
 ghost use Rattle.rehearse_runs.specs.RunsShown.{outcomes};
 ghost use Rattle.rehearse_runs.specs.Phases.{AreDigits};
-ghost use Rattle.rehearse_runs.specs.Searching.{AreMarks, MarksIf, Found, FoundFirst, FoundNext};
-ghost use Rattle.rehearse_machine.specs.Expecting.{Expects};
-ghost use Rattle.rehearse_machine.specs.Machine.{outcome_when};
+ghost use Rattle.rehearse_runs.specs.Searching.{
+  AreMarks,
+  ExpectedFor,
+  ExpectsFor,
+  IsCounted,
+  MarksIf,
+  Found,
+  FoundFirst,
+  FoundNext,
+};
+ghost use Rattle.rehearse_machine.specs.Machine.{IsAsking, outcome_when};
 ghost use Rattle.rehearse_machine.specs.declared.rehearsal.Stop.TheVariants.{Asks};
 ghost use Rattle.rehearse_rules.specs.Listing.{outcome_digit};
 ghost use Rattle.rehearse_machine.specs.StoppedTexts.{StoppedAt};
 ghost use Rattle.rehearse_machine.specs.Tasks.{task_in};
 ghost use Rattle.rehearse_terms.specs.Bounds.{most_run_devices, most_steps};
-ghost use Rattle.rehearse_rules.specs.Runs.{IsListed, is_at_most, unexpected};
+ghost use Rattle.rehearse_rules.specs.Runs.{IsListed, is_at_most};
 
-use crate::failing::{after, asked, is_at_most, unexpected};
+use crate::failing::{after, asked, is_at_most, unexpected_for};
 use bootstore_state::{Store, StoreError};
 use output::Bytes;
 use rehearse_machine::{Rehearsal, Stop, begin, expected_success, resume};
@@ -45,6 +53,22 @@ fn may_turn(most: Option<u32>, lost: usize, success: bool) -> bool
     success && is_at_most(most, lost)
 }
 
+/// Whether a success is expected of the device command that asks, if so many answers at most may be
+/// unexpected. Without such a bound the answer says nothing, and takes no time. Errors: `Memory`.
+pub(crate) fn expected_for<S: Store>(
+    rehearsal: &Rehearsal<'_>,
+    store: &mut S,
+) -> Result<bool, StoreError>
+    requires { IsAsking (task_in rehearsal.now).limits (S.record_of store.old).present }
+    ensures { IfOk result (λ success. ExpectedFor (task_in rehearsal.now)
+        (S.record_of store.old) (S.record_of store.new) success) }
+{
+    if rehearsal.bounds.failures().is_none() {
+        return Ok(true);
+    }
+    expected_success(rehearsal, store)
+}
+
 /// Gives the device command that asks an outcome, and marks a success that may be a failure. So many answers were unexpected
 /// before it.
 pub(crate) fn choose<S: Store, const N: usize>(
@@ -57,8 +81,9 @@ pub(crate) fn choose<S: Store, const N: usize>(
 ) -> Result<Stop, StoreError>
     requires asks { StoppedAt (task_in rehearsal.now) (outcomes digits.old.items) Asks
         (S.record_of store.old).present }
-    requires expects { Expects (task_in rehearsal.now).limits (S.record_of store.old).present expected }
-    requires count { count ≡ unexpected (task_in rehearsal.now) (outcomes digits.old.items) }
+    requires expects { ExpectsFor (task_in rehearsal.now).failures (task_in rehearsal.now).limits
+        (S.record_of store.old).present expected }
+    requires count { IsCounted (task_in rehearsal.now) (outcomes digits.old.items) count }
     requires marks { AreMarks (task_in rehearsal.now) (outcomes digits.old.items)
         (S.record_of store.old).marked }
     requires begun { (S.record_of store.old).begun + most_steps + 1 < 2 ^ 64 }
@@ -95,7 +120,7 @@ pub(crate) fn search<S: Store>(
     stop: Stop,
     count: usize,
 ) -> Result<Halt, StoreError>
-    requires count { count ≡ unexpected (task_in rehearsal.now) (outcomes digits.old.items) }
+    requires count { stop ≡ Asks → IsCounted (task_in rehearsal.now) (outcomes digits.old.items) count }
     requires stopped { StoppedAt (task_in rehearsal.now) (outcomes digits.old.items) stop
         (S.record_of store.old).present }
     requires marks { AreMarks (task_in rehearsal.now) (outcomes digits.old.items)
@@ -112,7 +137,7 @@ pub(crate) fn search<S: Store>(
     match stop {
         Stop::Ends(halt) => Ok(halt),
         Stop::Asks => {
-            let expected = expected_success(rehearsal, store)?;
+            let expected = expected_for(rehearsal, store)?;
             let won = after(count, expected, true);
             let success = is_at_most(rehearsal.bounds.failures(), won);
             let next = choose(rehearsal, store, digits, count, expected, success)?;
@@ -173,7 +198,7 @@ pub(crate) fn next_run<S: Store>(
     cut(digits, asked(store.log()));
     digits.push(b'1');
     let stop = resume(rehearsal, store, false)?;
-    let count = unexpected(rehearsal.devices, store.log());
+    let count = unexpected_for(rehearsal.bounds.failures(), rehearsal.devices, store.log());
     let halt = search(rehearsal, store, digits, stop, count)?;
     Ok(Some(halt))
 }

@@ -4,17 +4,16 @@ ghost use Rattle.rehearse_terms.specs.Bounds.{most_steps};
 ghost use Rattle.rehearse_rules.specs.Listing.{outcome_digit};
 ghost use Rattle.rehearse_runs.specs.RunsShown.{outcomes};
 ghost use Rattle.rehearse_machine.specs.Machine.{outcome_when};
-ghost use Rattle.rehearse_runs.specs.Searching.{AreMarks};
+ghost use Rattle.rehearse_runs.specs.Searching.{AreMarks, IsCounted};
 ghost use Rattle.rehearse_machine.specs.StoppedTexts.{StoppedAt};
 ghost use Rattle.rehearse_machine.specs.Tasks.{task_in};
 ghost use Rattle.rehearse_runs.specs.Walking.{BeginsWithDigit, Walks, WalksTo};
-ghost use Rattle.rehearse_rules.specs.Runs.{unexpected};
 
 use crate::failing::after;
-use crate::searching::choose;
+use crate::searching::{choose, expected_for};
 use bootstore_state::{Store, StoreError};
 use output::Bytes;
-use rehearse_machine::{Rehearsal, Stop, begin, expected_success};
+use rehearse_machine::{Rehearsal, Stop, begin};
 use rehearse_rules::Halt;
 
 /// Where a walk ends.
@@ -48,7 +47,7 @@ fn walk<S: Store, const N: usize>(
     text: &[u8],
     count: usize,
 ) -> Result<Walked, StoreError>
-    requires count { count ≡ unexpected (task_in rehearsal.now) (outcomes digits.old.items) }
+    requires count { IsCounted (task_in rehearsal.now) (outcomes digits.old.items) count }
     requires stopped { StoppedAt (task_in rehearsal.now) (outcomes digits.old.items) stop
         (S.record_of store.old).present }
     requires marks { AreMarks (task_in rehearsal.now) (outcomes digits.old.items)
@@ -77,7 +76,7 @@ fn walk<S: Store, const N: usize>(
                 return Ok(Walked::Long);
             };
             let _bound = rehearsal.bounds.devices();
-            let expected = expected_success(rehearsal, store)?;
+            let expected = expected_for(rehearsal, store)?;
             let next = choose(rehearsal, store, digits, count, expected, success)?;
             let more = after(count, expected, success);
             walk(rehearsal, store, digits, next, behind, more)

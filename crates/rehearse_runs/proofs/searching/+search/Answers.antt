@@ -1,6 +1,5 @@
-use Rattle.std.proofs.Common.{rules, ◌≡◌, ◌∙◌, ◌++◌, sym, ap, subst, arith, ℕ, ◌+◌, Bool, true, false, Option, List, [], ◌∷◌, length, length-append}
+use Rattle.std.proofs.Common.{rules, ◌≡◌, ◌∙◌, ◌++◌, sym, ap, subst, arith, ℕ, ◌+◌, true, List, [], ◌∷◌, length, length-append}
 use Rattle.bootstore_state.specs.Moment.{Moment}
-use Rattle.bootstore_state.specs.Record.{Record}
 use Rattle.rehearse_terms.specs.Outcomes.{Success}
 use Rattle.rehearse_terms.specs.State.{State}
 use Rattle.rehearse_rules.specs.Listing.{outcome_digit}
@@ -9,8 +8,8 @@ use Rattle.rehearse_machine.specs.Machine.{outcome_when}
 use Rattle.rehearse_machine.specs.Tasks.{task_in}
 use Rattle.rehearse_machine.proofs.ExpectedLemmas.{still_stopped}
 use Rattle.rehearse_runs.specs.RunsShown.{outcomes}
-use Rattle.rehearse_runs.specs.Searching.{AreMarks}
-use Rattle.rehearse_runs.proofs.SearchLemmas.{found_end, all_more, asked_here, asked_now, allowed_there, counted_on, first_goes_on, digits_on}
+use Rattle.rehearse_runs.specs.Searching.{AreMarks, IsCounted}
+use Rattle.rehearse_runs.proofs.SearchLemmas.{found_end, all_more, asked_here, asked_now, allowed_there, counted_on, first_goes_on, digits_on, outcomes_length}
 use Rattle.rehearse_runs.proofs.searching.+search.Goals as goal
 
 pub returns-in-Ends-clause-ok : goal.returns-in-Ends-clause-ok
@@ -22,9 +21,9 @@ pub after-won-requires : goal.after-won-requires
 after-won-requires g t c =
     let task = task_in c.args.rehearsal.now in
     let a = asked_now task c.args.digits.now.items (g.S.Store.record_of c.args.store.now).present (asked_here task c.args.digits.now.items c.args.stop (g.S.Store.record_of c.args.store.now).present c.in-Asks.is c.requires.stopped) in
-    let few = a.few in
+    let few = (c.requires.count c.in-Asks.is).0 in
+    let long = outcomes_length c.args.digits.now.items in
     let room = a.room in
-    let n = c.requires.count in
     let b = c.requires.bound in
     omega arith
 
@@ -32,9 +31,9 @@ pub after-more-requires : goal.after-more-requires
 after-more-requires g t c =
     let task = task_in c.args.rehearsal.now in
     let a = asked_now task c.args.digits.now.items (g.S.Store.record_of c.args.store.now).present (asked_here task c.args.digits.now.items c.args.stop (g.S.Store.record_of c.args.store.now).present c.in-Asks.is c.requires.stopped) in
-    let few = a.few in
+    let few = (c.requires.count c.in-Asks.is).0 in
+    let long = outcomes_length c.args.digits.now.items in
     let room = a.room in
-    let n = c.requires.count in
     let b = c.requires.bound in
     omega arith
 
@@ -44,24 +43,24 @@ choose-requires g t c =
     let digits = c.args.digits.now.items in
     let r = g.S.Store.record_of c.args.store.now in
     let still = c.in_ok-expected-in-Asks.ensures.still in
-    let asks = still_stopped task (outcomes digits) r (g.S.Store.record_of c.expected_success.new.store) (asked_here task digits c.args.stop r.present c.in-Asks.is c.requires.stopped) still in
+    let asks = still_stopped task (outcomes digits) r (g.S.Store.record_of c.expected_for.new.store) (asked_here task digits c.args.stop r.present c.in-Asks.is c.requires.stopped) still in
     let marks = subst (λ (ms : List Moment). AreMarks task (outcomes digits) ms) (sym still.marked) c.requires.marks in
     let b = still.begun in
     let u = c.requires.begun in
-    (search rules, (asks, (c.in_ok-expected-in-Asks.ensures.expects, (c.requires.count, (marks, (omega arith, c.requires.bound))))))
+    (search rules, (asks, (c.in_ok-expected-in-Asks.ensures.expects, (c.requires.count c.in-Asks.is, (marks, (omega arith, c.requires.bound))))))
 
 pub returns-in_ok-next-in-Asks-clause-ok : goal.returns-in_ok-next-in-Asks-clause-ok
 returns-in_ok-next-in-Asks-clause-ok g t c =
     let task = task_in c.args.rehearsal.now in
     let r = g.S.Store.record_of c.args.store.now in
-    let m = g.S.Store.record_of c.expected_success.new.store in
+    let m = g.S.Store.record_of c.expected_for.new.store in
     let digits = c.args.digits.now.items in
     let more = c.choose.new.digits.items in
     let stopped = asked_here task digits c.args.stop r.present c.in-Asks.is c.requires.stopped in
     let still = c.in_ok-expected-in-Asks.ensures.still in
     let there = still_stopped task (outcomes digits) r m stopped still in
     let allowed : c.is_at_most-success.result ≡ is_allowed task (outcomes digits ++ Success ∷ []) =
-    c.is_at_most-success.ensures ∙ (λ i. is_at_most (c.failures.result) (c.after-won.ensures i)) ∙ allowed_there task digits m.present c.in_ok-expected-in-Asks.expected true c.args.count c.failures.result there c.in_ok-expected-in-Asks.ensures.expects c.requires.count c.failures.ensures in
+    c.is_at_most-success.ensures ∙ (λ i. is_at_most (c.failures.result) (c.after-won.ensures i)) ∙ allowed_there task digits m.present c.in_ok-expected-in-Asks.expected true c.args.count c.failures.result there c.in_ok-expected-in-Asks.ensures.expects (c.requires.count c.in-Asks.is) c.failures.ensures in
     let steps : m.present.steps ≡ r.present.steps = ap (λ (s : State). s.steps) still.state in
     let begun = still.begun in
     let b = c.in_ok-next-in-Asks.ensures.begun in
@@ -74,7 +73,7 @@ pub search-requires : goal.search-requires
 search-requires g t c =
     let task = task_in c.args.rehearsal.now in
     let r = g.S.Store.record_of c.args.store.now in
-    let m = g.S.Store.record_of c.expected_success.new.store in
+    let m = g.S.Store.record_of c.expected_for.new.store in
     let digits = c.args.digits.now.items in
     let stopped = asked_here task digits c.args.stop r.present c.in-Asks.is c.requires.stopped in
     let still = c.in_ok-expected-in-Asks.ensures.still in
@@ -91,13 +90,13 @@ search-requires g t c =
     let steps : m.present.steps ≡ r.present.steps = ap (λ (s : State). s.steps) still.state in
     let begun = still.begun in
     let grows = made.grows in
-    let count = c.after-more.ensures ∙ counted_on task digits c.choose.new.digits.items m.present c.in_ok-expected-in-Asks.expected c.is_at_most-success.result c.args.count (still_stopped task (outcomes digits) r m stopped still) c.in_ok-expected-in-Asks.ensures.expects c.requires.count d in
+    let count = subst (λ (n : ℕ). IsCounted task (outcomes c.choose.new.digits.items) n) (sym c.after-more.ensures) (counted_on task digits c.choose.new.digits.items m.present c.in_ok-expected-in-Asks.expected c.is_at_most-success.result c.args.count (still_stopped task (outcomes digits) r m stopped still) c.in_ok-expected-in-Asks.ensures.expects (c.requires.count c.in-Asks.is) d) in
     λ κs h. (
       omega (arith, c.decreases),
       (
         h,
         (
-          count,
+          (λ e. count),
           (made.stopped, (made.marks, (digits_on digits c.choose.new.digits.items (outcome_when c.is_at_most-success.result) d c.requires.digits, (w, (omega arith, n))))),
         ),
       ),

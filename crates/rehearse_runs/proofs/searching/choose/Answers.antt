@@ -1,21 +1,21 @@
-use Rattle.std.proofs.Common.{◌≡◌, ◌∙◌, ◌&&◌, ◌++◌, ◌∷◌, [], ◌+◌, ◌<◌, ◌≤◌, ◌^◌, sym, ap, subst, Bool, false, Option, List, ℕ, length, arith}
+use Rattle.std.proofs.Common.{◌≡◌, ◌∙◌, ◌&&◌, ◌++◌, ◌∷◌, [], ap, Bool, false, ℕ, arith}
 use Rattle.rehearse_terms.specs.Outcomes.{Failure}
 use Rattle.rehearse_rules.specs.Runs.{is_at_most, is_allowed}
 use Rattle.rehearse_machine.specs.Tasks.{task_in}
 use Rattle.rehearse_runs.specs.RunsShown.{outcomes}
-use Rattle.rehearse_runs.proofs.SearchLemmas.{asked_now, allowed_there, goes_on, marks_go_on}
+use Rattle.rehearse_runs.proofs.SearchLemmas.{asked_now, allowed_there, goes_on, marks_go_on, outcomes_length}
 use Rattle.rehearse_runs.proofs.searching.choose.Goals as goal
 
 pub after-lost-requires : goal.after-lost-requires
 after-lost-requires g c =
     let task = task_in c.args.rehearsal.now in
     let a = asked_now task c.args.digits.now.items (g.S.Store.record_of c.args.store.now).present c.requires.asks in
-    let few = a.few in
+    let few = c.requires.count.0 in
+    let long = outcomes_length c.args.digits.now.items in
     let room = a.room in
-    let count = c.requires.count in
     let small = c.devices-bound.type_inv in
     let same : c.devices-bound.result ≡ task.limits.device_bound = c.devices-bound.ensures.devices in
-    omega (arith, few, room, count, small, same)
+    omega (arith, few, long, room, small, same)
 
 pub push-requires : goal.push-requires
 push-requires g c =

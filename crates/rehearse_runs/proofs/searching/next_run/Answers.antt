@@ -1,11 +1,12 @@
-use Rattle.std.proofs.Common.{◌≡◌, ◌∙◌, ◌++◌, ◌∷◌, [], sym, ap, subst, List, take, arith, ◌≤◌, ◌+◌, ℕ, length}
+use Rattle.std.proofs.Common.{◌≡◌, ◌∙◌, sym, ap, subst, List, Option, take, arith, ◌≤◌, ℕ, length}
 use Rattle.rehearse_terms.specs.Outcomes.{Failure}
 use Rattle.rehearse_terms.specs.State.{Text, LoggedCommand}
 use Rattle.rehearse_rules.specs.Expected.{asked_in, unexpected_of}
 use Rattle.rehearse_runs.specs.Phases.{AreDigits}
 use Rattle.rehearse_runs.specs.RunsShown.{outcomes}
+use Rattle.rehearse_runs.specs.Searching.{CountsFor}
 use Rattle.rehearse_machine.specs.Tasks.{task_in}
-use Rattle.rehearse_runs.proofs.SearchLemmas.{none_marked, back_at, count_within, cut_there, room_behind, digits_taken, digits_on, goes_behind, marks_behind, found_behind, unexpected_logged}
+use Rattle.rehearse_runs.proofs.SearchLemmas.{none_marked, back_at, count_within, cut_there, room_behind, digits_taken, digits_on, goes_behind, marks_behind, found_behind, unexpected_logged, counted_behind}
 use Rattle.rehearse_runs.proofs.searching.next_run.Goals as goal
 
 pub returns-then-not-has_mark-clause-ok : goal.returns-then-not-has_mark-clause-ok
@@ -56,7 +57,7 @@ resume-requires-clause-begun g c =
     omega arith
 
 pub search-requires-clause-count : goal.search-requires-clause-count
-search-requires-clause-count g c =
+search-requires-clause-count g c e =
     let task = task_in c.args.rehearsal.now in
     let digits = c.args.digits.now.items in
     let r = g.S.Store.record_of c.args.store.now in
@@ -68,7 +69,9 @@ search-requires-clause-count g c =
     let r₁ = g.S.Store.record_of c.resume.new.store in
     let q = outcomes c.push.new.self.items in
     let stopped = goes_behind task q c.in_ok-stop.stop back r₁ a.parted a.asks there.word c.in_ok-stop.ensures.stops in
-    c.unexpected-count.ensures ∙ ap (λ (log : List LoggedCommand). length (unexpected_of task.limits.devices (asked_in log))) c.log-2.ensures ∙ unexpected_logged task q c.in_ok-stop.stop r₁.present stopped
+    let are = ap (λ (log : List LoggedCommand). length (unexpected_of task.limits.devices (asked_in log))) c.log-2.ensures ∙ unexpected_logged task q c.in_ok-stop.stop r₁.present stopped in
+    counted_behind task q c.in_ok-stop.stop r₁.present (length (unexpected_of task.limits.devices (asked_in c.log-2.result.now))) c.unexpected_for-count.result stopped are
+    (subst (λ (o : Option ℕ). CountsFor o (length (unexpected_of task.limits.devices (asked_in c.log-2.result.now))) c.unexpected_for-count.result) c.failures.ensures c.unexpected_for-count.ensures) e
 
 pub search-requires-clause-stopped : goal.search-requires-clause-stopped
 search-requires-clause-stopped g c =

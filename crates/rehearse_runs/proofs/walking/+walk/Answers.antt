@@ -1,12 +1,12 @@
-use Rattle.std.proofs.Common.{rules, ◌≡◌, ◌∙◌, sym, ap, subst, arith, ℕ, ◌+◌, ◌<◌, ◌≤◌, List, ◌∷◌, length}
+use Rattle.std.proofs.Common.{rules, ◌≡◌, sym, ap, subst, arith, ℕ, List, length}
 use Rattle.bootstore_state.specs.Moment.{Moment}
 use Rattle.rehearse_terms.specs.State.{State}
 use Rattle.rehearse_runs.specs.RunsShown.{outcomes}
-use Rattle.rehearse_runs.specs.Searching.{AreMarks}
+use Rattle.rehearse_runs.specs.Searching.{AreMarks, IsCounted}
 use Rattle.rehearse_machine.specs.Machine.{outcome_when}
 use Rattle.rehearse_machine.specs.Tasks.{task_in}
 use Rattle.rehearse_machine.proofs.ExpectedLemmas.{still_stopped}
-use Rattle.rehearse_runs.proofs.SearchLemmas.{asked_here, asked_now, counted_on}
+use Rattle.rehearse_runs.proofs.SearchLemmas.{asked_here, asked_now, counted_on, outcomes_length}
 use Rattle.rehearse_runs.proofs.WalkLemmas.{reached_here, no_digit_here, walked_on, empty_when, filled_when}
 use Rattle.rehearse_runs.proofs.walking.+walk.Goals as goal
 
@@ -22,7 +22,7 @@ choose-requires g t c =
     let digits = c.args.digits.now.items in
     let r = g.S.Store.record_of c.args.store.now in
     let still = c.in_ok-expected-in-Asks.ensures.still in
-    let asks = still_stopped task (outcomes digits) r (g.S.Store.record_of c.expected_success.new.store) (asked_here task digits c.args.stop r.present c.in-Asks.is c.requires.stopped) still in
+    let asks = still_stopped task (outcomes digits) r (g.S.Store.record_of c.expected_for.new.store) (asked_here task digits c.args.stop r.present c.in-Asks.is c.requires.stopped) still in
     let marks = subst (λ (ms : List Moment). AreMarks task (outcomes digits) ms) (sym still.marked) c.requires.marks in
     let b = still.begun in
     let u = c.requires.begun in
@@ -32,7 +32,7 @@ pub returns-in_ok-next-in-Asks : goal.returns-in_ok-next-in-Asks
 returns-in_ok-next-in-Asks g t c =
     let task = task_in c.args.rehearsal.now in
     let r = g.S.Store.record_of c.args.store.now in
-    let m = g.S.Store.record_of c.expected_success.new.store in
+    let m = g.S.Store.record_of c.expected_for.new.store in
     let still = c.in_ok-expected-in-Asks.ensures.still in
     let steps : m.present.steps ≡ r.present.steps = ap (λ (s : State). s.steps) still.state in
     let begun = still.begun in
@@ -44,19 +44,19 @@ after-more-requires g t c =
     let task = task_in c.args.rehearsal.now in
     let r = g.S.Store.record_of c.args.store.now in
     let a = asked_now task c.args.digits.now.items r.present (asked_here task c.args.digits.now.items c.args.stop r.present c.in-Asks.is c.requires.stopped) in
-    let few = a.few in
+    let few = c.requires.count.0 in
+    let long = outcomes_length c.args.digits.now.items in
     let room = a.room in
-    let count = c.requires.count in
     let small = c.devices-bound.type_inv in
     let same : c.devices-bound.result ≡ task.limits.device_bound = c.devices-bound.ensures.devices in
-    omega (arith, few, room, count, small, same)
+    omega (arith, few, long, room, small, same)
 
 pub walk-requires : goal.walk-requires
 walk-requires g t c =
     let task = task_in c.args.rehearsal.now in
     let digits = c.args.digits.now.items in
     let r = g.S.Store.record_of c.args.store.now in
-    let m = g.S.Store.record_of c.expected_success.new.store in
+    let m = g.S.Store.record_of c.expected_for.new.store in
     let still = c.in_ok-expected-in-Asks.ensures.still in
     let stopped = asked_here task digits c.args.stop r.present c.in-Asks.is c.requires.stopped in
     let steps : m.present.steps ≡ r.present.steps = ap (λ (s : State). s.steps) still.state in
@@ -66,6 +66,6 @@ walk-requires g t c =
     let grows = made.grows in
     let w = made.within in
     let u = c.requires.begun in
-    let count = c.after-more.ensures ∙ counted_on task digits c.choose.new.digits.items m.present c.in_ok-expected-in-Asks.expected c.in-Some.success c.args.count (still_stopped task (outcomes digits) r m stopped still) c.in_ok-expected-in-Asks.ensures.expects c.requires.count c.choose.ensures.digits in
+    let count = subst (λ (n : ℕ). IsCounted task (outcomes c.choose.new.digits.items) n) (sym c.after-more.ensures) (counted_on task digits c.choose.new.digits.items m.present c.in_ok-expected-in-Asks.expected c.in-Some.success c.args.count (still_stopped task (outcomes digits) r m stopped still) c.in_ok-expected-in-Asks.ensures.expects c.requires.count c.choose.ensures.digits) in
     let l = ap length c.in-Some.ensures in
     λ κs h. (omega (arith, c.decreases, l), (h, (search rules, (search rules, (count, (made.stopped, (made.marks, (w, (omega arith, c.requires.bound)))))))))

@@ -1,4 +1,4 @@
-use Rattle.std.proofs.Common.{ℕ, List, length, ◌≡◌, rules, ap, sym, subst, true, Some, ◌∙◌}
+use Rattle.std.proofs.Common.{List, length, rules, ap, sym, subst, true, Some, ◌∙◌}
 use Rattle.rehearse_terms.specs.State.{LoggedCommand}
 use Rattle.rehearse_rules.specs.Expected.{asked_in, unexpected_of}
 use Rattle.rehearse_rules.specs.Runs.{Task}
