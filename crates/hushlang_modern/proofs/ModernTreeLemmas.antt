@@ -10,8 +10,8 @@ use Rattle.hushlang_parts.specs.declared.reserved.Reserved.{Reserved}
 use Rattle.hushlang_parts.proofs.NestLemmas as nesting
 use Rattle.hushlang_parts.proofs.NestLemmas.{IsNest, IsGone}
 use Rattle.hushlang_modern.specs.ModernTokens.{FoundWord, Token, Word, NewLine, Semicolon, Ampersand, Bar, Joins, Opening, Closing, FoundTokens, modern_tokens}
-use Rattle.hushlang_modern.specs.ModernWords.{word_of, is_sure, reserved_in, is_sign, name_in, is_strange, is_assignment, value_of, is_hazard}
-use Rattle.hushlang_modern.specs.ModernTrees.{ModernText, Read, Unread, Building, nothing_built, part_in, Step, Goes, Stops, has_values, has_words, has_begun, has_command, command_of, without_words, command_ended, opened, needs_command, gone_to, goes_on, reserved_read, with_word, with_assignment, doomed, body_ended, reserved_in_for, stray_word, header_word, word_in_for, tree_or_doom, word_begun, command_begun, plain_word, first_word, command_word, named, word_at, all_ended, list_separated, words_ended, end_at, joined_by, group_begun, ends_group, read_token, read_tokens, text_in, text_of_step, text_of_tokens, modern_text}
+use Rattle.hushlang_modern.specs.ModernWords.{word_of, is_sure, reserved_in, reserved_first, is_sign, is_exclamation, name_in, is_strange, is_assignment, value_of, is_hazard}
+use Rattle.hushlang_modern.specs.ModernTrees.{ModernText, Read, Unread, Building, nothing_built, part_in, Step, Goes, Stops, has_values, has_words, has_begun, has_command, command_of, without_words, command_ended, opened, needs_command, is_given, is_unfollowed, gone_to, goes_on, part_read, reserved_read, with_word, with_assignment, doomed, body_ended, reserved_in_for, stray_word, header_word, word_in_for, tree_or_doom, word_begun, command_begun, plain_word, runs_surely, marked_word, unmarked_word, first_word, command_word, named, word_at, all_ended, list_separated, words_ended, end_at, joined_by, group_begun, ends_group, is_behind_brace, is_refused, token_read, tree_ended, text_ended, read_token, read_tokens, text_in, text_of_step, text_of_tokens, modern_text}
 use Rattle.hushlang_modern.specs.declared.stop.Stop.{Stop}
 use Rattle.hushlang_modern.specs.declared.stop.Stop.TheVariants.{Fails, Panics, Unsupported}
 
@@ -66,15 +66,20 @@ gone_by nests.Astray b h = tt
 
 goes_by : (word : Reserved) (b : Building) → IsBuilding b → MayBe (goes_on word b)
 goes_by word b h =
-    either (needs_command (part_in b) word && nests.lacks_command b.nest.block) (Stops Unsupported) (gone_to (nests.goes_on word b.nest) (body_ended word b))
+    either (is_unfollowed word b) (Stops Unsupported) (gone_to (nests.goes_on word b.nest) (body_ended word b))
     tt (gone_by (nests.goes_on word b.nest) (body_ended word b) (nesting.gone word b.nest h))
+
+part_by : (word : Reserved) (b : Building) → IsBuilding b → MayBe (part_read word b)
+part_by word b h =
+    either (is_given word b) (Goes (record b { nest = nests.given b.nest; closed = false; plain = false })) (goes_on word b)
+    (nesting.given_is b.nest h) (goes_by word b h)
 
 reserved_by : (word : Reserved) (b : Building) → IsBuilding b → MayBe (reserved_read word b)
 reserved_by word b h =
-    either (nests.begins word) (opened word b) (goes_on word b)
+    either (nests.begins word) (opened word b) (part_read word b)
     (either (nests.is_full b.nest || b.closed) (Stops Unsupported) (Goes (record b { nest = nests.begun word b.nest; fresh = true; plain = false; untouched = false; alone = b.untouched }))
     tt (nesting.opened word b.nest h))
-    (goes_by word b h)
+    (part_by word b h)
 
 -- ---- a token
 
@@ -90,11 +95,21 @@ first_by : (found : Option Reserved) (w : FoundWord) (b : Building) → IsBuildi
 first_by (Some word) w b h = reserved_by word b h
 first_by None w b h = begun_words w b h
 
+marked_by : (w : FoundWord) (b : Building) → IsBuilding b → MayBe (marked_word w b)
+marked_by w b h =
+    either (runs_surely w) (command_begun w (record b { marked = false })) (Stops Unsupported) (begun_words w (record b { marked = false }) h) tt
+
+unmarked_by : (w : FoundWord) (b : Building) → IsBuilding b → MayBe (unmarked_word w b)
+unmarked_by w b h =
+    either (is_exclamation w) _ (plain_word w b)
+    (either b.closed (Stops Unsupported) (Goes (record b { marked = true })) tt h)
+    (first_by (reserved_first w) w b h)
+
 command_by : (w : FoundWord) (b : Building) → IsBuilding b → MayBe (command_word w b)
 command_by w b h =
     either (has_words b.words) (Goes (with_word w b)) _ h
     (either (has_values b.values) (command_begun w b) (first_word w b) (begun_words w b h)
-    (either (is_sign w) (Stops Unsupported) (plain_word w b) tt (first_by (reserved_in w) w b h)))
+    (either b.marked (marked_word w b) (unmarked_word w b) (marked_by w b h) (unmarked_by w b h)))
 
 named_by : (name : Option (List ℕ)) (b : Building) → IsBuilding b → MayBe (named name b)
 named_by None b h = tt
@@ -116,7 +131,8 @@ word_by p.Words w b h =
     either (is_sign w && not (has_words b.words)) (Stops Unsupported) (Goes (with_word w b)) tt h
 word_by p.Do w b h = in_for_by w b h
 word_by p.Outside w b h = command_by w b h
-word_by p.Condition w b h = command_by w b h
+word_by (p.Condition further) w b h = command_by w b h
+word_by (p.Group braces) w b h = command_by w b h
 word_by (p.Arm further) w b h = command_by w b h
 word_by p.Else w b h = command_by w b h
 word_by p.Test w b h = command_by w b h
@@ -130,24 +146,28 @@ end_by p.Words newline b h =
     one_building (newline && not (has_words b.words)) b (words_ended b) h (nesting.worded_is (map word_of b.words) b.nest h)
 end_by p.Do newline b h = h
 end_by p.Outside newline b h = separated_building b h
-end_by p.Condition newline b h = separated_building b h
+end_by (p.Condition further) newline b h = separated_building b h
+end_by (p.Group braces) newline b h = separated_building b h
 end_by (p.Arm further) newline b h = separated_building b h
 end_by p.Else newline b h = separated_building b h
 end_by p.Test newline b h = separated_building b h
 end_by p.Body newline b h = separated_building b h
 end_by p.Each newline b h = separated_building b h
 
+any_by : (token : Token) (b : Building) → IsBuilding b → MayBe (token_read token b)
+any_by (Word w) b h = word_by (part_in b) w b h
+any_by NewLine b h = end_by (part_in b) true b h
+any_by Semicolon b h = end_by (part_in b) false b h
+any_by Ampersand b h =
+    either (nests.is_header (part_in b) || not b.plain) (Stops Unsupported) (Goes (list_separated b)) tt (separated_building b h)
+any_by Bar b h = either (nests.is_header (part_in b) || has_command b) (Stops Unsupported) (Goes b) tt h
+any_by (Opening quoted) b h = either (quoted && b.fresh) (Stops Unsupported) (Goes group_begun) tt nesting.nothing
+any_by Closing b h = either (has_begun b) (Goes b) (Stops (cond (ends_group b) Unsupported Panics)) h tt
+any_by (Joins op) b h = either (nests.is_header (part_in b)) (Stops Unsupported) (Goes (joined_by op b)) tt (joined_building op b h)
+
 token_by : (token : Token) (b : Building) → IsBuilding b → MayBe (read_token token b)
 unfolding read_token
-token_by (Word w) b h = word_by (part_in b) w b h
-token_by NewLine b h = end_by (part_in b) true b h
-token_by Semicolon b h = end_by (part_in b) false b h
-token_by Ampersand b h =
-    either (nests.is_header (part_in b) || not b.plain) (Stops Unsupported) (Goes (list_separated b)) tt (separated_building b h)
-token_by Bar b h = either (nests.is_header (part_in b) || has_command b) (Stops Unsupported) (Goes b) tt h
-token_by (Opening quoted) b h = either (quoted && b.fresh) (Stops Unsupported) (Goes group_begun) tt nesting.nothing
-token_by Closing b h = either (has_begun b) (Goes b) (Stops (cond (ends_group b) Unsupported Panics)) h tt
-token_by (Joins op) b h = either (nests.is_header (part_in b)) (Stops Unsupported) (Goes (joined_by op b)) tt (joined_building op b h)
+token_by token b h = either (is_refused token b) (Stops Unsupported) (token_read token b) tt (any_by token b h)
 
 next_by : (next : Step) (tokens : List Token) → ((b : Building) → IsBuilding b → MayBe (read_tokens tokens b)) → MayBe next → MayBe (elim next [ Stops stop ↦ Stops stop | Goes b ↦ read_tokens tokens b ])
 next_by (Stops stop) tokens more h = tt
@@ -171,11 +191,16 @@ closed_by : (is : Bool) (doom : Option Stop) (tree : Script) → IsProper tree �
 closed_by true doom tree h = tt
 closed_by false doom tree h = doom_by doom tree h
 
+refused_by : (is : Bool) (text : ModernText) → IsTree text → IsTree (cond is (Unread Unsupported) text)
+refused_by true text h = tt
+refused_by false text h = h
+
 text_by : (stop : Option Stop) (quoted : Bool) (b : Building) → IsBuilding b → IsTree (text_in stop quoted b)
 text_by (Some stop) quoted b h = tt
 text_by None quoted b h =
     let ended = (all_ended b).nest in
-    closed_by (nests.is_open b.nest) b.doom (nests.script_in ended) (nesting.script_is ended (all_ended_building b h))
+    refused_by (b.marked || is_behind_brace b) (tree_ended b)
+    (closed_by (nests.is_open b.nest) b.doom (nests.script_in ended) (nesting.script_is ended (all_ended_building b h)))
 
 step_by : (stop : Option Stop) (quoted : Bool) (step : Step) → MayBe step → IsTree (text_of_step stop quoted step)
 step_by stop quoted (Stops first) h = tt

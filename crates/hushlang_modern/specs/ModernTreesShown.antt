@@ -20,6 +20,7 @@ building b = record {
   grouped = b.grouped;
   untouched = b.untouched;
   alone = b.alone;
+  marked = b.marked;
   doom = b.doom;
 }
 

@@ -12,6 +12,7 @@ use Rattle.hushlang_parts.specs.Pieces.{is_mark}
 use Rattle.hushlang_parts.specs.Nests.{reserved_among}
 use Rattle.hushlang_parts.specs.Pieces.{only_bytes}
 use Rattle.hushlang_parts.specs.declared.reserved.Reserved.{Reserved}
+use Rattle.hushlang_parts.specs.declared.reserved.Reserved.TheVariants as r
 use Rattle.hushlang_modern.specs.ModernTokens.{FoundWord, is_wild, is_name}
 
 -- ---- patterns
@@ -77,6 +78,27 @@ is_sign_among bytes = false
 -- `!`, `{` or `}`
 abbrev pub is_sign : FoundWord → Bool
 is_sign w = is_sign_among (bare_bytes w)
+
+abbrev pub is_exclamation_among : Option (List ℕ) → Bool
+is_exclamation_among (Some (byte ∷ [])) = byte == ascii.exclamation_mark
+is_exclamation_among bytes = false
+
+abbrev pub is_exclamation : FoundWord → Bool
+is_exclamation w = is_exclamation_among (bare_bytes w)
+
+-- at the beginning of a command braces are as reserved words
+abbrev pub brace_of : ℕ → Option Reserved
+brace_of byte =
+    if byte == ascii.open_brace then Some r.OpenBrace
+    else (if byte == ascii.close_brace then Some r.CloseBrace
+    else None)
+
+abbrev pub brace_among : Option (List ℕ) → Option Reserved
+brace_among (Some (byte ∷ [])) = brace_of byte
+brace_among bytes = None
+
+abbrev pub reserved_first : FoundWord → Option Reserved
+reserved_first w = elim (brace_among (bare_bytes w)) [ Some word ↦ Some word | None ↦ reserved_in w ]
 
 -- ---- names and assignments
 

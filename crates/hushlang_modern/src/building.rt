@@ -8,8 +8,8 @@ ghost use Rattle.hushlang_modern.specs.ModernTreesShown as shown;
 ghost use Rattle.hushlang_modern.specs.ModernWords as words;
 
 use crate::found_words::{
-    is_assignment, is_hazard, is_sign, is_strange, is_sure, name_in, reserved_in, value_of,
-    words_of,
+    is_assignment, is_exclamation, is_hazard, is_sign, is_strange, is_sure, name_in,
+    reserved_first, reserved_in, value_of, words_of,
 };
 use crate::modern_text::ModernText;
 use crate::modern_tokens::{FoundWord, Token};
@@ -22,9 +22,9 @@ use std::mem;
 /// The block on the way and the compound commands that are open; the assignments on the way; the words
 /// on the way; whether a compound command has just ended; whether the next word may be the first one
 /// behind `if`, `while` or `until` to have a byte; whether the list on the way has no operator, and
-/// is the first of the text or behind another one of its block; whether all this is in a group; whether
-/// no word has been read; whether none had been as the last compound command began; and what becomes of
-/// the text as it is run, if a `for` in it is none.
+/// is the first of the text or behind another one of its block; whether all this is in a group in `( )`;
+/// whether no word has been read; whether none had been as the last compound command began; whether `!`
+/// has just been read; and what becomes of the text as it is run, if a `for` in it is none.
 #[derive(Drop)]
 pub(crate) struct Building {
     alloc: Global,
@@ -37,6 +37,7 @@ pub(crate) struct Building {
     grouped: bool,
     untouched: bool,
     alone: bool,
+    marked: bool,
     doom: Option<Stop>,
 }
 
@@ -56,6 +57,7 @@ impl Building {
             grouped: false,
             untouched: true,
             alone: false,
+            marked: false,
             doom: None,
         }
     }
@@ -139,12 +141,20 @@ impl Building {
         }
     }
 
+    /// Whether a reserved word is not followed here.
+    fn is_unfollowed(&self, word: Reserved) -> bool
+        ensures { result ≡ says.is_unfollowed word (shown.building self.now) }
+    {
+        let part = self.nest.part();
+        is_behind_given(part, word) || (needs_command(part, word) && self.nest.lacks_command())
+    }
+
     /// A reserved word goes on with the innermost compound command, or ends it.
     fn go_on(&mut self, word: Reserved) -> Result<Option<Stop>, AllocError>
         ensures { IfOk result (λ stop. says.goes_on word (shown.building self.old)
             ≡ shown.unless stop (shown.building self.new)) }
     {
-        if needs_command(self.nest.part(), word) && self.nest.lacks_command() {
+        if self.is_unfollowed(word) {
             return Ok(Some(Stop::Unsupported));
         }
         self.end_body(word);
@@ -160,6 +170,27 @@ impl Building {
         Ok(None)
     }
 
+    /// Whether this word begins the block of an `if` whose condition holds without a command.
+    fn is_given(&self, word: Reserved) -> bool
+        ensures { result ≡ says.is_given word (shown.building self.now) }
+    {
+        is_first_then(self.nest.part(), word) && self.nest.lacks_command()
+    }
+
+    /// A reserved word behind a block.
+    fn read_part(&mut self, word: Reserved) -> Result<Option<Stop>, AllocError>
+        ensures { IfOk result (λ stop. says.part_read word (shown.building self.old)
+            ≡ shown.unless stop (shown.building self.new)) }
+    {
+        if !self.is_given(word) {
+            return self.go_on(word);
+        }
+        self.nest.begin_given()?;
+        self.closed = false;
+        self.plain = false;
+        Ok(None)
+    }
+
     /// A reserved word at the beginning of a command.
     fn read_reserved(&mut self, word: Reserved) -> Result<Option<Stop>, AllocError>
         ensures { IfOk result (λ stop. says.reserved_read word (shown.building self.old)
@@ -168,7 +199,7 @@ impl Building {
         if begins(word) {
             return self.begin(word);
         }
-        self.go_on(word)
+        self.read_part(word)
     }
 
     /// A further word of a command, or of a `for`.
@@ -227,18 +258,45 @@ impl Building {
         self.begin_words(word)
     }
 
-    /// A word before which nothing is.
+    /// The word behind a `!`.
+    fn read_marked_word(&mut self, word: FoundWord) -> Result<Option<Stop>, AllocError>
+        ensures { IfOk result (λ stop. says.marked_word (tokens.word word)
+            (shown.building self.old) ≡ shown.unless stop (shown.building self.new)) }
+    {
+        if !runs_surely(&word) {
+            return Ok(Some(Stop::Unsupported));
+        }
+        self.marked = false;
+        self.begin_command(word)
+    }
+
+    /// A word before which nothing is, and no `!`.
+    fn read_unmarked_word(&mut self, word: FoundWord) -> Result<Option<Stop>, AllocError>
+        ensures { IfOk result (λ stop. says.unmarked_word (tokens.word word)
+            (shown.building self.old) ≡ shown.unless stop (shown.building self.new)) }
+    {
+        if is_exclamation(&word) {
+            if self.closed {
+                return Ok(Some(Stop::Unsupported));
+            }
+            self.marked = true;
+            return Ok(None);
+        }
+        match reserved_first(&word) {
+            Some(reserved) => self.read_reserved(reserved),
+            None => self.begin_command(word),
+        }
+    }
+
+    /// A word before which nothing is, or a `!`.
     fn read_first_word(&mut self, word: FoundWord) -> Result<Option<Stop>, AllocError>
         ensures { IfOk result (λ stop. says.first_word (tokens.word word)
             (shown.building self.old) ≡ shown.unless stop (shown.building self.new)) }
     {
-        if is_sign(&word) {
-            return Ok(Some(Stop::Unsupported));
+        if self.marked {
+            return self.read_marked_word(word);
         }
-        match reserved_in(&word) {
-            Some(reserved) => self.read_reserved(reserved),
-            None => self.begin_command(word),
-        }
+        self.read_unmarked_word(word)
     }
 
     /// A word of a command, or a reserved word.
@@ -444,6 +502,7 @@ impl Building {
         self.grouped = true;
         self.untouched = true;
         self.alone = false;
+        self.marked = false;
         self.doom = None;
     }
 
@@ -480,12 +539,33 @@ impl Building {
         })
     }
 
+    /// Whether `{` has just been read.
+    fn is_behind_brace(&self) -> bool
+        ensures { result ≡ says.is_behind_brace (shown.building self.now) }
+    {
+        is_in_braces(self.nest.part()) && self.nest.lacks_command() && !self.has_command()
+    }
+
+    /// Whether a token that is no word is not followed here.
+    fn is_refused(&self, token: &Token) -> bool
+        ensures { result ≡ says.is_refused (tokens.token token.now) (shown.building self.now) }
+    {
+        match token {
+            Token::Word(_) => false,
+            Token::NewLine | Token::Closing => self.marked,
+            _ => self.marked || self.is_behind_brace(),
+        }
+    }
+
     /// Reads a token. The answer is how the reading stops there, if it does.
     #[tactic(auto, unfolding(crate::specs::ModernTrees::read_token))]
     pub(crate) fn read_token(&mut self, token: Token) -> Result<Option<Stop>, AllocError>
         ensures { IfOk result (λ stop. says.read_token (tokens.token token)
             (shown.building self.old) ≡ shown.unless stop (shown.building self.new)) }
     {
+        if self.is_refused(&token) {
+            return Ok(Some(Stop::Unsupported));
+        }
         match token {
             Token::Word(word) => self.read_word(word),
             Token::NewLine => self.end(true),
@@ -513,6 +593,9 @@ impl Building {
     pub(crate) fn end_text(&mut self) -> Result<ModernText, AllocError>
         ensures { IfOk result (λ text. shown.text text ≡ says.text_ended (shown.building self.old)) }
     {
+        if self.marked || self.is_behind_brace() {
+            return Ok(ModernText::Unread(Stop::Unsupported));
+        }
         if self.nest.is_open() {
             return Ok(ModernText::Unread(Stop::Fails));
         }
@@ -555,11 +638,49 @@ fn needs_command(part: Part, word: Reserved) -> bool
     ensures { result ≡ says.needs_command part word }
 {
     match (part, word) {
-        (Part::Condition, Reserved::Then) => true,
+        (Part::Condition(_), Reserved::Then) => true,
         (Part::Arm(further), Reserved::Elif) => further,
         (Part::Test, Reserved::Do) => true,
+        (Part::Group(_), Reserved::CloseBrace) => true,
         _ => false,
     }
+}
+
+/// Whether a word is `then` behind the first condition of an `if`.
+fn is_first_then(part: Part, word: Reserved) -> bool
+    ensures { result ≡ says.is_first_then part word }
+{
+    match (part, word) {
+        (Part::Condition(false), Reserved::Then) => true,
+        _ => false,
+    }
+}
+
+/// Whether a word is behind the block of an `if` whose condition held without a command.
+fn is_behind_given(part: Part, word: Reserved) -> bool
+    ensures { result ≡ says.is_behind_given part word }
+{
+    match (part, word) {
+        (Part::Group(false), Reserved::Elif | Reserved::Else) => true,
+        _ => false,
+    }
+}
+
+/// Whether a part is in braces.
+fn is_in_braces(part: Part) -> bool
+    ensures { result ≡ says.is_in_braces part }
+{
+    match part {
+        Part::Group(true) => true,
+        _ => false,
+    }
+}
+
+/// Whether a word behind `!` is the first one of a simple command that runs.
+fn runs_surely(word: &FoundWord) -> bool
+    ensures { result ≡ says.runs_surely (tokens.word word.now) }
+{
+    is_sure(word) && !(is_sign(word) || reserved_in(word).is_some() || is_assignment(word))
 }
 
 /// Whether the body of a `for` ends at this word, in this part.

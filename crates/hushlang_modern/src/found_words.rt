@@ -74,6 +74,47 @@ pub(crate) fn is_sign(word: &FoundWord) -> bool
     }
 }
 
+/// Whether a word is `!`.
+pub(crate) fn is_exclamation(word: &FoundWord) -> bool
+    ensures { result ≡ says.is_exclamation (shown.word word.now) }
+{
+    match bare_bytes(word) {
+        Some([byte]) => *byte == b'!',
+        _ => false,
+    }
+}
+
+/// The reserved word that a brace is.
+fn brace_of(byte: u8) -> Option<Reserved>
+    ensures { result ≡ says.brace_of byte }
+{
+    match byte {
+        b'{' => Some(Reserved::OpenBrace),
+        b'}' => Some(Reserved::CloseBrace),
+        _ => None,
+    }
+}
+
+/// The brace that a word is, as a reserved word.
+fn brace_in(word: &FoundWord) -> Option<Reserved>
+    ensures { result ≡ says.brace_among (says.bare_bytes (shown.word word.now)) }
+{
+    match bare_bytes(word) {
+        Some([byte]) => brace_of(*byte),
+        _ => None,
+    }
+}
+
+/// The reserved word, or the brace, that a word is at the beginning of a command.
+pub(crate) fn reserved_first(word: &FoundWord) -> Option<Reserved>
+    ensures { result ≡ says.reserved_first (shown.word word.now) }
+{
+    match brace_in(word) {
+        Some(brace) => Some(brace),
+        None => reserved_in(word),
+    }
+}
+
 /// The name of a `for`.
 pub(crate) fn name_in(word: &FoundWord) -> Option<&[u8]>
     ensures { option_bytes result ≡ says.name_in (shown.word word.now) }

@@ -1,3 +1,4 @@
+pub mod DefaultLemmas
 pub mod OldFieldLemmas
 pub mod BuildingLemmas
 pub mod OldTreeLemmas

@@ -5,6 +5,7 @@ use Rattle.std.specs.Fmt.{digits}
 use Rattle.hushlang.specs.Tree.{Word, Bytes, Mark, Var, Status}
 use Rattle.hushlang.specs.Expansion.{Parameters, with_variable, atoms, joined, fields}
 use Rattle.hushlang.specs.KnownFields.{nothing_set}
+use Rattle.hushlang_old.specs.Defaults.{variable_of, behind_variable}
 use Rattle.hushlang_old.specs.OldFields.{inserted, word_text, command_text, read, reread, old_fields, old_turns}
 
 abbrev Text : Type 0
@@ -54,7 +55,7 @@ abbrev bare_words : List Word
 bare_words = (Bytes load ∷ []) ∷ (Var (codes "x") true ∷ []) ∷ []
 
 bare_found : found bare_words bare ≡ expected bare
-unfolding old_fields command_text word_text inserted read reread joined atoms fields digits
+unfolding old_fields command_text word_text inserted variable_of behind_variable read reread joined atoms fields digits
 bare_found = refl
 
 -- ---- `load "$x"`: it stands between single quotes
@@ -71,7 +72,7 @@ abbrev in_quotes_words : List Word
 in_quotes_words = (Bytes load ∷ []) ∷ (Mark ∷ Var (codes "x") false ∷ []) ∷ []
 
 in_quotes_found : found in_quotes_words in_quotes ≡ expected in_quotes
-unfolding old_fields command_text word_text inserted read reread joined atoms fields digits
+unfolding old_fields command_text word_text inserted variable_of behind_variable read reread joined atoms fields digits
 in_quotes_found = refl
 
 -- ---- `load $x "$x" b`
@@ -88,7 +89,7 @@ both_words =
     ∷ (Bytes (codes "b") ∷ []) ∷ []
 
 both_found : found both_words both ≡ expected both
-unfolding old_fields command_text word_text inserted read reread joined atoms fields digits
+unfolding old_fields command_text word_text inserted variable_of behind_variable read reread joined atoms fields digits
 both_found = refl
 
 -- ---- `load a${x}b`
@@ -103,7 +104,7 @@ abbrev within_words : List Word
 within_words = (Bytes load ∷ []) ∷ (Bytes (codes "a") ∷ Var (codes "x") true ∷ Bytes (codes "b") ∷ []) ∷ []
 
 within_found : found within_words within ≡ expected within
-unfolding old_fields command_text word_text inserted read reread joined atoms fields digits
+unfolding old_fields command_text word_text inserted variable_of behind_variable read reread joined atoms fields digits
 within_found = refl
 
 -- ---- `load $x $x`: what a quote opens in one word, a quote in the next one closes
@@ -117,7 +118,7 @@ abbrev twice_words : List Word
 twice_words = (Bytes load ∷ []) ∷ (Var (codes "x") true ∷ []) ∷ (Var (codes "x") true ∷ []) ∷ []
 
 twice_found : found twice_words twice ≡ expected twice
-unfolding old_fields command_text word_text inserted read reread joined atoms fields digits
+unfolding old_fields command_text word_text inserted variable_of behind_variable read reread joined atoms fields digits
 twice_found = refl
 
 -- ---- `load $x''`: quotes anywhere in a word hold the whole word
@@ -131,7 +132,7 @@ abbrev held_words : List Word
 held_words = (Bytes load ∷ []) ∷ (Var (codes "x") true ∷ Mark ∷ []) ∷ []
 
 held_found : found held_words held ≡ expected held
-unfolding old_fields command_text word_text inserted read reread joined atoms fields digits
+unfolding old_fields command_text word_text inserted variable_of behind_variable read reread joined atoms fields digits
 held_found = refl
 
 -- ---- `load a"$x" b`
@@ -145,7 +146,7 @@ behind_bytes_words =
     (Bytes load ∷ []) ∷ (Bytes (codes "a") ∷ Mark ∷ Var (codes "x") false ∷ []) ∷ (Bytes (codes "b") ∷ []) ∷ []
 
 behind_bytes_found : found behind_bytes_words behind_bytes ≡ expected behind_bytes
-unfolding old_fields command_text word_text inserted read reread joined atoms fields digits
+unfolding old_fields command_text word_text inserted variable_of behind_variable read reread joined atoms fields digits
 behind_bytes_found = refl
 
 -- ---- `load 'b  #' $x`: words without a variable are read again too
@@ -158,7 +159,7 @@ abbrev with_text_words : List Word
 with_text_words = (Bytes load ∷ []) ∷ (Mark ∷ Bytes (codes "b  #") ∷ []) ∷ (Var (codes "x") true ∷ []) ∷ []
 
 with_text_found : found with_text_words with_text ≡ expected with_text
-unfolding old_fields command_text word_text inserted read reread joined atoms fields digits
+unfolding old_fields command_text word_text inserted variable_of behind_variable read reread joined atoms fields digits
 with_text_found = refl
 
 -- ---- `load b\\\\c $x`: each backslash of the two counts again
@@ -171,7 +172,7 @@ abbrev with_backslashes_words : List Word
 with_backslashes_words = (Bytes load ∷ []) ∷ (Bytes (codes "b\\\\c") ∷ []) ∷ (Var (codes "x") true ∷ []) ∷ []
 
 with_backslashes_found : found with_backslashes_words with_backslashes ≡ expected with_backslashes
-unfolding old_fields command_text word_text inserted read reread joined atoms fields digits
+unfolding old_fields command_text word_text inserted variable_of behind_variable read reread joined atoms fields digits
 with_backslashes_found = refl
 
 -- ---- `load 'a<newline>b' $x`: here the text ends with two newlines, which an open `"` takes into its word
@@ -185,7 +186,7 @@ abbrev with_newline_words : List Word
 with_newline_words = (Bytes load ∷ []) ∷ (Mark ∷ Bytes (codes "a\nb") ∷ []) ∷ (Var (codes "x") true ∷ []) ∷ []
 
 with_newline_found : found with_newline_words with_newline ≡ expected with_newline
-unfolding old_fields command_text word_text inserted read reread joined atoms fields digits
+unfolding old_fields command_text word_text inserted variable_of behind_variable read reread joined atoms fields digits
 with_newline_found = refl
 
 -- ---- `load $x 'a<newline>b'`
@@ -199,7 +200,7 @@ abbrev with_comment_words : List Word
 with_comment_words = (Bytes load ∷ []) ∷ (Var (codes "x") true ∷ []) ∷ (Mark ∷ Bytes (codes "a\nb") ∷ []) ∷ []
 
 with_comment_found : found with_comment_words with_comment ≡ expected with_comment
-unfolding old_fields command_text word_text inserted read reread joined atoms fields digits
+unfolding old_fields command_text word_text inserted variable_of behind_variable read reread joined atoms fields digits
 with_comment_found = refl
 
 -- ---- `load 'a<newline>b'$x`: a newline in a word with a variable is a space
@@ -212,7 +213,7 @@ abbrev newline_beside_words : List Word
 newline_beside_words = (Bytes load ∷ []) ∷ (Mark ∷ Bytes (codes "a\nb") ∷ Var (codes "x") true ∷ []) ∷ []
 
 newline_beside_found : found newline_beside_words newline_beside ≡ expected newline_beside
-unfolding old_fields command_text word_text inserted read reread joined atoms fields digits
+unfolding old_fields command_text word_text inserted variable_of behind_variable read reread joined atoms fields digits
 newline_beside_found = refl
 
 -- ---- `load $u "$u" b`: the variable is not set
@@ -227,7 +228,7 @@ unset_words =
     ∷ (Bytes (codes "b") ∷ []) ∷ []
 
 unset_found : found unset_words unset ≡ expected unset
-unfolding old_fields command_text word_text inserted read reread joined atoms fields digits
+unfolding old_fields command_text word_text inserted variable_of behind_variable read reread joined atoms fields digits
 unset_found = refl
 
 -- ---- `load 'it"s #' "" b`: this is not read again, whatever bytes it has
@@ -241,7 +242,7 @@ no_variable_words =
     (Bytes load ∷ []) ∷ (Mark ∷ Bytes (codes "it\"s #") ∷ []) ∷ (Mark ∷ []) ∷ (Bytes (codes "b") ∷ []) ∷ []
 
 no_variable_found : found no_variable_words no_variable ≡ expected no_variable
-unfolding old_fields command_text word_text inserted read reread joined atoms fields digits
+unfolding old_fields command_text word_text inserted variable_of behind_variable read reread joined atoms fields digits
 no_variable_found = refl
 
 -- ---- `load \# $?`: the status is 0
@@ -254,7 +255,7 @@ abbrev with_status_words : List Word
 with_status_words = (Bytes load ∷ []) ∷ (Bytes (codes "#") ∷ []) ∷ (Status ∷ []) ∷ []
 
 with_status_found : found with_status_words with_status ≡ expected with_status
-unfolding old_fields command_text word_text inserted read reread joined atoms fields digits
+unfolding old_fields command_text word_text inserted variable_of behind_variable read reread joined atoms fields digits
 with_status_found = refl
 
 -- ---- `for i in $x`: spaces cut, and nothing else acts
@@ -271,7 +272,7 @@ abbrev turns_bare_words : List Word
 turns_bare_words = (Var (codes "x") true ∷ []) ∷ []
 
 turns_bare_turns : turns turns_bare_words turns_bare ≡ expected turns_bare
-unfolding old_turns inserted joined atoms
+unfolding old_turns inserted variable_of behind_variable joined atoms
 turns_bare_turns = refl
 
 -- ---- `for i in "$x" $u b`: double quotes do not hold the words together, and an empty word is no turn
@@ -286,7 +287,7 @@ turns_in_quotes_words =
     (Mark ∷ Var (codes "x") false ∷ []) ∷ (Var (codes "u") true ∷ []) ∷ (Bytes (codes "b") ∷ []) ∷ []
 
 turns_in_quotes_turns : turns turns_in_quotes_words turns_in_quotes ≡ expected turns_in_quotes
-unfolding old_turns inserted joined atoms
+unfolding old_turns inserted variable_of behind_variable joined atoms
 turns_in_quotes_turns = refl
 
 -- ---- `for i in a${x}b ''`
@@ -299,7 +300,7 @@ abbrev turns_within_words : List Word
 turns_within_words = (Bytes (codes "a") ∷ Var (codes "x") true ∷ Bytes (codes "b") ∷ []) ∷ (Mark ∷ []) ∷ []
 
 turns_within_turns : turns turns_within_words turns_within ≡ expected turns_within
-unfolding old_turns inserted joined atoms
+unfolding old_turns inserted variable_of behind_variable joined atoms
 turns_within_turns = refl
 
 -- ---- `for i in 'a  b' "c<newline>d"`: so it is without a variable too, but for the newline
@@ -312,5 +313,58 @@ abbrev turns_text_words : List Word
 turns_text_words = (Mark ∷ Bytes (codes "a  b") ∷ []) ∷ (Mark ∷ Bytes (codes "c\nd") ∷ []) ∷ []
 
 turns_text_turns : turns turns_text_words turns_text ≡ expected turns_text
-unfolding old_turns inserted joined atoms
+unfolding old_turns inserted variable_of behind_variable joined atoms
 turns_text_turns = refl
+
+-- ---- `load a${x:-b c}d`: the default is for a variable that has no value
+
+abbrev defaults : List Row
+defaults =
+    ([], load ∷ codes "ab" ∷ codes "cd" ∷ []) ∷ (codes "v", load ∷ codes "avd" ∷ []) ∷ []
+
+abbrev defaults_words : List Word
+defaults_words = (Bytes load ∷ []) ∷ (Bytes (codes "a") ∷ Var (codes "x:-b c") true ∷ Bytes (codes "d") ∷ []) ∷ []
+
+defaults_found : found defaults_words defaults ≡ expected defaults
+unfolding old_fields command_text word_text inserted variable_of behind_variable read reread joined atoms fields digits
+defaults_found = refl
+
+-- ---- `load "${x:+b'c}" ${u:-'d e'}`: so it is behind `:+`, and its quotes act
+
+abbrev reversed : List Row
+reversed =
+    ([], []) ∷ (codes "v", load ∷ [] ∷ codes "d e" ∷ []) ∷ []
+
+abbrev reversed_words : List Word
+reversed_words = (Bytes load ∷ []) ∷ (Mark ∷ Var (codes "x:+b'c") false ∷ []) ∷ (Var (codes "u:-'d e'") true ∷ []) ∷ []
+
+reversed_found : found reversed_words reversed ≡ expected reversed
+unfolding old_fields command_text word_text inserted variable_of behind_variable read reread joined atoms fields digits
+reversed_found = refl
+
+-- ---- `load ${x:?b}${x:b}${x:} ${:-$u:+b}`: other bytes behind the `:` change nothing, and a variable in them is none
+
+abbrev without_default : List Row
+without_default =
+    ([], load ∷ codes "$u:+b" ∷ []) ∷ (codes "v", load ∷ codes "vvv" ∷ codes "$u:+b" ∷ []) ∷ []
+
+abbrev without_default_words : List Word
+without_default_words =
+    (Bytes load ∷ []) ∷ (Var (codes "x:?b") true ∷ Var (codes "x:b") true ∷ Var (codes "x:") true ∷ []) ∷ (Var (codes ":-$u:+b") true ∷ []) ∷ []
+
+without_default_found : found without_default_words without_default ≡ expected without_default
+unfolding old_fields command_text word_text inserted variable_of behind_variable read reread joined atoms fields digits
+without_default_found = refl
+
+-- ---- `for i in ${x:-a b}`
+
+abbrev turns_default : List Row
+turns_default =
+    ([], codes "a" ∷ codes "b" ∷ []) ∷ (codes "v w", codes "v" ∷ codes "w" ∷ []) ∷ []
+
+abbrev turns_default_words : List Word
+turns_default_words = (Var (codes "x:-a b") true ∷ []) ∷ []
+
+turns_default_turns : turns turns_default_words turns_default ≡ expected turns_default
+unfolding old_turns inserted variable_of behind_variable joined atoms
+turns_default_turns = refl

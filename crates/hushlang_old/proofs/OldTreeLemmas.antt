@@ -1,16 +1,17 @@
 -- The trees that U-Boot's old shell reads hold a command in each block.
-use Rattle.std.proofs.Common.{◌≡◌, refl, subst, ℕ, Bool, true, false, ◌&&◌, ◌||◌, not, List, [], ◌∷◌, map, cond, Option, Some, None, is_some}
+use Rattle.std.proofs.Common.{◌≡◌, refl, subst, ℕ, Bool, true, false, ◌&&◌, ◌||◌, not, List, [], ◌∷◌, map, cond, Option, Some, None, is_some, option_map}
 use Rattle.hushlang.specs.Tree.{Script, IsProper, IsProperCommand}
 use Rattle.hushlang.specs.declared.tree.Op.{Op}
 use Rattle.hushlang.specs.declared.tree.Op.TheVariants.{And}
 use Rattle.hushlang_parts.specs.Nests as nests
 use Rattle.hushlang_parts.specs.Nests.{is_in}
 use Rattle.hushlang_old.specs.OldTokens.{FoundWord, Token, Word, Ends, Joins, Breaks, old_tokens}
-use Rattle.hushlang_old.specs.OldTrees.{Building, nothing_built, is_open, part_in, drops_number, command_of, command_ended, joined_by, opened, needs_command, gone_to, goes_on, is_idle, with_idle, part_read, reserved_read, spoil, body_begun, nest_at_do, header_read, first_of_for, word_of_for, first_behind, word_behind, word_at_in, without_name, with_word, is_void, is_assignment, changes_shell, command_begun, reserved_in, first_word, is_constant_word, is_constant_with, begun_behind, further_word, command_word, name_in, named, word_at, word_of, list_separated, end_at, has_command, joined_in, read_token, read_tokens, tree_in, tree_behind, tree_of_tokens, is_fault, have_fault, tokens_have_fault, old_tree_of, has_fault}
+use Rattle.hushlang_old.specs.OldTrees.{Building, nothing_built, is_open, part_in, drops_number, command_of, command_ended, joined_by, opened, needs_command, gone_to, goes_on, is_idle, with_idle, is_given, part_read, reserved_read, spoil, body_begun, with_misname, no_assignment, misname_in, misnamed, nest_at_do, header_read, first_of_for, word_of_for, first_behind, word_behind, word_at_in, without_name, with_word, is_void, is_assignment, changes_shell, command_begun, reserved_in, first_word, is_constant_word, is_constant_with, begun_behind, further_word, command_word, name_in, named, word_at, word_of, list_separated, end_at, has_command, joined_in, read_token, read_tokens, tree_in, tree_behind, tree_of_tokens, is_fault, have_fault, tokens_have_fault, old_tree_of, has_fault}
 use Rattle.hushlang_parts.specs.declared.part.Part.{Part}
 use Rattle.hushlang_parts.specs.declared.part.Part.TheVariants as p
 use Rattle.hushlang_parts.specs.declared.reserved.Reserved.{Reserved}
 use Rattle.hushlang_parts.specs.declared.reserved.Reserved.TheVariants as r
+use Rattle.hushlang_parts.specs.ReadBytes.{has_bytes}
 use Rattle.hushlang_parts.proofs.NestLemmas as nesting
 use Rattle.hushlang_parts.proofs.NestLemmas.{IsNest, IsGone}
 
@@ -82,7 +83,9 @@ goes_by word b h =
 
 part_by : (word : Reserved) (b : Building) → IsBuilding b → MayBe (part_read word b)
 part_by word b h =
-    goes_by word (with_idle word b) (one_building (is_idle word b) (record b { nest = nests.idle b.nest }) b (nesting.idle_is b.nest h) h)
+    either (is_given word b) (Some (record b { nest = nests.given b.nest; separated = false })) (goes_on word (with_idle word b))
+    (nesting.given_is b.nest h)
+    (goes_by word (with_idle word b) (one_building (is_idle word b) (record b { nest = nests.idle b.nest }) b (nesting.idle_is b.nest h) h))
 
 reserved_by : (word : Reserved) (b : Building) → IsBuilding b → MayBe (reserved_read word b)
 reserved_by word b h =
@@ -112,16 +115,28 @@ one_nest : (x : Bool) (n m : nests.Nest) → IsNest n → IsNest m → IsNest (c
 one_nest true n m h k = h
 one_nest false n m h k = k
 
+misname_building : (misname : List ℕ) (b : Building) → IsBuilding b → IsBuilding (with_misname misname b)
+misname_building misname b h =
+    let nest = nests.command_added (no_assignment misname) b.nest in
+    one_building (has_bytes misname) (record b { nest = nests.list_closed nest }) b (nesting.closed nest (nesting.added (no_assignment misname) b.nest tt h)) h
+
+misname_by : (misname : List ℕ) (o : Option Building) → MayBe o → MayBe (option_map (with_misname misname) o)
+misname_by misname None h = tt
+misname_by misname (Some b) h = misname_building misname b h
+
 body_by : (b : Building) → IsBuilding b → MayBe (body_begun b)
 body_by b h =
-    goes_by r.Do (header_read b)
+    misname_by b.misname (goes_on r.Do (header_read b))
+    (goes_by r.Do (header_read b)
     (one_nest b.spoilt (nests.unmet b.nest) (cond b.nameless (nests.idle b.nest) b.nest) (nesting.unmet_is b.nest h)
-    (one_nest b.nameless (nests.idle b.nest) b.nest (nesting.idle_is b.nest h) h))
+    (one_nest b.nameless (nests.idle b.nest) b.nest (nesting.idle_is b.nest h) h)))
 
 first_for_by : (found : Option Reserved) (w : FoundWord) (b : Building) → IsBuilding b → MayBe (first_of_for found w b)
 first_for_by None w b h = h
 first_for_by (Some r.Do) w b h = body_by (record b { spoilt = not b.nameless }) h
 first_for_by (Some r.If) w b h = tt
+first_for_by (Some r.OpenBrace) w b h = tt
+first_for_by (Some r.CloseBrace) w b h = tt
 first_for_by (Some r.Then) w b h = tt
 first_for_by (Some r.Elif) w b h = tt
 first_for_by (Some r.Else) w b h = tt
@@ -140,6 +155,8 @@ first_behind_by : (found : Option Reserved) (w : FoundWord) (b : Building) → I
 first_behind_by None w b h = h
 first_behind_by (Some r.Do) w b h = body_by b h
 first_behind_by (Some r.If) w b h = tt
+first_behind_by (Some r.OpenBrace) w b h = tt
+first_behind_by (Some r.CloseBrace) w b h = tt
 first_behind_by (Some r.Then) w b h = tt
 first_behind_by (Some r.Elif) w b h = tt
 first_behind_by (Some r.Else) w b h = tt
@@ -158,6 +175,8 @@ in_by : (found : Option Reserved) (b : Building) → IsBuilding b → MayBe (wor
 in_by None b h = h
 in_by (Some r.In) b h = goes_by r.In b h
 in_by (Some r.If) b h = tt
+in_by (Some r.OpenBrace) b h = tt
+in_by (Some r.CloseBrace) b h = tt
 in_by (Some r.Then) b h = tt
 in_by (Some r.Elif) b h = tt
 in_by (Some r.Else) b h = tt
@@ -173,17 +192,22 @@ nameless_by b h =
     when_else b.spoilt (goes_on r.In (record b { nest = nests.named [] b.nest; nameless = true }))
     (goes_by r.In (record b { nest = nests.named [] b.nest; nameless = true }) (nesting.named_is [] b.nest h))
 
-named_by : (name : Option (List ℕ)) (b : Building) → IsBuilding b → MayBe (named name b)
-named_by None b h = tt
-named_by (Some name) b h = nesting.named_is name b.nest h
+misnamed_by : (misname : Option (List ℕ)) (b : Building) → IsBuilding b → MayBe (misnamed misname b)
+misnamed_by None b h = tt
+misnamed_by (Some misname) b h = nesting.named_is misname b.nest h
+
+named_by : (name misname : Option (List ℕ)) (b : Building) → IsBuilding b → MayBe (named name misname b)
+named_by None misname b h = misnamed_by misname b h
+named_by (Some name) misname b h = nesting.named_is name b.nest h
 
 word_by : (part : Part) (w : FoundWord) (b : Building) → IsBuilding b → MayBe (word_at part w b)
-word_by p.Name w b h = either (is_in (reserved_in w)) (without_name b) (named (name_in w) b) (nameless_by b h) (named_by (name_in w) b h)
+word_by p.Name w b h = either (is_in (reserved_in w)) (without_name b) (named (name_in w) (misname_in w) b) (nameless_by b h) (named_by (name_in w) (misname_in w) b h)
 word_by p.In w b h = in_by (reserved_in w) b h
 word_by p.Words w b h = for_by b.words w b h
 word_by p.Do w b h = behind_by b.words w b h
 word_by p.Outside w b h = command_by w b h
-word_by p.Condition w b h = command_by w b h
+word_by (p.Condition further) w b h = command_by w b h
+word_by (p.Group braces) w b h = command_by w b h
 word_by (p.Arm further) w b h = command_by w b h
 word_by p.Else w b h = command_by w b h
 word_by p.Test w b h = command_by w b h
@@ -196,7 +220,8 @@ end_by p.In b h = h
 end_by p.Words b h = nesting.worded_is (map word_of b.words) b.nest h
 end_by p.Do b h = h
 end_by p.Outside b h = separated_building b h
-end_by p.Condition b h = separated_building b h
+end_by (p.Condition further) b h = separated_building b h
+end_by (p.Group braces) b h = separated_building b h
 end_by (p.Arm further) b h = separated_building b h
 end_by p.Else b h = separated_building b h
 end_by p.Test b h = separated_building b h

@@ -72,6 +72,12 @@ brace_names : map (old_tree_of false) (codes "${}" ∷ codes "\"${a b}\"" ∷ co
 unfolding old_tree_of
 brace_names = refl
 
+-- what a variable without a value comes to stands behind a `:`
+defaults : map (old_tree_of false) (codes "${a:-b c}" ∷ codes "\"${a:+'$b\"}\"" ∷ codes "${:?=}" ∷ [])
+    ≡ one (Var (codes "a:-b c") true ∷ []) ∷ one (Mark ∷ Var (codes "a:+'$b\"") false ∷ []) ∷ one (Var (codes ":?=") true ∷ []) ∷ []
+unfolding old_tree_of
+defaults = refl
+
 -- ---- assignments
 
 abbrev assignments : List Pair
@@ -109,6 +115,26 @@ empty_blocks : map (old_tree_of false) (codes "if a; then # b\nfi" ∷ codes "if
     ∷ Some (Runs (Starts (Loop false a nothing) Alone) Empty) ∷ Some (Runs (Starts (For (codes "x") ((Bytes (codes "y") ∷ []) ∷ []) nothing) Alone) Empty) ∷ []
 unfolding old_tree_of
 empty_blocks = refl
+
+-- A first condition without a command holds, so that the `if` comes to its block
+abbrev given : Option Script
+given = Some (Runs (Starts (If (Arm a nothing NoElse)) Alone) Empty)
+
+given_read : map (old_tree_of false) (codes "if; then a; fi" ∷ codes "if then a; fi" ∷ codes "if\n || then; a\nfi" ∷ [])
+    ≡ given ∷ given ∷ given ∷ []
+unfolding old_tree_of
+given_read = refl
+
+-- The turns of a `for` whose name is none begin with a command that no board has
+abbrev misnamed : (name : Text) → Option Script
+misnamed name =
+    let command = Runs (Starts (Simple ((Bytes (name ++ codes "=") ∷ []) ∷ [])) Alone) a in
+    Some (Runs (Starts (For name ((Bytes (codes "b") ∷ []) ∷ []) command) Alone) Empty)
+
+misnames : map (old_tree_of false) (codes "for 1 in b; do a; done" ∷ codes "for \"x-y\" in b; do; a; done" ∷ codes "for .b_1 in b; do a; done" ∷ [])
+    ≡ misnamed (codes "1") ∷ misnamed (codes "x-y") ∷ misnamed (codes ".b_1") ∷ []
+unfolding old_tree_of
+misnames = refl
 
 -- A loop with an empty condition never runs its body, and its status is 0, as that of a `for` without words is. Nor does a `for` without
 -- a name
@@ -157,7 +183,7 @@ nothing_of texts = map (λ text. None) texts
 -- quotes, braces and signs
 abbrev broken_words : List Text
 broken_words =
-    codes "'a" ∷ codes "${a" ∷ codes "${a:-b}" ∷ codes "${$?}" ∷ codes "${a\\b}" ∷ (36 ∷ 123 ∷ 4 ∷ 125 ∷ []) ∷ codes "a & b" ∷ codes "a | b" ∷ codes "a &| b" ∷ codes "a &" ∷ codes "'a\\' b"
+    codes "'a" ∷ codes "${a" ∷ codes "${a:=b}" ∷ codes "${:=" ∷ codes "${$?}" ∷ codes "${a\\b}" ∷ (36 ∷ 123 ∷ 4 ∷ 125 ∷ []) ∷ codes "a & b" ∷ codes "a | b" ∷ codes "a &| b" ∷ codes "a &" ∷ codes "'a\\' b"
     ∷ codes "\"it's\"" ∷ (97 ∷ 3 ∷ []) ∷ (97 ∷ 4 ∷ []) ∷ (97 ∷ 128 ∷ []) ∷ (39 ∷ 200 ∷ 39 ∷ []) ∷ (92 ∷ 200 ∷ []) ∷ []
 
 broken_words_refused : map (old_tree_of false) broken_words ≡ nothing_of broken_words
@@ -177,8 +203,8 @@ broken_commands_refused = refl
 -- compound commands
 abbrev broken_compounds : List Text
 broken_compounds =
-    codes "if a; then b" ∷ codes "if a; then b; fi c" ∷ codes "if a; then b; fi fi" ∷ codes "if; then b; fi" ∷ codes "if a; then elif b; then c; fi" ∷ codes "if a; else b; fi"
-    ∷ codes "if a; then b; else c; elif d; then e; fi" ∷ codes "while a; then b; done" ∷ codes "for x in a; do b; fi" ∷ codes "for fi in a; do b; done" ∷ codes "for 1 in a; do b; done"
+    codes "if a; then b" ∷ codes "if a; then b; fi c" ∷ codes "if a; then b; fi fi" ∷ codes "if; then b; else c; fi" ∷ codes "if; then b; elif c; then d; fi" ∷ codes "if; then; fi" ∷ codes "if a; then b; elif; then c; fi" ∷ codes "if a; then elif b; then c; fi" ∷ codes "if a; else b; fi"
+    ∷ codes "if a; then b; else c; elif d; then e; fi" ∷ codes "while a; then b; done" ∷ codes "for x in a; do b; fi" ∷ codes "for fi in a; do b; done" ∷ codes "for a=1 in a; do b; done" ∷ codes "for \\1 in a; do b; done" ∷ codes "for '' in a; do b; done"
     ∷ codes "for $x in a; do b; done" ∷ codes "for HUSH_VERSION in a; do b; done" ∷ codes "for; in a; do b; done" ∷ codes "for x on a" ∷ codes "for x do b; done" ∷ codes "for x in fi; do b; done"
     ∷ codes "for x in a; in b; do c; done" ∷ codes "for x in a; if b; do c; done" ∷ codes "for" ∷ []
 
@@ -192,12 +218,12 @@ faulty =
     codes "if a; then b" ∷ codes "if a" ∷ codes "if a; then b; else c # fi" ∷ codes "if a; then if b; then c; fi; d" ∷ codes "while a; do" ∷ codes "for x in a b" ∷ codes "for x in a; do b; done; until c\nd" ∷ codes "if a && " ∷ codes "for" ∷ codes "for x" ∷ codes "for x a" ∷ codes "for x in a; b" ∷ codes "for && x"
     ∷ codes "fi" ∷ codes "a; \"done\" b; c" ∷ codes "a\nthen\tb" ∷ codes "if a; fi" ∷ codes "if a; then b; else c; elif d; then e; fi" ∷ codes "while a; then b; done" ∷ codes "for x in a; do b; fi" ∷ codes "if a; then b; fi fi" ∷ codes "if a; then b; fi c # d"
     ∷ codes "for fi in a; do b; done" ∷ codes "for x in if a; do b; done" ∷ codes "for x do a; done" ∷ codes "for x in a; in b; do c; done" ∷ codes "for x in a; b; if c; do d; done"
-    ∷ codes "'a" ∷ codes "if 'a" ∷ codes "a; 'b\\" ∷ codes "\"it's\"" ∷ codes "${a" ∷ codes "if a; then \"${" ∷ codes "a & 'b' ${c:-d}" ∷ codes "a &" ∷ codes "| b" ∷ codes "if a |& b; then" ∷ []
+    ∷ codes "'a" ∷ codes "if 'a" ∷ codes "a; 'b\\" ∷ codes "\"it's\"" ∷ codes "${a" ∷ codes "if a; then \"${" ∷ codes "a & 'b' ${c:-d}" ∷ codes "a &" ∷ codes "| b" ∷ codes "if a |& b; then" ∷ codes "if ${a:-b}; then" ∷ codes "if; then b fi" ∷ []
 
 -- texts without one, and those of which it is not known
 abbrev faultless : List Text
 faultless =
-    codes "" ∷ codes "a; b" ∷ codes "if a; then b; fi" ∷ codes "\"a" ∷ codes "fi; 'a" ∷ codes "${$? '" ∷ codes "if a; b; fi; if c" ∷ codes "fi; a" ∷ codes "fi&&a" ∷ codes "fi||a" ∷ codes "x=$a fi" ∷ codes "if a; then b; fi c;" ∷ codes "for x in do a; done" ∷ codes "for in a; do b; done" ∷ codes "for; in a" ∷ codes "for x in fi; do" ∷ codes "if ${a:-b}; then" ∷ codes "if; then b fi" ∷ codes "if a; then elif b; then c; fi" ∷ codes "while; do b; done" ∷ codes "\\fi" ∷ codes "a fi" ∷ []
+    codes "" ∷ codes "a; b" ∷ codes "if a; then b; fi" ∷ codes "\"a" ∷ codes "fi; 'a" ∷ codes "${$? '" ∷ codes "if a; b; fi; if c" ∷ codes "fi; a" ∷ codes "fi&&a" ∷ codes "fi||a" ∷ codes "x=$a fi" ∷ codes "if a; then b; fi c;" ∷ codes "for x in do a; done" ∷ codes "for in a; do b; done" ∷ codes "for; in a" ∷ codes "for x in fi; do" ∷ codes "if ${a:=b}; then" ∷ codes "if; then b; else c" ∷ codes "if; then fi" ∷ codes "if a; then elif b; then c; fi" ∷ codes "while; do b; done" ∷ codes "\\fi" ∷ codes "a fi" ∷ []
 
 faults : map (has_fault false) (faulty ++ faultless) ≡ map (λ text. true) faulty ++ map (λ text. false) faultless
 unfolding has_fault

@@ -1,3 +1,4 @@
+pub mod Defaults
 pub mod OldFields
 pub mod OldFieldsShown
 pub mod OldTokens

@@ -11,16 +11,18 @@ use Rattle.hushlang.specs.Expansion.{Parameters, joined, fields}
 use Rattle.hushlang.specs.KnownFields.{is_constant_word, are_constant}
 use Rattle.hushlang_parts.specs.Pieces.{is_mark}
 use Rattle.hushlang_parts.specs.ReadBytes.{has_bytes, is_newline, is_space_or_tab, unescaped}
+use Rattle.hushlang_old.specs.Defaults.{looked_up}
 
 -- ---- the values in a word (`insert_var_value`)
 
 abbrev pub newline_to_space : ℕ → ℕ
 newline_to_space byte = if byte == ascii.newline then ascii.space else byte
 
--- all bytes of a word; if it has a variable, each newline in it is a space then
+-- all bytes of a word; if it has a variable, each newline in it is a space then (`insert_var_value`)
 unfoldable pub inserted : Parameters → Word → List ℕ
 inserted parameters word =
-    if is_constant_word word then joined parameters word else map newline_to_space (joined parameters word)
+    if is_constant_word word then joined (looked_up parameters) word
+    else map newline_to_space (joined (looked_up parameters) word)
 
 -- ---- the text of a command (`make_string`)
 

@@ -1,6 +1,6 @@
 -- The tokens of a text as U-Boot's old shell reads it (common/cli_hush.c, `parse_stream`), byte by byte. A text that has a
 -- construct that is not followed here has none: bytes 3 and 4 and those above 127, which that shell uses itself or takes for
--- signed numbers; a backslash, a `:` or a first `$` in braces; and single quotes that end behind a backslash.
+-- signed numbers; a backslash, a first `$` or `:=` in braces; and single quotes that end behind a backslash.
 use Rattle.std.specs.Prelude.{ℕ, ◌+◌, ◌==◌, Bool, true, false, not, ◌&&◌, ◌||◌, List, [], ◌∷◌, ◌++◌, length, nat_le, if◌then◌else◌, Option, Some, None}
 use Rattle.std.specs.List.{prefix_len}
 use Rattle.text.specs.Bytes as ascii
@@ -12,6 +12,7 @@ use Rattle.hushlang.specs.declared.tree.Op.TheVariants.{And, Or}
 use Rattle.hushlang_parts.specs.Gathered as gathered
 use Rattle.hushlang_parts.specs.Gathered.{Gathered}
 use Rattle.hushlang_parts.specs.ReadBytes.{has_bytes, is_newline, is_space_or_tab, sign_of}
+use Rattle.hushlang_old.specs.Defaults.{sets_variable}
 
 -- a word: its pieces, none of which is quotes; whether it has quotes; whether it has a backslash, which keeps it from being
 -- reserved; and whether a blank or a newline is behind it, and no `;` or operator
@@ -161,12 +162,15 @@ read_name name byte r =
 -- a byte in braces that may change what they say (`lookup_param`, `get_local_var`); of a backslash only the byte behind it is left
 abbrev pub acts_in_brace : (is_first : Bool) → ℕ → Bool
 acts_in_brace is_first byte =
-    is_foreign byte || byte == ascii.backslash || byte == ascii.colon || byte == ascii.dollar && is_first
+    is_foreign byte || byte == ascii.backslash || byte == ascii.dollar && is_first
 
--- other bytes are in the name, which may be empty
+abbrev pub brace_ended : (name : List ℕ) → Reading → Reading
+brace_ended name r = if sets_variable name then at_place Refused r else at_place Open (variable name r)
+
+-- other bytes are in the name, which may be empty, or behind it (hushlang_old/specs/Defaults.antt)
 abbrev pub read_brace : (name : List ℕ) → ℕ → Reading → Reading
 read_brace name byte r =
-    if byte == ascii.close_brace then at_place Open (variable name r)
+    if byte == ascii.close_brace then brace_ended name r
     else at_place (if acts_in_brace (not (has_bytes name)) byte then Refused else Brace (name ++ byte ∷ [])) r
 
 abbrev pub read_comment : ℕ → Reading → Reading

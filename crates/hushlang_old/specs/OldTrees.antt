@@ -1,10 +1,11 @@
 -- The tree of a text as U-Boot's old shell reads it (common/cli_hush.c, `reserved_word`, `done_command`, `done_pipe`), token by
 -- token. A block without a command has one without words: it does nothing and keeps the status. A text that has a
--- construct that is not followed here has no tree: a fault; the condition of an `if` without a command; a word straight behind a
--- compound command; `then` straight before `elif`; an assignment before a command
--- where either has a variable; a `for` with a word for its name that is none; and the names `HUSH_VERSION` and `HUSH_NO_EVAL`, by which the shell changes. 2023.01 and 2025.01
--- read the same; but what `exit` does in 2025.01 depends on where it stands, and that is in its tree.
-use Rattle.std.specs.Prelude.{ℕ, ◌==◌, Bool, true, false, not, ◌&&◌, ◌||◌, List, [], ◌∷◌, ◌++◌, map, take, drop, if◌then◌else◌, Option, Some, None, is_some, unwrap_or, codes, bytes_eq}
+-- construct that is not followed here has no tree: a fault; an `elif` whose condition has no command; an `if` whose first condition
+-- has none, with `elif` or `else`, or with no command in its block; a word straight behind a compound command; `then` straight before
+-- `elif`; an assignment before a command where either has a variable; a `for` with a word for its name in which there is more than
+-- letters, digits, `_`, `-` and `.`; and the names `HUSH_VERSION` and `HUSH_NO_EVAL`, by which the shell changes. 2023.01 and
+-- 2025.01 read the same; but what `exit` does in 2025.01 depends on where it stands, and that is in its tree.
+use Rattle.std.specs.Prelude.{ℕ, ◌==◌, Bool, true, false, not, ◌&&◌, ◌||◌, List, [], ◌∷◌, ◌++◌, map, take, drop, if◌then◌else◌, Option, Some, None, is_some, unwrap_or, option_map, codes, bytes_eq}
 use Rattle.std.specs.List.{list_all, prefix_len}
 use Rattle.text.specs.Bytes as ascii
 use Rattle.hushlang.specs.Tree as tree
@@ -17,6 +18,8 @@ use Rattle.commands.specs.UBootExit.{ends_text}
 use Rattle.hushlang_parts.specs.Nests as nests
 use Rattle.hushlang_parts.specs.Nests.{Nest, word_of_if, word_of_loop, reserved_bytes, reserved_among, is_in, is_do}
 use Rattle.hushlang_parts.specs.Pieces.{only_bytes}
+use Rattle.hushlang_parts.specs.ReadBytes.{has_bytes}
+use Rattle.hushlang_old.specs.Defaults.{behind_variable}
 use Rattle.hushlang_old.specs.OldTokens.{FoundWord, Token, Word, Ends, Joins, Breaks, is_letter, is_name_byte, read, read_open, old_tokens}
 use Rattle.hushlang_parts.specs.declared.part.Part.{Part}
 use Rattle.hushlang_parts.specs.declared.part.Part.TheVariants as p
@@ -55,6 +58,20 @@ name_among (Some bytes) = if is_name bytes && not (is_some (reserved_bytes bytes
 abbrev pub name_in : FoundWord → Option (List ℕ)
 name_in w = name_among (only_bytes w.pieces)
 
+-- a word for the name of a `for` that is none
+abbrev pub is_misname_byte : ℕ → Bool
+is_misname_byte byte = is_name_byte byte || byte == ascii.minus || byte == ascii.dot
+
+abbrev pub is_misname : List ℕ → Bool
+is_misname bytes = has_bytes bytes && list_all is_misname_byte bytes && not (is_name bytes)
+
+abbrev pub misname_among : Option (List ℕ) → Option (List ℕ)
+misname_among None = None
+misname_among (Some bytes) = if is_misname bytes then Some bytes else None
+
+abbrev pub misname_in : FoundWord → Option (List ℕ)
+misname_in w = if w.escaped then None else misname_among (only_bytes w.pieces)
+
 -- behind the bytes of a name
 abbrev pub behind_name : (name : List ℕ) → (rest : List ℕ) → List Piece → Option (List ℕ × tree.Word)
 behind_name name [] pieces = None
@@ -83,8 +100,8 @@ changes_shell w = is_name_of_shell (value_of w).0
 
 -- whether the text is read for 2025.01; the block on the way and the compound commands that are open; whether that block has had a
 -- separator; the words on the way, whether all of them are assignments, and whether assignments are before them; whether a
--- compound command has just ended; and of a `for` before its body, whether it has no name, and whether it is told as a fault
--- when it is run
+-- compound command has just ended; and of a `for` before its body, whether it has no name, whether it is told as a fault when it is
+-- run, and the word for its name if that is none
 pub record Building : Type 0 where
   pub newer : Bool
   pub nest : Nest
@@ -95,6 +112,7 @@ pub record Building : Type 0 where
   pub closed : Bool
   pub nameless : Bool
   pub spoilt : Bool
+  pub misname : List ℕ
 
 abbrev pub nothing_built : (newer : Bool) → Building
 nothing_built newer = record {
@@ -107,6 +125,7 @@ nothing_built newer = record {
   closed = false;
   nameless = false;
   spoilt = false;
+  misname = [];
 }
 
 abbrev pub is_open : Building → Bool
@@ -163,10 +182,11 @@ joined_by op b = record (command_ended b) { nest = nests.operator_read op (comma
 abbrev pub opened : Reserved → Building → Option Building
 opened word b = if nests.is_full b.nest then None else Some (record b { nest = nests.begun word b.nest; separated = false })
 
--- where a block without a command is refused: the condition of an `if`; and behind `then`, if `elif` is straight after that, which would go
--- by an older condition
+-- where a block without a command is refused: a condition; the block of an `if` whose condition has none; and behind `then`, if
+-- `elif` is straight after that, which would go by an older condition
 abbrev pub needs_command : Part → Reserved → (separated : Bool) → Bool
-needs_command p.Condition r.Then separated = true
+needs_command (p.Condition further) r.Then separated = true
+needs_command (p.Group braces) r.Fi separated = true
 needs_command (p.Arm further) r.Elif separated = not separated
 needs_command part word separated = false
 
@@ -175,12 +195,12 @@ gone_to (nests.Entered nest) b = Some (record b { nest = nest; separated = false
 gone_to (nests.Closed nest) b = Some (record b { nest = nest; closed = true })
 gone_to nests.Astray b = None
 
--- a reserved word that goes on with the innermost compound command, or ends it
 -- `do` of a `while` or `until`
 abbrev pub is_do_of : Part → Reserved → Bool
 is_do_of p.Test r.Do = true
 is_do_of part word = false
 
+-- a reserved word that goes on with the innermost compound command, or ends it
 abbrev pub goes_on : Reserved → Building → Option Building
 goes_on word b =
     if needs_command (part_in b) word b.separated && nests.lacks_command b.nest.block then None
@@ -193,8 +213,18 @@ is_idle word b = is_do_of (part_in b) word && nests.lacks_command b.nest.block
 abbrev pub with_idle : Reserved → Building → Building
 with_idle word b = if is_idle word b then record b { nest = nests.idle b.nest } else b
 
+-- the first condition of an `if` holds if it has no command (`run_list_real`, its `if_code`)
+abbrev pub is_first_then : Part → Reserved → Bool
+is_first_then (p.Condition false) r.Then = true
+is_first_then part word = false
+
+abbrev pub is_given : Reserved → Building → Bool
+is_given word b = is_first_then (part_in b) word && nests.lacks_command b.nest.block
+
 abbrev pub part_read : Reserved → Building → Option Building
-part_read word b = goes_on word (with_idle word b)
+part_read word b =
+    if is_given word b then Some (record b { nest = nests.given b.nest; separated = false })
+    else goes_on word (with_idle word b)
 
 abbrev pub reserved_read : Reserved → Building → Option Building
 reserved_read word b = if nests.begins word then opened word b else part_read word b
@@ -243,10 +273,19 @@ abbrev pub nest_at_do : Building → Nest
 nest_at_do b = if b.spoilt then nests.unmet b.nest else (if b.nameless then nests.idle b.nest else b.nest)
 
 abbrev pub header_read : Building → Building
-header_read b = record b { nest = nest_at_do b; nameless = false; spoilt = false }
+header_read b = record b { nest = nest_at_do b; nameless = false; spoilt = false; misname = [] }
+
+-- each turn of a `for` whose name is none begins with a command `WORD=VALUE`, which no board has (`run_pipe_real`)
+abbrev pub no_assignment : (misname : List ℕ) → Command
+no_assignment misname = tree.Simple ((tree.Bytes (misname ++ ascii.equals ∷ []) ∷ []) ∷ [])
+
+abbrev pub with_misname : (misname : List ℕ) → Building → Building
+with_misname misname b =
+    if has_bytes misname
+    then record b { nest = nests.list_closed (nests.command_added (no_assignment misname) b.nest) } else b
 
 abbrev pub body_begun : Building → Option Building
-body_begun b = goes_on r.Do (header_read b)
+body_begun b = option_map (with_misname b.misname) (goes_on r.Do (header_read b))
 
 abbrev pub spoil : Building → Building
 spoil b = record b { spoilt = true }
@@ -275,16 +314,20 @@ word_at_in None b = Some (spoil b)
 word_at_in (Some r.In) b = goes_on r.In b
 word_at_in (Some word) b = None
 
-abbrev pub named : Option (List ℕ) → Building → Option Building
-named None b = None
-named (Some name) b = Some (record b { nest = nests.named name b.nest })
+abbrev pub misnamed : Option (List ℕ) → Building → Option Building
+misnamed None b = None
+misnamed (Some misname) b = Some (record b { nest = nests.named misname b.nest; misname = misname })
+
+abbrev pub named : Option (List ℕ) → (misname : Option (List ℕ)) → Building → Option Building
+named None misname b = misnamed misname b
+named (Some name) misname b = Some (record b { nest = nests.named name b.nest })
 
 -- `in` straight behind `for`
 abbrev pub without_name : Building → Option Building
 without_name b = if b.spoilt then None else goes_on r.In (record b { nest = nests.named [] b.nest; nameless = true })
 
 abbrev pub word_at : Part → FoundWord → Building → Option Building
-word_at p.Name w b = if is_in (reserved_in w) then without_name b else named (name_in w) b
+word_at p.Name w b = if is_in (reserved_in w) then without_name b else named (name_in w) (misname_in w) b
 word_at p.In w b = word_at_in (reserved_in w) b
 word_at p.Words w b = word_of_for w b
 word_at p.Do w b = word_behind w b
@@ -339,7 +382,7 @@ tree_of_tokens newer tokens = tree_behind (read_tokens tokens (nothing_built new
 
 -- the tree of a text in 2023.01, or in 2025.01
 unfoldable pub old_tree_of : (newer : Bool) → (text : List ℕ) → Option Script
-unfolding old_tokens read read_open word_of_if word_of_loop reserved_bytes assignment read_token
+unfolding behind_variable old_tokens read read_open word_of_if word_of_loop reserved_bytes assignment read_token
 old_tree_of newer text = elim (old_tokens text) [ None ↦ None | Some tokens ↦ tree_of_tokens newer tokens ]
 
 -- whether the text ends in a compound command that is open
@@ -350,18 +393,21 @@ abbrev pub are_open : (newer : Bool) → List Token → Bool
 are_open newer tokens = is_open_behind (read_tokens tokens (nothing_built newer))
 
 unfoldable pub lacks_end : (newer : Bool) → (text : List ℕ) → Bool
-unfolding old_tokens read read_open word_of_if word_of_loop reserved_bytes assignment read_token
+unfolding behind_variable old_tokens read read_open word_of_if word_of_loop reserved_bytes assignment read_token
 lacks_end newer text = elim (old_tokens text) [ None ↦ false | Some tokens ↦ are_open newer tokens ]
 
 -- ---- faults
 
 -- whether a reserved word may not be in this part of a compound command (`reserved_word`, its `syntax`)
 abbrev pub strays : Part → Reserved → Bool
-strays p.Condition r.Then = false
+strays (p.Condition further) r.Then = false
 strays (p.Arm further) r.Elif = false
 strays (p.Arm further) r.Else = false
 strays (p.Arm further) r.Fi = false
 strays p.Else r.Fi = false
+strays (p.Group braces) r.Elif = false
+strays (p.Group braces) r.Else = false
+strays (p.Group braces) r.Fi = false
 strays p.Test r.Do = false
 strays p.Body r.Done = false
 strays p.Each r.Done = false
@@ -408,5 +454,5 @@ tokens_have_fault newer tokens = have_fault tokens (nothing_built newer)
 
 -- whether a text that `run` starts has a fault: nothing of it is run
 unfoldable pub has_fault : (newer : Bool) → (text : List ℕ) → Bool
-unfolding old_tokens read read_open word_of_if word_of_loop reserved_bytes assignment read_token
+unfolding behind_variable old_tokens read read_open word_of_if word_of_loop reserved_bytes assignment read_token
 has_fault newer text = elim (old_tokens text) [ None ↦ false | Some tokens ↦ tokens_have_fault newer tokens ]

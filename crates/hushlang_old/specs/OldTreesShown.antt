@@ -30,6 +30,7 @@ building b = record {
   closed = b.closed;
   nameless = b.nameless;
   spoilt = b.spoilt;
+  misname = b.misname.items;
 }
 
 abbrev pub without_words : says.Building → says.Building

@@ -7,7 +7,8 @@ ghost use Rattle.hushlang_old.specs.OldTrees as says;
 ghost use Rattle.hushlang_old.specs.OldTreesShown as shown;
 
 use crate::found_words::{
-    changes_shell, is_assignment, is_constant_word, name_in, reserved_in, values_of, words_of,
+    changes_shell, is_assignment, is_constant_word, misname_in, name_in, no_assignment,
+    reserved_in, values_of, words_of,
 };
 use crate::old_tokens::{FoundWord, Token};
 use crate::plain_exit::simple_call;
@@ -19,7 +20,8 @@ use std::mem;
 /// Whether the text is read for 2025.01; the block on the way and the compound commands that are open;
 /// whether that block has had a separator; the words on the way, whether all of them are assignments,
 /// and whether assignments are before them; whether a compound command has just ended; and of a `for` in
-/// front of its body, whether it has no name, and whether it is told as a fault when it is run.
+/// front of its body, whether it has no name, whether it is told as a fault when it is run, and the
+/// word for its name if that is none.
 #[derive(Drop)]
 pub(crate) struct Building {
     alloc: Global,
@@ -32,6 +34,7 @@ pub(crate) struct Building {
     closed: bool,
     nameless: bool,
     spoilt: bool,
+    misname: Vec<u8>,
 }
 
 impl Building {
@@ -50,6 +53,7 @@ impl Building {
             closed: false,
             nameless: false,
             spoilt: false,
+            misname: Vec::new(alloc),
         }
     }
 
@@ -126,11 +130,23 @@ impl Building {
         Ok(())
     }
 
+    /// Whether this word begins the block of an `if` whose condition holds without a command.
+    fn is_given(&self, word: Reserved) -> bool
+        ensures { result ≡ says.is_given word (shown.building self.now) }
+    {
+        is_first_then(self.nest.part(), word) && self.nest.lacks_command()
+    }
+
     /// A reserved word behind a block.
     fn read_part(&mut self, word: Reserved) -> Result<bool, AllocError>
         ensures { IfOk result (λ followed. says.part_read word (shown.building self.old)
             ≡ shown.when followed (shown.building self.new)) }
     {
+        if self.is_given(word) {
+            self.nest.begin_given()?;
+            self.separated = false;
+            return Ok(true);
+        }
         self.make_idle(word)?;
         self.go_on(word)
     }
@@ -222,6 +238,7 @@ impl Building {
     {
         let spoilt = mem::replace(&mut self.spoilt, false);
         let nameless = mem::replace(&mut self.nameless, false);
+        self.misname = Vec::new(self.alloc);
         if spoilt {
             return self.nest.make_unmet();
         }
@@ -231,13 +248,30 @@ impl Building {
         Ok(())
     }
 
+    /// The word for the name of a `for` that is none begins each turn, as a command.
+    fn begin_turn(&mut self, misname: Vec<u8>) -> Result<(), AllocError>
+        ensures { OnOk result (shown.building self.new
+            ≡ says.with_misname misname.items (shown.building self.old)) }
+    {
+        if misname.is_empty() {
+            return Ok(());
+        }
+        self.nest.push(no_assignment(self.alloc, misname)?)?;
+        self.nest.end_list()
+    }
+
     /// The body of a `for` begins.
     fn begin_body(&mut self) -> Result<bool, AllocError>
         ensures { IfOk result (λ followed. says.body_begun (shown.building self.old)
             ≡ shown.when followed (shown.building self.new)) }
     {
+        let misname = mem::replace(&mut self.misname, Vec::new(self.alloc));
         self.end_header()?;
-        self.go_on(Reserved::Do)
+        if !self.go_on(Reserved::Do)? {
+            return Ok(false);
+        }
+        self.begin_turn(misname)?;
+        Ok(true)
     }
 
     /// A word of a `for`. If `do` is the first one, there is no list of words.
@@ -303,13 +337,27 @@ impl Building {
         self.go_on(Reserved::In)
     }
 
+    /// The word behind `for`, which is no name.
+    fn read_misname(&mut self, word: FoundWord) -> Result<bool, AllocError>
+        ensures { IfOk result (λ followed. says.misnamed (says.misname_in (tokens.word word))
+            (shown.building self.old) ≡ shown.when followed (shown.building self.new)) }
+    {
+        let Some(misname) = misname_in(&word) else {
+            return Ok(false);
+        };
+        self.misname = misname.to_vec(self.alloc)?;
+        self.nest.set_name(misname.to_vec(self.alloc)?)?;
+        Ok(true)
+    }
+
     /// The word behind `for`: its name.
     fn read_name(&mut self, word: FoundWord) -> Result<bool, AllocError>
         ensures { IfOk result (λ followed. says.named (says.name_in (tokens.word word))
-            (shown.building self.old) ≡ shown.when followed (shown.building self.new)) }
+            (says.misname_in (tokens.word word)) (shown.building self.old)
+            ≡ shown.when followed (shown.building self.new)) }
     {
         let Some(name) = name_in(&word) else {
-            return Ok(false);
+            return self.read_misname(word);
         };
         self.nest.set_name(name.to_vec(self.alloc)?)?;
         Ok(true)
@@ -451,8 +499,19 @@ fn needs_command(part: Part, word: Reserved, separated: bool) -> bool
     ensures { result ≡ says.needs_command part word separated }
 {
     match (part, word) {
-        (Part::Condition, Reserved::Then) => true,
+        (Part::Condition(_), Reserved::Then) => true,
+        (Part::Group(_), Reserved::Fi) => true,
         (Part::Arm(_), Reserved::Elif) => !separated,
+        _ => false,
+    }
+}
+
+/// Whether a word is `then` behind the first condition of an `if`.
+fn is_first_then(part: Part, word: Reserved) -> bool
+    ensures { result ≡ says.is_first_then part word }
+{
+    match (part, word) {
+        (Part::Condition(false), Reserved::Then) => true,
         _ => false,
     }
 }
@@ -486,8 +545,8 @@ fn strays(part: Part, word: Reserved) -> bool
     ensures { result ≡ says.strays part word }
 {
     match (part, word) {
-        (Part::Condition, Reserved::Then) => false,
-        (Part::Arm(_), Reserved::Elif | Reserved::Else | Reserved::Fi) => false,
+        (Part::Condition(_), Reserved::Then) => false,
+        (Part::Arm(_) | Part::Group(_), Reserved::Elif | Reserved::Else | Reserved::Fi) => false,
         (Part::Else, Reserved::Fi) => false,
         (Part::Test, Reserved::Do) => false,
         (Part::Body | Part::Each, Reserved::Done) => false,

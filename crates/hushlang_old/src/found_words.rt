@@ -9,8 +9,10 @@ ghost use Rattle.hushlang_old.specs.OldTrees as says;
 ghost use Rattle.hushlang_old.specs.OldTreesShown.{IsCutAtEquals};
 
 use crate::old_tokens::{FoundWord, is_letter, is_name_byte};
-use hushlang::{Piece, Word};
-use hushlang_parts::{Reserved, are_constant_pieces, only_bytes, reserved_bytes, without_first};
+use hushlang::{Command, Piece, Word};
+use hushlang_parts::{
+    Reserved, are_constant_pieces, call_of, only_bytes, reserved_bytes, without_first,
+};
 use std::alloc::{AllocError, Global};
 
 /// Whether no variable and no status can change a word.
@@ -73,6 +75,52 @@ pub(crate) fn name_in(word: &FoundWord) -> Option<&[u8]>
         }
         _ => None,
     }
+}
+
+fn is_misname_byte(byte: u8) -> bool
+    ensures { result ≡ says.is_misname_byte byte }
+{
+    is_name_byte(byte) || byte == b'-' || byte == b'.'
+}
+
+fn are_misname_bytes(bytes: &[u8]) -> bool
+    ensures { result ≡ list_all says.is_misname_byte bytes.now }
+{
+    bytes.iter().all(|byte| is_misname_byte(*byte))
+}
+
+/// Whether a word for the name of a `for` is none.
+fn is_misname(bytes: &[u8]) -> bool
+    ensures { result ≡ says.is_misname bytes.now }
+{
+    !bytes.is_empty() && are_misname_bytes(bytes) && !is_name(bytes)
+}
+
+/// A word for the name of a `for` that is none.
+pub(crate) fn misname_in(word: &FoundWord) -> Option<&[u8]>
+    ensures { option_bytes result ≡ says.misname_in (shown.word word.now) }
+{
+    if word.escaped {
+        return None;
+    }
+    match only_bytes(&word.pieces) {
+        Some(bytes) if is_misname(bytes) => Some(bytes),
+        _ => None,
+    }
+}
+
+/// The command that such a word and a `=` are.
+#[tactic(auto, using(hushlang::proofs::ViewLemmas::what_it_says))]
+pub(crate) fn no_assignment(alloc: Global, misname: Vec<u8>) -> Result<Command, AllocError>
+    ensures { IfOk result (λ command. view.command command ≡ says.no_assignment misname.items) }
+{
+    let mut bytes = misname;
+    bytes.push(b'=')?;
+    let mut pieces = Vec::new(alloc);
+    pieces.push(Piece::Bytes(bytes))?;
+    let mut words = Vec::new(alloc);
+    words.push(Word { pieces })?;
+    Ok(Command::Simple(call_of(alloc, words)?))
 }
 
 /// How many bytes at the start of some bytes may be in a name.

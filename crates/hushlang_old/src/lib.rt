@@ -3,6 +3,7 @@
 
 mod building;
 mod constant;
+mod defaults;
 mod found_words;
 mod old_tokens;
 mod old_trees;
@@ -11,6 +12,7 @@ mod plain_exit;
 mod rereading;
 mod word_bytes;
 
+pub use defaults::{behind_variable, variable_of};
 pub use old_trees::{has_fault, lacks_end, read_old};
 pub use old_words::{old_fields, old_turns};
 pub use word_bytes::inserted;

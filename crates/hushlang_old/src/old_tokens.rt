@@ -5,6 +5,7 @@ ghost use Rattle.hushlang.specs.ByteClasses as classes;
 ghost use Rattle.hushlang_old.specs.OldTokens as says;
 ghost use Rattle.hushlang_old.specs.OldTokensShown as shown;
 
+use crate::defaults::sets_variable;
 use hushlang::{Op, Piece};
 use hushlang_parts::{Gathered, is_between, sign_of};
 use std::alloc::{AllocError, Global};
@@ -97,7 +98,7 @@ pub(crate) fn is_name_byte(byte: u8) -> bool
 fn acts_in_brace(is_first: bool, byte: u8) -> bool
     ensures { result ≡ says.acts_in_brace is_first byte }
 {
-    is_foreign(byte) || byte == b'\\' || byte == b':' || (byte == b'$' && is_first)
+    is_foreign(byte) || byte == b'\\' || (byte == b'$' && is_first)
 }
 
 fn is_no_newline(byte: u8) -> bool
@@ -320,6 +321,19 @@ impl TextReading {
         self.read_open(byte)
     }
 
+    /// The braces of a variable end.
+    fn end_brace(&mut self) -> Result<(), AllocError>
+        ensures { OnOk result (shown.reading self.new
+            ≡ says.brace_ended self.old.name.items (shown.reading self.old)) }
+    {
+        if sets_variable(&self.name) {
+            self.place = Place::Refused;
+            return Ok(());
+        }
+        self.place = Place::Open;
+        self.push_variable()
+    }
+
     /// Reads the byte behind `${` and some bytes.
     fn read_brace(&mut self, byte: u8) -> Result<(), AllocError>
         requires { self.old.place ≡ shown.in_brace }
@@ -327,8 +341,7 @@ impl TextReading {
             ≡ says.read_brace self.old.name.items byte (shown.reading self.old)) }
     {
         if byte == b'}' {
-            self.place = Place::Open;
-            return self.push_variable();
+            return self.end_brace();
         }
         if acts_in_brace(self.name.is_empty(), byte) {
             self.place = Place::Refused;

@@ -3,29 +3,40 @@ ghost use Rattle.std.specs.Prelude.{◌≡◌, ◌++◌, ◌∷◌, map, IfOk, O
 ghost use Rattle.std.specs.List.{list_any};
 ghost use Rattle.hushlang.specs.Expansion as expansion;
 ghost use Rattle.hushlang.specs.TreesShown as view;
+ghost use Rattle.hushlang_old.specs.Defaults as defaults;
 ghost use Rattle.hushlang_old.specs.OldFields as says;
 ghost use Rattle.hushlang_parts.specs.ReadBytes.{is_newline};
 
 use crate::constant::is_constant_word;
+use crate::defaults::{behind_variable, variable_of, with_default};
 use hushlang::{Piece, Vars, Word};
 use hushlang_parts::have_quotes;
 use itoa::Buffer;
 use std::alloc::{AllocError, Global};
+
+/// Adds what a variable comes to, by what is in its braces, to the end of some bytes.
+fn append_value<V: Vars>(bytes: &mut Vec<u8>, inside: &[u8], vars: &V) -> Result<(), AllocError>
+    ensures { OnOk result (bytes.new.items ≡ bytes.old.items
+        ++ defaults.found_value (V.parameters vars.now) inside.now) }
+{
+    let value = match vars.get(variable_of(inside)) {
+        Some(value) => value,
+        None => b"".as_slice(),
+    };
+    bytes.extend_from_slice(with_default(value, behind_variable(inside)))
+}
 
 /// Adds all bytes of a piece to the end of some bytes.
 #[tactic(auto, using(hushlang::proofs::ExpandLemmas::uncut))]
 fn append_piece<V: Vars>(bytes: &mut Vec<u8>, piece: &Piece, vars: &V) -> Result<(), AllocError>
     ensures { OnOk result (bytes.new.items ≡ bytes.old.items
         ++ expansion.all_bytes
-        (expansion.atoms_of_piece (V.parameters vars.now) (view.piece piece.now))) }
+        (expansion.atoms_of_piece (defaults.looked_up (V.parameters vars.now)) (view.piece piece.now))) }
 {
     match piece {
         Piece::Bytes(more) => bytes.extend_from_slice(more),
         Piece::Mark => Ok(()),
-        Piece::Var { name, split: _ } => match vars.get(name) {
-            Some(value) => bytes.extend_from_slice(value),
-            None => Ok(()),
-        },
+        Piece::Var { name, split: _ } => append_value(bytes, name, vars),
         Piece::Status => bytes.extend_from_slice(Buffer::new().format(vars.status()).as_bytes()),
     }
 }
@@ -33,7 +44,7 @@ fn append_piece<V: Vars>(bytes: &mut Vec<u8>, piece: &Piece, vars: &V) -> Result
 /// All bytes of a word, uncut.
 pub(crate) fn joined<V: Vars>(alloc: Global, word: &Word, vars: &V) -> Result<Vec<u8>, AllocError>
     ensures { IfOk result (λ bytes.
-        bytes.items ≡ expansion.joined (V.parameters vars.now) (view.word word.now)) }
+        bytes.items ≡ expansion.joined (defaults.looked_up (V.parameters vars.now)) (view.word word.now)) }
 {
     let mut bytes = Vec::new(alloc);
     for piece in &word.pieces {

@@ -1,10 +1,10 @@
 -- The trees of nested commands hold a command in each block.
-use Rattle.std.proofs.Common.{ℕ, List, [], ◌∷◌, ◌++◌, Option, Some, None, false}
+use Rattle.std.proofs.Common.{ℕ, List, [], ◌∷◌, ◌++◌, Option, Some, None, true, false}
 use Rattle.hushlang.specs.Tree as tree
 use Rattle.hushlang.specs.Tree.{Script, AndOr, Command, IsProper, IsProperList, IsProperJoined, IsProperCommand, HasArm, AreProperArms, HoldsCommand}
 use Rattle.hushlang.specs.TreesShown.{runs, joins, arms}
 use Rattle.hushlang.specs.declared.tree.Op.{Op}
-use Rattle.hushlang_parts.specs.Nests.{Block, with_command, list_ended, body_of, Compound, Condition, Arm, Else, Test, Body, Name, In, Words, Do, Each, Next, Enters, Closes, Strays, next_part, name_read, words_read, idle, unmet, Nest, nothing_open, command_added, operator_read, list_closed, begun, Gone, Entered, Closed, Astray, gone_to, goes_among, goes_on, turned, named, worded, script_in}
+use Rattle.hushlang_parts.specs.Nests.{Block, with_command, list_ended, body_of, Compound, Condition, Arm, Else, Test, Body, Name, In, Words, Do, Each, Group, Next, Enters, Closes, Strays, next_part, name_read, words_read, idle, unmet, Nest, nothing_open, command_added, operator_read, list_closed, begun, Gone, Entered, Closed, Astray, gone_to, goes_among, goes_on, turned, named, worded, given, group_of, script_in}
 use Rattle.hushlang_parts.specs.declared.reserved.Reserved.{Reserved}
 use Rattle.hushlang_parts.specs.declared.reserved.Reserved.TheVariants as r
 
@@ -44,6 +44,7 @@ IsCompound (In name) = Unit {0}
 IsCompound (Words name) = Unit {0}
 IsCompound (Do name words) = Unit {0}
 IsCompound (Each name words) = Unit {0}
+IsCompound (Group braces) = Unit {0}
 
 abbrev AreOpen : List (Compound × Block) → Type 0
 AreOpen [] = Unit {0}
@@ -132,6 +133,9 @@ list_ended_block b h = with_ended b.first b h.1 h
 
 -- ---- compound commands
 
+group_is : (body : Script) → HoldsCommand body → IsProperCommand (group_of body)
+group_is body h = (h, ((tt, tt), tt), tt)
+
 next_is : (compound : Compound) (word : Reserved) (body : Script) → IsCompound compound → HoldsCommand body → IsNext (next_part compound word body)
 next_is (Condition all) r.Then body c h = (c, h)
 next_is (Arm all condition) r.Elif body c h = arms_more all condition body c.0 c.1 h
@@ -145,6 +149,8 @@ next_is (In name) r.In body c h = tt
 next_is (In name) r.Do body c h = tt
 next_is (Do name words) r.Do body c h = tt
 next_is (Each name words) r.Done body c h = h
+next_is (Group false) r.Fi body c h = group_is body h
+next_is (Group true) r.CloseBrace body c h = group_is body h
 next_is compound word body c h = tt
 
 gone_is : (next : Next) (outer : Block) (opens : List (Compound × Block)) → IsNext next → IsBlock outer → AreOpen opens → IsGone (gone_to next outer opens)
@@ -175,6 +181,7 @@ opened r.If n h = ((tt, tt, tt), ((tt, h.0), h.1))
 opened r.While n h = ((tt, tt, tt), ((tt, h.0), h.1))
 opened r.Until n h = ((tt, tt, tt), ((tt, h.0), h.1))
 opened r.For n h = ((tt, tt, tt), ((tt, h.0), h.1))
+opened r.OpenBrace n h = ((tt, tt, tt), ((tt, h.0), h.1))
 opened r.Then n h = h
 opened r.Elif n h = h
 opened r.Else n h = h
@@ -182,6 +189,7 @@ opened r.Fi n h = h
 opened r.Do n h = h
 opened r.Done n h = h
 opened r.In n h = h
+opened r.CloseBrace n h = h
 
 pub gone : (word : Reserved) (n : Nest) → IsNest n → IsGone (goes_on word n)
 gone word n h =
@@ -199,6 +207,7 @@ name_is name (In other) c = c
 name_is name (Words other) c = c
 name_is name (Do other words) c = c
 name_is name (Each other words) c = c
+name_is name (Group braces) c = c
 
 words_are : (words : List tree.Word) (compound : Compound) → IsCompound compound → IsCompound (words_read words compound)
 words_are words (Words name) c = tt
@@ -211,6 +220,7 @@ words_are words Name c = c
 words_are words (In name) c = c
 words_are words (Do name others) c = c
 words_are words (Each name others) c = c
+words_are words (Group braces) c = c
 
 turned_is : (turn : Compound → Compound) (opens : List (Compound × Block)) → ((compound : Compound) → IsCompound compound → IsCompound (turn compound)) → AreOpen opens → AreOpen (turned turn opens)
 turned_is turn [] by os = tt
@@ -224,6 +234,9 @@ worded_is words n h = (h.0, turned_is (words_read words) n.opens (words_are word
 
 pub idle_is : (n : Nest) → IsNest n → IsNest (idle n)
 idle_is n h = (h.0, turned_is (λ compound. In []) n.opens (λ compound c. tt) h.1)
+
+pub given_is : (n : Nest) → IsNest n → IsNest (given n)
+given_is n h = ((tt, tt, tt), turned_is (λ compound. Group false) n.opens (λ compound c. tt) h.1)
 
 pub unmet_is : (n : Nest) → IsNest n → IsNest (unmet n)
 unmet_is n h = ((tt, tt, tt), turned_is (λ compound. Test false) n.opens (λ compound c. tt) h.1)

@@ -99,10 +99,12 @@ pub data Compound : Type 0 where
   Words : (name : List ℕ) → Compound
   Do : (name : List ℕ) → (words : List tree.Word) → Compound
   Each : (name : List ℕ) → (words : List tree.Word) → Compound
+  -- a group: in braces, or else the block of an `if` whose condition holds without a command
+  Group : (braces : Bool) → Compound
 
--- the part of it that a text is in; of an arm, whether others are before it
+-- the part of it that a text is in; of a condition and of an arm, whether other arms are before it
 abbrev pub part_of : Compound → Part
-part_of (Condition arms) = p.Condition
+part_of (Condition arms) = p.Condition (not (length arms == 0))
 part_of (Arm arms condition) = p.Arm (not (length arms == 0))
 part_of (Else arms) = p.Else
 part_of (Test until) = p.Test
@@ -112,6 +114,7 @@ part_of (In name) = p.In
 part_of (Words name) = p.Words
 part_of (Do name words) = p.Do
 part_of (Each name words) = p.Each
+part_of (Group braces) = p.Group braces
 
 -- a `for` before its body
 abbrev pub is_header : Part → Bool
@@ -127,6 +130,7 @@ begun_by r.If = Some (Condition [])
 begun_by r.While = Some (Test false)
 begun_by r.Until = Some (Test true)
 begun_by r.For = Some Name
+begun_by r.OpenBrace = Some (Group true)
 begun_by word = None
 
 abbrev pub begins : Reserved → Bool
@@ -141,6 +145,10 @@ pub data Next : Type 0 where
   -- the word is none that may be here
   Strays : Next
 
+-- a group has the status of its last command: it is an `if` with the group as its condition, and a block without a command
+abbrev pub group_of : (body : Script) → Command
+group_of body = tree.If (all_arms ((body, body_of []) ∷ []) None)
+
 -- by what may follow each word (`reserved_word`). A `for` without `in` has no words
 abbrev pub next_part : Compound → Reserved → (body : Script) → Next
 next_part (Condition arms) r.Then body = Enters (Arm arms body)
@@ -154,6 +162,8 @@ next_part (In name) r.In body = Enters (Words name)
 next_part (In name) r.Do body = Enters (Each name [])
 next_part (Do name words) r.Do body = Enters (Each name words)
 next_part (Each name words) r.Done body = Closes (tree.For name words body)
+next_part (Group false) r.Fi body = Closes (group_of body)
+next_part (Group true) r.CloseBrace body = Closes (group_of body)
 next_part compound word body = Strays
 
 -- the name of a `for` has been read, and its words have
@@ -235,6 +245,10 @@ named name n = record n { opens = turned (name_read name) n.opens }
 
 abbrev pub worded : (words : List tree.Word) → Nest → Nest
 worded words n = record n { opens = turned (words_read words) n.opens }
+
+-- the block of an `if` whose condition holds without a command begins
+abbrev pub given : Nest → Nest
+given n = record { block = no_command; opens = turned (λ compound. Group false) n.opens }
 
 -- a loop whose body is never run, and whose status is 0: a `for` without words, before `do`
 abbrev pub idle : Nest → Nest

@@ -32,6 +32,7 @@ compound (code.In name) = says.In name.items
 compound (code.Words name) = says.Words name.items
 compound (code.Do name words) = says.Do name.items (view.words_in words)
 compound (code.Each name words) = says.Each name.items (view.words_in words)
+compound (code.Group braces) = says.Group braces
 
 abbrev pub next : Next → says.Next
 next (next_code.Enters c) = says.Enters (compound c)

@@ -46,6 +46,7 @@ fn begun_by(alloc: Global, word: Reserved) -> Option<Compound>
         Reserved::While => Some(Compound::Test(false)),
         Reserved::Until => Some(Compound::Test(true)),
         Reserved::For => Some(Compound::Name),
+        Reserved::OpenBrace => Some(Compound::Group(true)),
         _ => None,
     }
 }
@@ -230,6 +231,19 @@ impl Nest {
             return Ok(());
         };
         self.opens.push(worded(words, compound), outer)
+    }
+
+    /// The block of an `if` whose condition holds without a command begins: the innermost compound
+    /// command becomes a group. Errors: memory ran out.
+    #[tactic(auto, unfolding(crate::specs::NestsShown::nest))]
+    pub fn begin_given(&mut self) -> Result<(), AllocError>
+        ensures { OnOk result (shown.nest self.new ≡ says.given (shown.nest self.old)) }
+    {
+        self.block = Block::new(self.alloc);
+        let Some((_, outer)) = self.opens.pop() else {
+            return Ok(());
+        };
+        self.opens.push(Compound::Group(false), outer)
     }
 
     /// Makes the innermost compound command one whose body is never run, and whose status is 0: a `for`

@@ -4,7 +4,7 @@ ghost use Rattle.hushlang.specs.TreesShown as view;
 ghost use Rattle.hushlang_parts.specs.Nests as says;
 ghost use Rattle.hushlang_parts.specs.NestsShown as shown;
 
-use crate::open_commands::{Arms, Compound};
+use crate::open_commands::{Arms, Compound, empty_body};
 use crate::reserved::Reserved;
 use hushlang::{Command, Script};
 use std::alloc::{AllocError, Global};
@@ -29,6 +29,15 @@ fn with_arm(arms: Arms, condition: Rc<Script>, body: Rc<Script>) -> Result<Arms,
     let mut arms = arms;
     arms.push((condition, body))?;
     Ok(arms)
+}
+
+/// A group as a command: an `if` with the group as its condition, and a block without a command.
+#[tactic(auto, using(hushlang::proofs::ViewLemmas::what_it_says, crate::proofs::NestViewLemmas::ifs))]
+fn group_of(alloc: Global, body: Rc<Script>) -> Result<Command, AllocError>
+    ensures { IfOk result (λ command. view.command command ≡ says.group_of (view.script body.value)) }
+{
+    let arms = with_arm(Vec::new(alloc), body, empty_body(alloc)?)?;
+    Ok(Command::If { arms, other: None })
 }
 
 /// What a reserved word does with the innermost compound command, of which this block ends. Errors:
@@ -76,6 +85,9 @@ pub(crate) fn next_part(
         }
         (Compound::Each(name, words), Reserved::Done) => {
             Ok(Next::Closes(Command::For { name, words, body }))
+        }
+        (Compound::Group(false), Reserved::Fi) | (Compound::Group(true), Reserved::CloseBrace) => {
+            Ok(Next::Closes(group_of(alloc, body)?))
         }
         _ => Ok(Next::Strays),
     }

@@ -48,6 +48,8 @@ pub(crate) enum Compound {
     Do(Vec<u8>, Vec<Word>),
     /// `for`, in its body.
     Each(Vec<u8>, Vec<Word>),
+    /// A group, and whether it is in braces.
+    Group(bool),
 }
 
 /// The open compound commands, each with the block that it stands in, the innermost last.
@@ -124,7 +126,7 @@ impl Block {
 
 /// The script of a block without a command: one without words.
 #[tactic(auto, using(hushlang::proofs::ViewLemmas::what_it_says))]
-fn empty_body(alloc: Global) -> Result<Rc<Script>, AllocError>
+pub(crate) fn empty_body(alloc: Global) -> Result<Rc<Script>, AllocError>
     ensures { IfOk result (λ body. view.script body.value ≡ says.body_of []) }
 {
     let first = Command::Simple(call_of(alloc, Vec::new(alloc))?);
@@ -199,7 +201,7 @@ fn part_of(compound: &Compound) -> Part
     ensures { result ≡ says.part_of (shown.compound compound.now) }
 {
     match compound {
-        Compound::Condition(_) => Part::Condition,
+        Compound::Condition(arms) => Part::Condition(!arms.is_empty()),
         Compound::Arm(arms, _) => Part::Arm(!arms.is_empty()),
         Compound::Else(_) => Part::Else,
         Compound::Test(_) => Part::Test,
@@ -209,5 +211,6 @@ fn part_of(compound: &Compound) -> Part
         Compound::Words(_) => Part::Words,
         Compound::Do(_, _) => Part::Do,
         Compound::Each(_, _) => Part::Each,
+        Compound::Group(braces) => Part::Group(*braces),
     }
 }

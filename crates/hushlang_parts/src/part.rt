@@ -7,8 +7,8 @@ ghost use Rattle.hushlang_parts.specs.Nests as says;
 pub enum Part {
     /// None: no compound command is open.
     Outside,
-    /// `if`, in a condition.
-    Condition,
+    /// `if`, in a condition, and whether it has other arms before that.
+    Condition(bool),
     /// `if`, in the block behind a condition, and whether it has other arms before that.
     Arm(bool),
     /// `if`, in the `else` block.
@@ -27,6 +27,8 @@ pub enum Part {
     Do,
     /// `for`, in its body.
     Each,
+    /// A group: the block of an `if` whose condition holds without a command, or what is in braces.
+    Group(bool),
 }
 
 /// Whether a part is of a `for` before its body.

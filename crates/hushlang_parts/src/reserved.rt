@@ -27,6 +27,10 @@ pub enum Reserved {
     Done,
     /// `in`
     In,
+    /// `{`, of the modern shell
+    OpenBrace,
+    /// `}`, of the modern shell
+    CloseBrace,
 }
 
 /// The reserved word of an `if` that some bytes are.
@@ -114,7 +118,8 @@ pub fn begins(word: Reserved) -> bool
     ensures { result ≡ says.begins word }
 {
     match word {
-        Reserved::If | Reserved::While | Reserved::Until | Reserved::For => true,
+        Reserved::If | Reserved::While | Reserved::Until | Reserved::For | Reserved::OpenBrace =>
+            true,
         _ => false,
     }
 }

@@ -9,9 +9,9 @@ use Rattle.hushlang_shells.specs.TreesByShell.{TextRead, Runs, Fails, Panics, Un
 use Rattle.rehearse_terms.specs.declared.shell.Shell.TheVariants.{Profile, Old2023, Old2025, Modern2025}
 
 -- a text whose end is missing, and a name in braces with a byte that is in no name: these are faults of the modern shell that it tells.
--- By a reserved word that has no place, and by a word behind a closed compound command, it gives up; and `!` is not followed
+-- By a reserved word that has no place, and by a word behind a closed compound command, it gives up; and a single `|` is not followed
 abbrev faulty : List (List ℕ)
-faulty = codes "if true; then echo a" ∷ codes "echo \"a" ∷ codes "echo ${a.b}" ∷ codes "fi" ∷ codes "if true; then echo a; fi b" ∷ codes "! a" ∷ []
+faulty = codes "if true; then echo a" ∷ codes "echo \"a" ∷ codes "echo ${a.b}" ∷ codes "fi" ∷ codes "if true; then echo a; fi b" ∷ codes "a | b" ∷ []
 
 faults : map (started_in Modern2025) faulty ≡ Fails ∷ Fails ∷ Fails ∷ Panics ∷ Panics ∷ Unread ∷ []
 unfolding modern_text

@@ -8,6 +8,8 @@ use Rattle.hushlang.proofs.ExpandLemmas.{drop_next}
 use Rattle.hushlang_parts.specs.Pieces.{is_something}
 use Rattle.hushlang_parts.proofs.WordLemmas.{flat_next, flat_done, one_field, constant_first, any_of_map, whole_field}
 use Rattle.hushlang_old.proofs.constant.constant_fields.Goals.{then-has_something+in_ok-joined+in_ok-push, else-has_something}
+use Rattle.hushlang_old.specs.Defaults.{looked_up}
+use Rattle.hushlang_old.proofs.OldFieldLemmas.{constant_joined}
 use Rattle.hushlang_old.proofs.constant.constant_fields.Goals as goal
 
 pub loop-word-preserved : goal.loop-word-preserved
@@ -20,7 +22,7 @@ loop-word-preserved g c =
     let some : c.has_something.result ≡ list_any is_something word =
     c.has_something.ensures ∙ ap (list_any (λ piece. is_something (view.piece piece))) c.deref.ensures.value
     ∙ sym (any_of_map is_something view.piece c.word-item.result.pieces.items) in
-    let bytes = joined parameters word in
+    let bytes = joined (looked_up parameters) word in
     let added : map (λ field. field.items) c.if-has_something.fields.items ≡ before ++ whole_field (list_any is_something word) bytes = elim c.if-has_something.branch [
       | then-has_something+in_ok-joined+in_ok-push w ↦
           ap (λ fields. map (λ field. field.items) fields.items) w.fields-is
@@ -34,7 +36,7 @@ loop-word-preserved g c =
           ∙ ap (λ found. before ++ whole_field found bytes) (sym (sym some ∙ w.if-has_something.false))
     ] in
     record {
-      same = flat_next (fields_of_word parameters) _ _ _ word _ _ first c.loop-word.invariant.same (added ∙ ap (λ more. before ++ more) (sym (one_field parameters word parts.0)));
+      same = flat_next (fields_of_word parameters) _ _ _ word _ _ first c.loop-word.invariant.same (added ∙ ap (λ more. before ++ more) (ap (whole_field (list_any is_something word)) (constant_joined (looked_up parameters) parameters word parts.0) ∙ sym (one_field parameters word parts.0)));
       constant = parts.1;
     }
 
