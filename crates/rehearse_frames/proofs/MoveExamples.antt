@@ -5,6 +5,7 @@ use Rattle.hushlang.specs.Expansion.{fields, joined, atoms}
 use Rattle.hushlang.specs.Tree as tree
 use Rattle.hushlang.specs.Tree.{Script}
 use Rattle.hushlang.specs.Trees.{tree_of}
+use Rattle.hushlang_old.specs.Defaults.{behind_variable}
 use Rattle.device_list.specs.DeviceList.{Devices, only}
 use Rattle.device_list.specs.DeviceLaws.{quiet}
 use Rattle.rehearse_terms.specs.Outcomes.{OutcomeWord, Success, Failure}
@@ -33,7 +34,7 @@ script_of text = elim (tree_of text) [ None ↦ tree.Empty | Some t ↦ t ]
 
 -- the move that begins a text, above these frames
 unfoldable begins : Text → List Frame → State → List Access
-unfolding script_of fields joined atoms digits
+unfolding script_of fields joined atoms digits behind_variable
 begins text fs s = of_move limits (Lists (script_of text) ∷ fs) s
 
 abbrev a : Key
@@ -131,7 +132,7 @@ abbrev load : Request
 load = request_of (codes "load") (codes "a" ∷ []) quiet
 
 unfoldable to_come : Text → OutcomeWord → List Key
-unfolding script_of fields joined atoms digits
+unfolding script_of fields joined atoms digits behind_variable
 to_come text w = keys_read (of_next limits (codes "b" ∷ []) w (Ask load (Lists (script_of text) ∷ []) before))
 
 -- the status is written by the outcome

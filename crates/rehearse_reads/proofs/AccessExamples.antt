@@ -4,6 +4,7 @@ use Rattle.std.specs.Fmt.{digits}
 use Rattle.hushlang.specs.Expansion.{fields, joined, atoms}
 use Rattle.hushlang.specs.Trees.{tree_of}
 use Rattle.hushlang_old.specs.OldTrees.{has_fault, old_tree_of}
+use Rattle.hushlang_old.specs.Defaults.{variable_of, behind_variable}
 use Rattle.hushlang_old.specs.OldFields.{old_fields, old_turns, inserted, word_text, command_text, read, reread}
 use Rattle.hushlang_shells.specs.TreesByShell.{TextRead, Runs, Fails, Panics, Unread, first_in}
 use Rattle.device_list.specs.DeviceList.{Variable, Literal, Devices, only}
@@ -38,7 +39,7 @@ before word = start variables word
 
 -- what a text reads and writes in a shell, from a state
 unfoldable reached_in : Shell → State → Text → List Access
-unfolding tree_of old_tree_of has_fault fields joined atoms digits old_fields old_turns inserted word_text command_text read reread
+unfolding tree_of old_tree_of has_fault fields joined atoms digits old_fields old_turns inserted variable_of behind_variable word_text command_text read reread
 reached_in shell s text = elim (first_in shell text) [ Runs t ↦ accesses (limits shell) 5 t s | Fails ↦ [] | Panics ↦ [] | Unread ↦ [] ]
 
 -- with a word of successes, in ubtool's own shell
@@ -186,6 +187,13 @@ in_each text = map (λ shell. reached_in shell (before []) text) (Profile ∷ Ol
 words_of_nothing : in_each (codes "$b") ≡ (Reads b ∷ Reads (Local (codes "b")) ∷ Writes Status ∷ []) ∷ (Reads b ∷ Reads (Local (codes "b")) ∷ []) ∷ (Reads b ∷ Reads (Local (codes "b")) ∷ []) ∷ []
 unfolding reached_in
 words_of_nothing = refl
+
+-- in braces the old shell reads the variable in front of a `:`
+default : map (λ shell. reached_in shell (before []) (codes "echo ${a:-b}")) (Old2023 ∷ Old2025 ∷ [])
+    ≡ (Reads (Environment (codes "a:-b")) ∷ Reads (Local (codes "a:-b")) ∷ Reads a ∷ Writes Status ∷ [])
+    ∷ (Reads (Environment (codes "a:-b")) ∷ Reads (Local (codes "a:-b")) ∷ Reads a ∷ Writes Status ∷ []) ∷ []
+unfolding reached_in
+default = refl
 
 -- in 2023.01 a shell variable that is assigned an empty value stays as it is
 empty_value : in_each (codes "y=") ≡ (Writes (Local (codes "y")) ∷ Writes Status ∷ []) ∷ (Writes Status ∷ []) ∷ (Writes (Local (codes "y")) ∷ Writes Status ∷ []) ∷ []

@@ -1,5 +1,5 @@
 -- Words expand to the same where the variables and the status that they read are the same.
-use Rattle.std.proofs.Common.{◌≡◌, ◌∙◌, refl, ap, ℕ, true, false, List, [], ◌∷◌, ◌++◌, map, Option, Some, None, unwrap_or, if◌then◌else◌}
+use Rattle.std.proofs.Common.{◌≡◌, ◌∙◌, refl, sym, ap, ℕ, Bool, true, false, List, [], ◌∷◌, ◌++◌, map, Option, Some, None, unwrap_or, if◌then◌else◌}
 use Rattle.std.specs.Prelude.{decimal}
 use Rattle.std.specs.List.{flat_map, filter}
 use Rattle.text.specs.Bytes as ascii
@@ -9,6 +9,8 @@ use Rattle.hushlang.specs.Expansion.{Parameters, Kept, split_atom, atoms_of_piec
 use Rattle.hushlang.specs.KnownFields.{is_constant_word, are_constant}
 use Rattle.hushlang_old.specs.OldFields.{newline_to_space, inserted, has_quotes, word_text, words_text, with_end, command_text, reread, old_fields, turns_of_word, old_turns}
 use Rattle.hushlang_old.specs.OldFields as old
+use Rattle.hushlang_old.specs.Defaults.{variable_of, behind_variable, has_more, with_default, looked_up}
+use Rattle.hushlang_old.proofs.DefaultLemmas.{whole_name}
 use Rattle.hushlang_modern.specs.ModernWords.{without_guards}
 use Rattle.hushlang_modern.specs.ModernFields.{Expanding, nothing_expanded, with_bytes, piece_begun, guarded_all, with_value, with_piece, with_pieces, all_fields, expanded, modern_fields_of_word, modern_fields}
 use Rattle.rehearse_terms.specs.State.{Text, State, get, value_in}
@@ -17,7 +19,7 @@ use Rattle.rehearse_terms.specs.declared.shell.Shell.TheVariants.{Profile, Old20
 use Rattle.rehearse_rules.specs.Parameters.{parameters_in}
 use Rattle.rehearse_rules.specs.ByShell.{fields_in, assigned_in, turns_in}
 use Rattle.rehearse_reads.specs.Keys.{Key, Environment, Local, Status, AreAmong, AgreeOn}
-use Rattle.rehearse_reads.specs.Accesses.{variable_reads, piece_reads, word_reads, words_reads}
+use Rattle.rehearse_reads.specs.Accesses.{variable_reads, inside_reads, piece_reads, word_reads, words_reads}
 use Rattle.rehearse_reads.proofs.AccessLemmas.{among_first, among_then}
 
 module _ (known : List Key) (s t : State) (agree : AgreeOn known s t) where
@@ -37,30 +39,64 @@ module _ (known : List Key) (s t : State) (agree : AgreeOn known s t) where
       by None (Some w) e k = absurd (cc)
       by None None e k = agree (Local name) k.0
 
+  abbrev behind_reads : Bool → Text → List Key
+  behind_reads b inside = if b then variable_reads s.memory (variable_of inside) else []
+
+  same_inside : (inside : Text) → AreAmong (inside_reads s.memory inside) known → value_in t.memory inside ≡ value_in s.memory inside
+  same_inside inside h =
+      same_value inside (among_first known (variable_reads s.memory inside) (behind_reads (has_more inside) inside) h)
+
+  -- the variable that is named by the first bytes
+  same_variable : (inside : Text) → AreAmong (inside_reads s.memory inside) known → value_in t.memory (variable_of inside) ≡ value_in s.memory (variable_of inside)
+  same_variable inside h = by (has_more inside) refl h
+    where
+      by : (b : Bool) → has_more inside ≡ b → AreAmong (variable_reads s.memory inside ++ behind_reads b inside) known → value_in t.memory (variable_of inside) ≡ value_in s.memory (variable_of inside)
+      by true e k = same_value (variable_of inside) (among_then known (variable_reads s.memory inside) (behind_reads true inside) k)
+      by false e k =
+          ap (value_in t.memory) (whole_name inside e)
+          ∙ same_value inside (among_first known (variable_reads s.memory inside) [] k)
+          ∙ ap (value_in s.memory) (sym (whole_name inside e))
+
   same_piece : (piece : Piece) → AreAmong (piece_reads s.memory piece) known → atoms_of_piece there piece ≡ atoms_of_piece here piece
   same_piece (tree.Bytes bytes) h = refl
   same_piece tree.Mark h = refl
-  same_piece (tree.Var name true) h = ap (λ (o : Option Text). map split_atom (unwrap_or o [])) (same_value name h)
-  same_piece (tree.Var name false) h = ap (λ (o : Option Text). map Kept (unwrap_or o [])) (same_value name h)
+  same_piece (tree.Var name true) h = ap (λ (o : Option Text). map split_atom (unwrap_or o [])) (same_inside name h)
+  same_piece (tree.Var name false) h = ap (λ (o : Option Text). map Kept (unwrap_or o [])) (same_inside name h)
   same_piece tree.Status h = ap (λ (n : ℕ). map Kept (decimal n)) (agree Status h.0)
 
-  same_pieces : (word : Word) → AreAmong (word_reads s.memory word) known → flat_map (atoms_of_piece there) word ≡ flat_map (atoms_of_piece here) word
-  same_pieces [] h = refl
-  same_pieces (piece ∷ word) h =
-      ap (λ a. a ++ flat_map (atoms_of_piece there) word) (same_piece piece (among_first known (piece_reads s.memory piece) (word_reads s.memory word) h))
-      ∙ ap (λ a. atoms_of_piece here piece ++ a) (same_pieces word (among_then known (piece_reads s.memory piece) (word_reads s.memory word) h))
+  -- the same, where the old shell looks for the values
+  same_found : (piece : Piece) → AreAmong (piece_reads s.memory piece) known → atoms_of_piece (looked_up there) piece ≡ atoms_of_piece (looked_up here) piece
+  same_found (tree.Bytes bytes) h = refl
+  same_found tree.Mark h = refl
+  same_found (tree.Var name true) h = ap (λ (o : Option Text). map split_atom (with_default (unwrap_or o []) (behind_variable name))) (same_variable name h)
+  same_found (tree.Var name false) h = ap (λ (o : Option Text). map Kept (with_default (unwrap_or o []) (behind_variable name))) (same_variable name h)
+  same_found tree.Status h = ap (λ (n : ℕ). map Kept (decimal n)) (agree Status h.0)
+
+  module _ (p q : Parameters) (each : (piece : Piece) → AreAmong (piece_reads s.memory piece) known → atoms_of_piece q piece ≡ atoms_of_piece p piece) where
+    same_pieces : (word : Word) → AreAmong (word_reads s.memory word) known → flat_map (atoms_of_piece q) word ≡ flat_map (atoms_of_piece p) word
+    same_pieces [] h = refl
+    same_pieces (piece ∷ word) h =
+        ap (λ a. a ++ flat_map (atoms_of_piece q) word) (each piece (among_first known (piece_reads s.memory piece) (word_reads s.memory word) h))
+        ∙ ap (λ a. atoms_of_piece p piece ++ a) (same_pieces word (among_then known (piece_reads s.memory piece) (word_reads s.memory word) h))
+
+    atoms_by : (word : Word) → AreAmong (word_reads s.memory word) known → atoms q word ≡ atoms p word
+    unfolding atoms
+    atoms_by word h = same_pieces word h
+
+    joined_by : (word : Word) → AreAmong (word_reads s.memory word) known → joined q word ≡ joined p word
+    unfolding joined
+    joined_by word h = ap all_bytes (atoms_by word h)
 
   same_atoms : (word : Word) → AreAmong (word_reads s.memory word) known → atoms there word ≡ atoms here word
-  unfolding atoms
-  same_atoms word h = same_pieces word h
+  same_atoms word h = atoms_by here there same_piece word h
 
   same_joined : (word : Word) → AreAmong (word_reads s.memory word) known → joined there word ≡ joined here word
-  unfolding joined
-  same_joined word h = ap all_bytes (same_atoms word h)
+  same_joined word h = joined_by here there same_piece word h
 
   same_inserted : (word : Word) → AreAmong (word_reads s.memory word) known → inserted there word ≡ inserted here word
   unfolding inserted
-  same_inserted word h = ap (λ (b : List ℕ). if is_constant_word word then b else map newline_to_space b) (same_joined word h)
+  same_inserted word h =
+      ap (λ (b : List ℕ). if is_constant_word word then b else map newline_to_space b) (joined_by (looked_up here) (looked_up there) same_found word h)
 
   same_text : (word : Word) → AreAmong (word_reads s.memory word) known → word_text there word ≡ word_text here word
   unfolding word_text
@@ -96,8 +132,8 @@ module _ (known : List Key) (s t : State) (agree : AgreeOn known s t) where
   same_expanding : (piece : Piece) (e : Expanding) → AreAmong (piece_reads s.memory piece) known → with_piece there piece e ≡ with_piece here piece e
   same_expanding (tree.Bytes bytes) e h = refl
   same_expanding tree.Mark e h = refl
-  same_expanding (tree.Var name true) e h = ap (λ (o : Option Text). with_value (unwrap_or o []) (piece_begun e)) (same_value name h)
-  same_expanding (tree.Var name false) e h = ap (λ (o : Option Text). with_bytes (guarded_all (unwrap_or o [])) (piece_begun e)) (same_value name h)
+  same_expanding (tree.Var name true) e h = ap (λ (o : Option Text). with_value (unwrap_or o []) (piece_begun e)) (same_inside name h)
+  same_expanding (tree.Var name false) e h = ap (λ (o : Option Text). with_bytes (guarded_all (unwrap_or o [])) (piece_begun e)) (same_inside name h)
   same_expanding tree.Status e h = ap (λ (n : ℕ). with_bytes (decimal n) (piece_begun e)) (agree Status h.0)
 
   same_word_expanding : (word : Word) (e : Expanding) → AreAmong (word_reads s.memory word) known → with_pieces there word e ≡ with_pieces here word e

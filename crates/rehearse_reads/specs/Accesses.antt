@@ -6,6 +6,7 @@ use Rattle.std.specs.List.{flat_map}
 use Rattle.hushlang.specs.Tree as tree
 use Rattle.hushlang.specs.Tree.{Script, AndOr, Joined, Command, Arms}
 use Rattle.hushlang.specs.Expansion.{size, most_bytes}
+use Rattle.hushlang_old.specs.Defaults.{variable_of, has_more}
 use Rattle.hushlang_shells.specs.TreesByShell.{TextRead, Runs, Fails, Panics, Unread, first_in, started_in}
 use Rattle.builtins.specs.Builtins.{Builtin, SetEnv, Run, Test, Echo, True, False, Leave, builtin_of}
 use Rattle.commands.specs.Computed.{Computed, Gives, Exists, Sets, Deletes, SetsNumber}
@@ -40,10 +41,16 @@ abbrev pub variable_reads : Memory → Text → List Key
 variable_reads m name =
     Environment name ∷ elim (get m.environment name) [ Some value ↦ [] | None ↦ Local name ∷ [] ]
 
+-- to U-Boot's old shell what is in braces may name a variable by its first bytes (hushlang_old/specs/Defaults.antt)
+abbrev pub inside_reads : Memory → (inside : Text) → List Key
+inside_reads m inside =
+    variable_reads m inside
+    ++ (if has_more inside then variable_reads m (variable_of inside) else [])
+
 abbrev pub piece_reads : Memory → tree.Piece → List Key
 piece_reads m (tree.Bytes bytes) = []
 piece_reads m tree.Mark = []
-piece_reads m (tree.Var name split) = variable_reads m name
+piece_reads m (tree.Var name split) = inside_reads m name
 piece_reads m tree.Status = Status ∷ []
 
 abbrev pub word_reads : Memory → tree.Word → List Key

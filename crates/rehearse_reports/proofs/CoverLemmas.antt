@@ -4,6 +4,7 @@ use Rattle.std.specs.List.{flat_map}
 use Rattle.hushlang.specs.Tree as tree
 use Rattle.hushlang.specs.Tree.{Arms}
 use Rattle.hushlang.specs.Expansion.{size, most_bytes}
+use Rattle.hushlang_old.specs.Defaults.{variable_of, has_more}
 use Rattle.device_list.specs.Called.{sets_in}
 use Rattle.rehearse_terms.specs.Outcomes.{Success, Failure}
 use Rattle.rehearse_terms.specs.State.{Text, Memory, State, get}
@@ -13,7 +14,7 @@ use Rattle.rehearse_rules.specs.ByShell.{fields_in, turns_in, assigned_in, is_re
 use Rattle.rehearse_rules.specs.Parameters.{parameters_in}
 use Rattle.rehearse_rules.specs.Execution.{Limits, Request, told, outcome_when, assign_local, for_begun}
 use Rattle.rehearse_reads.specs.Keys.{Key, Access, Reads, Writes, Environment, Local, Status, all_read, Covers}
-use Rattle.rehearse_reads.specs.Accesses.{status_written, variable_reads, piece_reads, word_reads, words_reads, names_written, told_reads, outcome_accesses, sized_accesses, local_accesses, assign_accesses, nothing_accesses, begun_accesses, modern_accesses}
+use Rattle.rehearse_reads.specs.Accesses.{status_written, variable_reads, inside_reads, piece_reads, word_reads, words_reads, names_written, told_reads, outcome_accesses, sized_accesses, local_accesses, assign_accesses, nothing_accesses, begun_accesses, modern_accesses}
 use Rattle.rehearse_reads.proofs.KeysRead.{covering_joins}
 use Rattle.rehearse_frames.specs.MoveAccesses.{of_asking, of_telling, of_beginning_for, of_beginning_arms, of_fields, of_command, of_beginning_turns, of_beginning_words}
 use Rattle.rehearse_reports.proofs.ReportLemmas.{covers_itself, covers_through, covers_less, covers_write, covers_written, reads_cover, reads_alone, nothing_after}
@@ -68,10 +69,16 @@ covers_first (f ∷ fields) = covers_itself []
 variable_again : (m n : Memory) (name : Text) → n.environment ≡ m.environment → variable_reads n name ≡ variable_reads m name
 variable_again m n name e = ap (λ v. Environment name ∷ (elim (get v name) [ Some value ↦ [] | None ↦ Local name ∷ [] ])) e
 
+inside_again : (m n : Memory) (inside : Text) → n.environment ≡ m.environment → inside_reads n inside ≡ inside_reads m inside
+inside_again m n inside e =
+    let some = has_more inside in
+    ap (λ (x : List Key). x ++ (if some then variable_reads n (variable_of inside) else [])) (variable_again m n inside e)
+    ∙ ap (λ (x : List Key). variable_reads m inside ++ (if some then x else [])) (variable_again m n (variable_of inside) e)
+
 piece_again : (m n : Memory) (piece : tree.Piece) → n.environment ≡ m.environment → piece_reads n piece ≡ piece_reads m piece
 piece_again m n (tree.Bytes bytes) e = refl
 piece_again m n tree.Mark e = refl
-piece_again m n (tree.Var name split) e = variable_again m n name e
+piece_again m n (tree.Var name split) e = inside_again m n name e
 piece_again m n tree.Status e = refl
 
 word_again : (m n : Memory) (word : tree.Word) → n.environment ≡ m.environment → word_reads n word ≡ word_reads m word

@@ -7,6 +7,7 @@ use Rattle.hushlang.specs.Tree.{Script}
 use Rattle.hushlang.specs.Trees.{tree_of}
 use Rattle.bootstore_state.specs.Moment.{RunningFrame}
 use Rattle.bootstore_state.specs.declared.frame.FrameKind.TheVariants.{Text}
+use Rattle.hushlang_old.specs.Defaults.{behind_variable}
 use Rattle.rehearse_terms.specs.State as terms
 use Rattle.rehearse_terms.specs.State.{Memory, start}
 use Rattle.rehearse_reads.specs.Keys.{Key, Environment, Local, Status, Reads, Writes}
@@ -36,34 +37,34 @@ b = Environment (codes "b")
 
 -- the words of the command that has begun
 words_are_read : asked_by memory (after (codes "load $a") 1 ∷ []) ≡ a ∷ []
-unfolding after fields joined atoms digits
+unfolding after fields joined atoms digits behind_variable
 words_are_read = refl
 
 -- a variable that the environment does not have may be a shell variable
 both_are_looked_up : asked_by memory (after (codes "load ${b}x") 1 ∷ []) ≡ b ∷ Local (codes "b") ∷ []
-unfolding after fields joined atoms digits
+unfolding after fields joined atoms digits behind_variable
 both_are_looked_up = refl
 
 the_status_too : asked_by memory (after (codes "load $? $a") 1 ∷ []) ≡ Status ∷ a ∷ []
-unfolding after fields joined atoms digits
+unfolding after fields joined atoms digits behind_variable
 the_status_too = refl
 
 -- of a list, the command before the place
 second_of_a_list : asked_by memory (after (codes "load && load $a") 2 ∷ []) ≡ a ∷ []
-unfolding after fields joined atoms digits
+unfolding after fields joined atoms digits behind_variable
 second_of_a_list = refl
 
 first_of_a_list : asked_by memory (after (codes "load && load $a") 1 ∷ []) ≡ []
-unfolding after fields joined atoms digits
+unfolding after fields joined atoms digits behind_variable
 first_of_a_list = refl
 
 -- of the innermost frame alone
 innermost : asked_by memory (after (codes "load") 1 ∷ after (codes "run $a") 1 ∷ []) ≡ []
-unfolding after fields joined atoms digits
+unfolding after fields joined atoms digits behind_variable
 innermost = refl
 
 no_simple_command : asked_by memory (after (codes "if load $a; then load; fi") 1 ∷ []) ≡ []
-unfolding after fields joined atoms digits
+unfolding after fields joined atoms digits behind_variable
 no_simple_command = refl
 
 no_frame : asked_by memory [] ≡ []

@@ -1,14 +1,15 @@
 -- Reports of what words read.
-use Rattle.std.proofs.Common.{◌≡◌, ◌∙◌, refl, sym, ap, subst, ℕ, List, [], ◌∷◌, ◌++◌, map, Option, Some, None, Vec, Global}
+use Rattle.std.proofs.Common.{◌≡◌, ◌∙◌, refl, sym, ap, subst, ℕ, Bool, true, false, List, [], ◌∷◌, ◌++◌, append-nil, if◌then◌else◌, map, Option, Some, None, Vec, Global}
 use Rattle.std.specs.Prelude.{OnOk, Result}
 use Rattle.std.specs.List.{flat_map}
 use Rattle.std.proofs.lemmas.List.Folds.{flat_map-map}
 use Rattle.hushlang.specs.TreesShown as view
 use Rattle.hushlang.specs.declared.tree.Piece.{Piece}
 use Rattle.hushlang.specs.declared.tree.Word.{Word}
+use Rattle.hushlang_old.specs.Defaults.{variable_of, has_more}
 use Rattle.rehearse_terms.specs.State.{Text, Memory, get}
 use Rattle.rehearse_reads.specs.Keys.{Key, Access, Reads, Writes, Environment, Local, all_read}
-use Rattle.rehearse_reads.specs.Accesses.{variable_reads, piece_reads, word_reads, words_reads}
+use Rattle.rehearse_reads.specs.Accesses.{variable_reads, inside_reads, piece_reads, word_reads, words_reads}
 use Rattle.rehearse_reports.specs.Reports.{Reports}
 use Rattle.rehearse_reports.proofs.ReportLemmas.{reports_then, reads_in_turn}
 
@@ -21,6 +22,23 @@ variable_set old new m name value e h = subst (λ (o : Option Text). Reports old
 pub variable_unset : (old mid new : List Access) (m : Memory) (name : Text) → get m.environment name ≡ None → Reports old mid (Reads (Environment name) ∷ []) → Reports mid new (Reads (Local name) ∷ []) → Reports old new (all_read (variable_reads m name))
 variable_unset old mid new m name e h k =
     subst (λ (o : Option Text). Reports old new (all_read (Environment name ∷ (elim o [ Some v ↦ [] | None ↦ Local name ∷ [] ])))) (sym e) (reports_then old mid new (Reads (Environment name) ∷ []) (Reads (Local name) ∷ []) h k)
+
+reads_more : (xs ys : List Key) → all_read (xs ++ ys) ≡ all_read xs ++ all_read ys
+reads_more [] ys = refl
+reads_more (x ∷ xs) ys = ap (λ (a : List Access). Reads x ∷ a) (reads_more xs ys)
+
+-- what is in the braces of a variable names another one
+pub inside_more : (old mid new : List Access) (m : Memory) (inside variable : Text) → has_more inside ≡ true → variable ≡ variable_of inside → Reports old mid (all_read (variable_reads m inside)) → Reports mid new (all_read (variable_reads m variable)) → Reports old new (all_read (inside_reads m inside))
+inside_more old mid new m inside variable more named h k =
+    subst (λ (b : Bool). Reports old new (all_read (variable_reads m inside ++ (if b then variable_reads m (variable_of inside) else [])))) (sym more)
+    (subst (Reports old new) (sym (reads_more (variable_reads m inside) (variable_reads m (variable_of inside))))
+    (reports_then old mid new (all_read (variable_reads m inside)) (all_read (variable_reads m (variable_of inside))) h
+    (subst (λ (t : Text). Reports mid new (all_read (variable_reads m t))) named k)))
+
+pub inside_alone : (old new : List Access) (m : Memory) (inside : Text) → has_more inside ≡ false → Reports old new (all_read (variable_reads m inside)) → Reports old new (all_read (inside_reads m inside))
+inside_alone old new m inside none h =
+    subst (λ (b : Bool). Reports old new (all_read (variable_reads m inside ++ (if b then variable_reads m (variable_of inside) else [])))) (sym none)
+    (subst (λ (keys : List Key). Reports old new (all_read keys)) (sym (append-nil (variable_reads m inside))) h)
 
 pub piece_as : (old new : List Access) (m : Memory) (piece other : Piece) → piece ≡ other → Reports old new (all_read (piece_reads m (view.piece other))) → Reports old new (all_read (piece_reads m (view.piece piece)))
 piece_as old new m piece other e h = subst (λ (x : Piece). Reports old new (all_read (piece_reads m (view.piece x)))) (sym e) h

@@ -3,7 +3,13 @@ ghost use Rattle.std.specs.Prelude.{OnOk, List, map};
 ghost use Rattle.std.specs.List.{flat_map};
 ghost use Rattle.hushlang.specs.TreesShown as view;
 ghost use Rattle.rehearse_reads.specs.Keys.{all_read};
-ghost use Rattle.rehearse_reads.specs.Accesses.{piece_reads, variable_reads, word_reads, words_reads};
+ghost use Rattle.rehearse_reads.specs.Accesses.{
+  inside_reads,
+  piece_reads,
+  variable_reads,
+  word_reads,
+  words_reads,
+};
 ghost use Rattle.rehearse_reports.specs.Reports.{Reports, memory_at};
 ghost use Rattle.rehearse_reports.specs.ReportsShown.{accesses_shown};
 
@@ -11,6 +17,7 @@ use crate::key::Key;
 use crate::reported::Reported;
 use bootstore_state::{Store, StoreError};
 use hushlang::{Piece, Word};
+use hushlang_old::{behind_variable, variable_of};
 use std::alloc::Global;
 
 /// Reports that a variable is read: in the environment, and if it is not set there, among the shell
@@ -34,6 +41,23 @@ fn report_variable<S: Store>(
     }
 }
 
+/// Reports what is read by what is in the braces of a variable. Errors: `Memory`.
+fn report_inside<S: Store>(
+    alloc: Global,
+    reported: &mut Reported,
+    store: &S,
+    inside: &[u8],
+) -> Result<(), StoreError>
+    ensures { OnOk result (Reports (accesses_shown reported.old) (accesses_shown reported.new)
+        (all_read (inside_reads (memory_at (S.record_of store.now).present) inside.now))) }
+{
+    report_variable(alloc, reported, store, inside)?;
+    if behind_variable(inside).is_empty() {
+        return Ok(());
+    }
+    report_variable(alloc, reported, store, variable_of(inside))
+}
+
 /// Reports what a piece of a word reads. Errors: `Memory`.
 fn report_piece<S: Store>(
     alloc: Global,
@@ -48,7 +72,7 @@ fn report_piece<S: Store>(
     match piece {
         Piece::Bytes(_) => Ok(()),
         Piece::Mark => Ok(()),
-        Piece::Var { name, split: _ } => report_variable(alloc, reported, store, name),
+        Piece::Var { name, split: _ } => report_inside(alloc, reported, store, name),
         Piece::Status => {
             reported.reads(Key::Status)?;
             Ok(())

@@ -3,6 +3,7 @@ use Rattle.std.proofs.Common.{◌≡◌, ℕ, zero, suc, ◌&&◌, Bool, true, f
 use Rattle.std.specs.Fmt.{digits}
 use Rattle.hushlang.specs.Expansion.{fields, joined, atoms}
 use Rattle.hushlang_old.specs.OldTrees.{has_fault, lacks_end, old_tree_of}
+use Rattle.hushlang_old.specs.Defaults.{variable_of, behind_variable}
 use Rattle.hushlang_old.specs.OldFields.{old_fields, old_turns, inserted, word_text, command_text, read, reread}
 use Rattle.hushlang_modern.specs.ModernFields.{expanded, modern_fields}
 use Rattle.hushlang_modern.specs.ModernTrees.{modern_text}
@@ -46,17 +47,17 @@ cut_listing = codes "run .\nunset z\ncut steps\ndone\n"
 
 -- the whole listing
 unfoldable pub listed : Task → List Text → Option ℕ → Text
-unfolding tree_of old_tree_of has_fault lacks_end fields joined atoms digits old_fields old_turns inserted word_text command_text read reread modern_text modern_fields expanded
+unfolding tree_of old_tree_of has_fault lacks_end fields joined atoms digits old_fields old_turns inserted variable_of behind_variable word_text command_text read reread modern_text modern_fields expanded
 listed task names limit = listing (record_of task names) (runs task) limit
 
 -- the listing of the runs after a word
 unfoldable pub listed_after : Task → OutcomeWord → List Text → Option ℕ → Text
-unfolding tree_of old_tree_of has_fault lacks_end fields joined atoms digits old_fields old_turns inserted word_text command_text read reread modern_text modern_fields expanded
+unfolding tree_of old_tree_of has_fault lacks_end fields joined atoms digits old_fields old_turns inserted variable_of behind_variable word_text command_text read reread modern_text modern_fields expanded
 listed_after task w names limit = listing (record_of task names) (rest task w) limit
 
 -- the work of the first runs, for each of these numbers of runs
 unfoldable pub works : Task → List ℕ → List ℕ
-unfolding tree_of old_tree_of has_fault lacks_end fields joined atoms digits old_fields old_turns inserted word_text command_text read reread modern_text modern_fields expanded
+unfolding tree_of old_tree_of has_fault lacks_end fields joined atoms digits old_fields old_turns inserted variable_of behind_variable word_text command_text read reread modern_text modern_fields expanded
 works task counts = map (λ k. work task (take k (runs task))) counts
 
 -- ---- what a text writes, and how its run ends, if it asks no device command
@@ -65,7 +66,7 @@ abbrev pub Told : Type 0
 Told = Text × Ending
 
 unfoldable pub told_of : Task → Told
-unfolding tree_of old_tree_of has_fault lacks_end fields joined atoms digits old_fields old_turns inserted word_text command_text read reread modern_text modern_fields expanded
+unfolding tree_of old_tree_of has_fault lacks_end fields joined atoms digits old_fields old_turns inserted variable_of behind_variable word_text command_text read reread modern_text modern_fields expanded
 told_of task = ((state_of (run_on task [])).memory.text, ending_of (run_on task []))
 
 abbrev pub told : Text → Told
@@ -139,24 +140,24 @@ rest-followers (suc n) task u e = by (turned (is_allowed task) u) refl e (λ v. 
 
 -- whether these are all runs: the first and at most n after it, or the runs after u
 unfoldable pub ends_along : ℕ → Task → Bool
-unfolding tree_of old_tree_of has_fault lacks_end fields joined atoms digits old_fields old_turns inserted word_text command_text read reread modern_text modern_fields expanded
+unfolding tree_of old_tree_of has_fault lacks_end fields joined atoms digits old_fields old_turns inserted variable_of behind_variable word_text command_text read reread modern_text modern_fields expanded
 ends_along n task = are_all n task (begins task)
 
 unfoldable pub ends_behind : ℕ → Task → OutcomeWord → Bool
-unfolding tree_of old_tree_of has_fault lacks_end fields joined atoms digits old_fields old_turns inserted word_text command_text read reread modern_text modern_fields expanded
+unfolding tree_of old_tree_of has_fault lacks_end fields joined atoms digits old_fields old_turns inserted variable_of behind_variable word_text command_text read reread modern_text modern_fields expanded
 ends_behind n task u = are_all n task u
 
 -- their listings, and the work of the first runs
 unfoldable pub listed_along : ℕ → Task → List Text → Option ℕ → Text
-unfolding tree_of old_tree_of has_fault lacks_end fields joined atoms digits old_fields old_turns inserted word_text command_text read reread modern_text modern_fields expanded
+unfolding tree_of old_tree_of has_fault lacks_end fields joined atoms digits old_fields old_turns inserted variable_of behind_variable word_text command_text read reread modern_text modern_fields expanded
 listed_along n task names limit = listing (record_of task names) (begins task ∷ followers n task (begins task)) limit
 
 unfoldable pub listed_behind : ℕ → Task → OutcomeWord → List Text → Option ℕ → Text
-unfolding tree_of old_tree_of has_fault lacks_end fields joined atoms digits old_fields old_turns inserted word_text command_text read reread modern_text modern_fields expanded
+unfolding tree_of old_tree_of has_fault lacks_end fields joined atoms digits old_fields old_turns inserted variable_of behind_variable word_text command_text read reread modern_text modern_fields expanded
 listed_behind n task u names limit = listing (record_of task names) (followers n task u) limit
 
 unfoldable pub works_along : ℕ → Task → List ℕ → List ℕ
-unfolding tree_of old_tree_of has_fault lacks_end fields joined atoms digits old_fields old_turns inserted word_text command_text read reread modern_text modern_fields expanded
+unfolding tree_of old_tree_of has_fault lacks_end fields joined atoms digits old_fields old_turns inserted variable_of behind_variable word_text command_text read reread modern_text modern_fields expanded
 works_along n task counts = map (λ k. work task (take k (begins task ∷ followers n task (begins task)))) counts
 
 runs-along : (n : ℕ) (task : Task) → ends_along n task ≡ true → runs task ≡ begins task ∷ followers n task (begins task)
