@@ -36,7 +36,7 @@ pub use expecting::{expected_success, is_unexpected};
 pub use list_commands::command_of;
 pub use machine::step;
 pub use outcomes::{answer, value_of, variable_of};
-pub use plain_call::words_in;
+pub use plain_call::{ShellCall, call_in};
 pub use rehearsal::{Rehearsal, Stop, begin, resume};
 pub use source::Source;
 pub use steps::{assigned_value, expanded};

@@ -1,11 +1,15 @@
-//! Calls as the shells make them: of U-Boot's `setenv`, without its options.
-ghost use Rattle.std.specs.Prelude.{◌≡◌, ◌∷◌, ◌==◌};
+//! Calls as the shells make them: of U-Boot's `setenv`, without its options, and with as many words as a
+//! call may have.
+ghost use Rattle.std.specs.Prelude.{◌≡◌, ◌∷◌, ◌==◌, option_map};
 ghost use Rattle.std.specs.List.{list_all};
+ghost use Rattle.builtins.specs.Builtins.{builtin_of};
+ghost use Rattle.builtins.specs.BuiltinsShown.{builtin_shown};
 ghost use Rattle.rehearse_rules.specs.ByShell as says;
 ghost use Rattle.text.specs.Bytes as bytes;
 ghost use Rattle.text.specs.TextsShown.{bytes_of_words};
 
-use crate::by_shell::{MOST_MODERN_WORDS, MOST_WORDS};
+use crate::by_shell::{MOST_OLD_WORDS, MOST_WORDS};
+use builtins::Builtin;
 use rehearse_terms::Shell;
 
 /// Whether a word is an option of `setenv`.
@@ -64,14 +68,62 @@ fn plain_words<'w>(most: usize, name: &[u8], words: &'w [Vec<u8>]) -> &'w [Vec<u
     }
 }
 
-/// The words of a call as the shell makes it.
-pub fn words_in<'w>(shell: Shell, name: &[u8], words: &'w [Vec<u8>]) -> &'w [Vec<u8>]
-    ensures { name.now ∷ bytes_of_words result.now
+/// A call as a shell makes it.
+#[derive(Clone, Copy)]
+pub struct ShellCall<'c> {
+    /// The name of the command.
+    pub name: &'c [u8],
+    /// The words behind it.
+    pub words: &'c [Vec<u8>],
+    /// The built-in command that the name names, if it names one.
+    pub builtin: Option<Builtin>,
+}
+
+/// A call in U-Boot 2025.01, which tells its usage if it has too many words, as `false` does.
+fn bounded_call<'c>(name: &'c [u8], words: &'c [Vec<u8>], builtin: Option<Builtin>) -> ShellCall<'c>
+    requires { option_map builtin_shown builtin ≡ builtin_of name.now }
+    ensures call { result.name.now ∷ bytes_of_words result.words.now
+        ≡ says.bounded_call (name.now ∷ bytes_of_words words.now) }
+    ensures builtin { option_map builtin_shown result.builtin ≡ builtin_of result.name.now }
+{
+    if words.len() > MOST_WORDS {
+        return ShellCall {
+            name: b"false".as_slice(),
+            words: &[],
+            builtin: Some(Builtin::False),
+        };
+    }
+    let words = plain_words(MOST_WORDS, name, words);
+    ShellCall {
+        name,
+        words,
+        builtin,
+    }
+}
+
+/// A call as the shell makes it. `builtin` is the built-in command that the name names.
+pub fn call_in<'c>(
+    shell: Shell,
+    name: &'c [u8],
+    words: &'c [Vec<u8>],
+    builtin: Option<Builtin>,
+) -> ShellCall<'c>
+    requires { option_map builtin_shown builtin ≡ builtin_of name.now }
+    ensures call { result.name.now ∷ bytes_of_words result.words.now
         ≡ says.call_in shell (name.now ∷ bytes_of_words words.now) }
+    ensures builtin { option_map builtin_shown result.builtin ≡ builtin_of result.name.now }
 {
     match shell {
-        Shell::Profile => words,
-        Shell::Old2023 | Shell::Old2025 => plain_words(MOST_WORDS, name, words),
-        Shell::Modern2025 => plain_words(MOST_MODERN_WORDS, name, words),
+        Shell::Profile => ShellCall {
+            name,
+            words,
+            builtin,
+        },
+        Shell::Old2023 => ShellCall {
+            name,
+            words: plain_words(MOST_OLD_WORDS, name, words),
+            builtin,
+        },
+        Shell::Old2025 | Shell::Modern2025 => bounded_call(name, words, builtin),
     }
 }

@@ -30,7 +30,7 @@ use crate::computed::carry_out;
 use crate::frames::{behind, change_status, enter, finish, place};
 use crate::named::Named;
 use crate::outcomes::ask;
-use crate::plain_call::words_in;
+use crate::plain_call::call_in;
 use crate::run_and_exit::{begin_run, leave_text};
 use crate::steps::{count, turned};
 use crate::told::effect_now;
@@ -271,11 +271,18 @@ pub(crate) fn run_fields<'d, S: Store>(
         let status = status_of_nothing(bounds.shell(), store.get_status());
         return done(store, status);
     };
-    let words = words_in(bounds.shell(), name, words);
-    if !follows(bounds.shell(), devices, named.builtin, name, words) {
-        return Ok(Step::Ends(Halt::Unsupported(Vec::from_slice(alloc, name)?)));
+    let call = call_in(bounds.shell(), name, words, named.builtin);
+    if !follows(bounds.shell(), devices, call.builtin, call.name, call.words) {
+        return Ok(Step::Ends(Halt::Unsupported(Vec::from_slice(alloc, call.name)?)));
     }
-    run_called(alloc, store, script, devices, bounds, named, name, words)
+    let named = Named {
+        builtin: call.builtin,
+        place: named.place,
+        again: named.again,
+    };
+    run_called(
+        alloc, store, script, devices, bounds, named, call.name, call.words,
+    )
 }
 
 /// Begins a step for a simple command whose fields were found, moves its frame to the place after

@@ -88,10 +88,9 @@ call_of_none Old2025 = refl
 call_of_none Modern2025 = refl
 
 -- the call of a shell and a name that are those of another call
-pub call_here : (shell own : Shell) → shell ≡ own → (name first : Text) → name ≡ first → (plain words : List Text) → name ∷ plain ≡ call_in shell (name ∷ words) → first ∷ plain ≡ call_in own (first ∷ words)
-call_here shell own e name first named plain words called =
-    ap (λ (n : Text). n ∷ plain) (sym named)
-    ∙ called
+pub call_here : (shell own : Shell) → shell ≡ own → (name first : Text) → name ≡ first → (call words : List Text) → call ≡ call_in shell (name ∷ words) → call ≡ call_in own (first ∷ words)
+call_here shell own e name first named call words called =
+    called
     ∙ ap (λ (n : Text). call_in shell (n ∷ words)) named
     ∙ ap (λ (x : Shell). call_in x (first ∷ words)) e
 
@@ -102,23 +101,22 @@ module _ (limits : Limits) (again : Bool) (s : State) where
       (quietly old (nothing_accesses limits.shell) (covers_nothing limits.shell))
   fields_none old (x ∷ fields) e = absurd (omega arith)
 
-  module _ (fields : List (Vec ℕ Global)) (first : Vec ℕ Global) (words : List (Vec ℕ Global)) (split : fields ≡ first ∷ words) (shell : Shell) (own : shell ≡ limits.shell) (name : Text) (named : name ≡ first.items) (plain : List Text) (called : first.items ∷ plain ≡ call_in limits.shell (first.items ∷ bytes_of_words words)) where
+  module _ (fields : List (Vec ℕ Global)) (first : Vec ℕ Global) (words : List (Vec ℕ Global)) (split : fields ≡ first ∷ words) (shell : Shell) (own : shell ≡ limits.shell) (name : Text) (plain : List Text) (called : name ∷ plain ≡ call_in limits.shell (first.items ∷ bytes_of_words words)) where
     abbrev fields_if : Bool → List Access
-    fields_if b = elim b [ true ↦ of_call limits again first.items plain [] s | false ↦ [] ]
+    fields_if b = elim b [ true ↦ of_call limits again name plain [] s | false ↦ [] ]
 
-    call_is : first.items ∷ plain ≡ call_in limits.shell (bytes_of_words fields)
+    call_is : name ∷ plain ≡ call_in limits.shell (bytes_of_words fields)
     call_is = called ∙ ap (λ (fs : List (Vec ℕ Global)). call_in limits.shell (bytes_of_words fs)) (sym split)
 
-    followed : (b : Bool) → b ≡ follows shell limits.devices name plain → b ≡ follows limits.shell limits.devices first.items plain
-    followed b e = e ∙ ap (λ (x : Shell). follows x limits.devices name plain) own ∙ ap (λ (n : Text). follows limits.shell limits.devices n plain) named
+    followed : (b : Bool) → b ≡ follows shell limits.devices name plain → b ≡ follows limits.shell limits.devices name plain
+    followed b e = e ∙ ap (λ (x : Shell). follows x limits.devices name plain) own
 
     pub fields_unfollowed : (old : List Access) → false ≡ follows shell limits.devices name plain → Reports old old (of_fields limits again [] (bytes_of_words fields) s)
     fields_unfollowed old e =
         subst (λ (fs : List Text). Reports old old (of_simple_call limits again [] fs s)) call_is
         (subst (λ (b : Bool). Reports old old (fields_if b)) (followed false e) (reports_nothing old))
 
-    pub fields_followed : {E : Type 0} (r : Result (Unit {0}) E) (old new : List Access) (said : Text) → said ≡ first.items → true ≡ follows shell limits.devices name plain → OnOk r (Reports old new (of_call limits again said plain [] s)) → OnOk r (Reports old new (of_fields limits again [] (bytes_of_words fields) s))
-    fields_followed r old new said c e h =
+    pub fields_followed : {E : Type 0} (r : Result (Unit {0}) E) (old new : List Access) → true ≡ follows shell limits.devices name plain → OnOk r (Reports old new (of_call limits again name plain [] s)) → OnOk r (Reports old new (of_fields limits again [] (bytes_of_words fields) s))
+    fields_followed r old new e h =
         subst (λ (fs : List Text). OnOk r (Reports old new (of_simple_call limits again [] fs s))) call_is
-        (subst (λ (b : Bool). OnOk r (Reports old new (fields_if b))) (followed true e)
-        (subst (λ (n : Text). OnOk r (Reports old new (of_call limits again n plain [] s))) c h))
+        (subst (λ (b : Bool). OnOk r (Reports old new (fields_if b))) (followed true e) h)

@@ -20,7 +20,7 @@ use bootstore_state::StoreError;
 use builtins::{Builtin, builtin_of};
 use commands::{Computed, is_bad_name};
 use device_list::{Devices, Effect};
-use rehearse_machine::{asks_in, follows, question_in, words_in};
+use rehearse_machine::{asks_in, call_in, follows, question_in};
 use rehearse_terms::RunBounds;
 use std::alloc::Global;
 use text::copied_words;
@@ -228,10 +228,17 @@ pub(crate) fn report_fields(
     let Some((name, words)) = fields.split_first() else {
         return Ok(());
     };
-    let words = words_in(bounds.shell(), name, words);
-    let builtin = builtin_of(name);
-    if !follows(bounds.shell(), devices, builtin, name, words) {
+    let call = call_in(bounds.shell(), name, words, builtin_of(name));
+    if !follows(bounds.shell(), devices, call.builtin, call.name, call.words) {
         return Ok(());
     }
-    report_named(alloc, reported, devices, bounds, builtin, name, words)
+    report_named(
+        alloc,
+        reported,
+        devices,
+        bounds,
+        call.builtin,
+        call.name,
+        call.words,
+    )
 }
