@@ -1,6 +1,6 @@
 -- What `exit` and its words say in U-Boot 2023.01 and 2025.01 (cmd/exit.c, `do_exit`, and cmd_process of common/command.c). More
 -- than one word is an error of usage, with status 1, which ends nothing.
-use Rattle.std.specs.Prelude.{ℕ, ◌%◌, ◌^◌, ◌==◌, ◌&&◌, nat_le, nat_lt, Bool, true, List, [], ◌∷◌, if◌then◌else◌, Option, Some, None, is_some, unwrap_or}
+use Rattle.std.specs.Prelude.{ℕ, ◌%◌, ◌^◌, ◌==◌, ◌&&◌, ◌||◌, nat_le, nat_lt, Bool, true, List, [], ◌∷◌, if◌then◌else◌, Option, Some, None, is_some, unwrap_or}
 use Rattle.text.specs.Bytes as ascii
 use Rattle.commands.specs.Hexadecimal.{in_word}
 use Rattle.commands.specs.Verdict.{Text, begins_hexadecimal, behind_first, read_in}
@@ -40,8 +40,12 @@ newer_exit (word ∷ v ∷ ws) = None
 abbrev pub newer_exit_status : List Text → ℕ
 newer_exit_status words = unwrap_or (newer_exit words) 1
 
+-- whether -n-2 is -1 as a number of 32 bits, by which a command tells its usage: it ends nothing then, and its status is 1
+abbrev pub tells_usage : Text → Bool
+tells_usage word = in_word (exit_number word) % 2 ^ 32 == 4294967295
+
 -- whether the words are followed
 abbrev pub follows_exit : List Text → Bool
 follows_exit [] = true
-follows_exit (word ∷ []) = is_some (status_named word)
+follows_exit (word ∷ []) = is_some (status_named word) || tells_usage word
 follows_exit (word ∷ v ∷ ws) = true

@@ -71,13 +71,21 @@ pub fn newer_exit_status(words: &[Vec<u8>]) -> u8
     newer_exit(words).unwrap_or(1)
 }
 
-/// Whether the words of an `exit` of 2025.01 are followed: they name no number above 255.
+/// Whether `exit` with a word tells its usage in 2025.01, which it does by the number -1 in 32 bits.
+fn tells_usage(word: &[u8]) -> bool
+    ensures { result ≡ says.tells_usage word.now }
+{
+    exit_number(word) % 4_294_967_296 == 4_294_967_295
+}
+
+/// Whether the words of an `exit` of 2025.01 are followed: they name no number above 255, or one by which
+/// `exit` tells its usage.
 pub fn follows_exit(words: &[Vec<u8>]) -> bool
     ensures { result ≡ says.follows_exit (bytes_of_words words.now) }
 {
     match words {
         [] => true,
-        [word] => status_named(word).is_some(),
+        [word] => status_named(word).is_some() || tells_usage(word),
         [_, _, ..] => true,
     }
 }
