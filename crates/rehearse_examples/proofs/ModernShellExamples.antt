@@ -81,7 +81,7 @@ unfolding told_of
 first_faults = refl
 
 -- and a text that is not followed ends the run
-texts_not_followed : started (codes "! true") (codes "echo a; run t") ∷ told_of (bootcmd in_modern (codes "echo a; ! true")) ∷ []
+texts_not_followed : started (codes "true | true") (codes "echo a; run t") ∷ told_of (bootcmd in_modern (codes "echo a; true | true")) ∷ []
     ≡ (codes "a\n", Unsupported (codes "t")) ∷ ([], Unsupported (codes "bootcmd")) ∷ []
 unfolding told_of
 texts_not_followed = refl
@@ -91,6 +91,12 @@ filled_blocks : by_modern (codes "for i in aaaaaaaaaaaaaaaaaaaaa; do echo b; don
     ≡ (codes "b\n", End 0) ∷ ([], Unsupported (codes "i")) ∷ ([], Unsupported (codes "i")) ∷ (codes "b\n", End 0) ∷ []
 unfolding told_of
 filled_blocks = refl
+
+-- braces, `!`, and an `if` whose first condition has no command, which holds and keeps the status
+groups : by_modern (codes "{ echo a; false; } || echo b" ∷ codes "false; { x=$?; }; echo $?$x" ∷ codes "{ exit 3; echo a; }; echo $?" ∷ codes "! true && ! false; echo $?" ∷ codes "false; if; then echo $?; fi; if; then fi; echo $?" ∷ codes "false; if; then fi; echo $?" ∷ [])
+    ≡ (codes "a\nb\n", End 0) ∷ (codes "01\n", End 0) ∷ (codes "251\n", End 0) ∷ (codes "1\n", End 0) ∷ (codes "1\n0\n", End 0) ∷ (codes "1\n", End 0) ∷ []
+unfolding told_of
+groups = refl
 
 -- `exit` in no compound command ends the text that is running
 exits : by_modern (codes "echo a; exit 3; echo b" ∷ codes "true && exit 3 || echo b" ∷ codes "false || exit; echo b" ∷ codes "exit 1 2; echo $?" ∷ [])

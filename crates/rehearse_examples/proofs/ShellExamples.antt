@@ -1,10 +1,11 @@
 -- What the shells do otherwise, computed: each script by ubtool's own shell and by U-Boot's old one, which was asked.
-use Rattle.std.proofs.Common.{◌≡◌, List, [], ◌∷◌, None, codes, refl, map}
+use Rattle.std.proofs.Common.{◌≡◌, ℕ, List, [], ◌∷◌, ◌++◌, None, codes, refl, map, replicate}
 use Rattle.std.specs.Prelude.{zip}
+use Rattle.std.specs.List.{flat_map}
 use Rattle.rehearse_terms.specs.State.{Text}
 use Rattle.rehearse_terms.specs.declared.shell.Shell.{Shell}
 use Rattle.rehearse_terms.specs.declared.shell.Shell.TheVariants.{Profile, Old2023, Old2025}
-use Rattle.rehearse_rules.specs.Execution.{End, Syntax, Unsupported}
+use Rattle.rehearse_rules.specs.Execution.{End, Syntax, Unknown, Unsupported}
 use Rattle.rehearse_rules.proofs.ExampleRehearsals.{only_load, limits, bootcmd, bootcmd_among, z, listed, Told, told_of}
 
 -- what a text writes and how it ends in each shell
@@ -176,7 +177,13 @@ newer_exit_numbers : by_newer (codes "exit 2; echo a" ∷ codes "exit 255" ∷ c
 unfolding told_of
 newer_exit_numbers = refl
 
-newer_exits_not_followed : by_newer (codes "exit 256" ∷ codes "x=256; exit $x" ∷ codes "exit 4294967301" ∷ codes "if true; then exit 4294967295; fi" ∷ [])
+-- -1 in 32 bits is an error of usage
+newer_exits_by_usage : by_newer (codes "exit 4294967295; echo $?" ∷ codes "if true; then exit 0xffffffff; echo $?; fi" ∷ codes "exit 8589934591 || echo a" ∷ [])
+    ≡ (codes "1\n", End 0) ∷ (codes "1\n", End 0) ∷ (codes "a\n", End 0) ∷ []
+unfolding told_of
+newer_exits_by_usage = refl
+
+newer_exits_not_followed : by_newer (codes "exit 256" ∷ codes "x=256; exit $x" ∷ codes "exit 4294967301" ∷ codes "if true; then exit 4294967294; fi" ∷ [])
     ≡ ([], Unsupported (codes "exit")) ∷ ([], Unsupported (codes "exit")) ∷ ([], Unsupported (codes "exit")) ∷ ([], Unsupported (codes "exit")) ∷ []
 unfolding told_of
 newer_exits_not_followed = refl
@@ -230,8 +237,8 @@ other_option_of_setenv : in_each (codes "setenv -f -x b; echo $?; setenv -fx b c
 unfolding told_of
 other_option_of_setenv = refl
 
--- calls that are not followed: `setenv` with an option alone, an empty name, more than one file among the words of `test`, more than
--- 16 words
+-- calls that are not followed: `setenv` with an option alone, an empty name, more than one file among the words of `test`, and in
+-- 2023.01 more than 16 words
 option_alone : in_each (codes "echo a; setenv -f; echo $?") ≡ (codes "a\n1\n", End 0) ∷ (codes "a\n", Unsupported (codes "setenv")) ∷ (codes "a\n", Unsupported (codes "setenv")) ∷ []
 unfolding told_of
 option_alone = refl
@@ -245,9 +252,36 @@ unfolding told_of
 files_of_a_test = refl
 
 many_words : in_each (codes "echo 1 2 3 4 5 6 7 8 9 a b c d e f; echo 1 2 3 4 5 6 7 8 9 a b c d e f g") ≡ (codes "1 2 3 4 5 6 7 8 9 a b c d e f\n1 2 3 4 5 6 7 8 9 a b c d e f g\n", End 0)
-    ∷ (codes "1 2 3 4 5 6 7 8 9 a b c d e f\n", Unsupported (codes "echo")) ∷ (codes "1 2 3 4 5 6 7 8 9 a b c d e f\n", Unsupported (codes "echo")) ∷ []
+    ∷ (codes "1 2 3 4 5 6 7 8 9 a b c d e f\n", Unsupported (codes "echo")) ∷ (codes "1 2 3 4 5 6 7 8 9 a b c d e f\n1 2 3 4 5 6 7 8 9 a b c d e f g\n", End 0) ∷ []
 unfolding told_of
 many_words = refl
+
+-- in 2025.01 a call has at most 64 words: one with more has the status 1, and does nothing else
+abbrev some_words : ℕ → Text
+some_words count = flat_map {X = ℕ} (λ n. codes " a") (replicate count 0)
+
+most_words_of_a_call : map (λ text. in_shell text Old2025) ((codes "echo" ++ some_words 63 ++ codes "; echo $?") ∷ (codes "echo" ++ some_words 64 ++ codes "; echo $?") ∷ (codes "load" ++ some_words 64 ++ codes "; echo $?") ∷ (codes "setenv b" ++ some_words 63 ++ codes " || echo $b") ∷ [])
+    ≡ (codes "a" ++ some_words 62 ++ codes "\n0\n", End 0) ∷ (codes "1\n", End 0) ∷ (codes "1\n", End 0) ∷ (codes "\n", End 0) ∷ []
+unfolding told_of
+most_words_of_a_call = refl
+
+-- a variable without a value comes to its default
+defaults : map (λ text. in_shell text Old2023) (codes "echo ${a:-b c}; a=1; echo ${a:-b} ${a:+d} ${e:+f}; g=${h:-i}; echo $g" ∷ codes "for i in ${a:-b c}; do echo $i; done" ∷ [])
+    ≡ (codes "b c\n1 f\ni\n", End 0) ∷ (codes "b\nc\n", End 0) ∷ []
+unfolding told_of
+defaults = refl
+
+-- a first condition without a command holds, and keeps the status
+given : map (λ text. in_shell text Old2023) (codes "false; if; then echo $?; fi; echo $?" ∷ codes "if; then false; fi || echo a" ∷ [])
+    ≡ (codes "1\n0\n", End 0) ∷ (codes "a\n", End 0) ∷ []
+unfolding told_of
+given = refl
+
+-- a `for` whose name is none runs a command that no board has, if there is a word for it
+misnames : map (λ text. in_shell text Old2023) (codes "echo a; for 1 in b; do echo c; done" ∷ codes "for x-y in $none; do echo c; done; echo d" ∷ [])
+    ≡ (codes "a\n", Unknown (codes "1=")) ∷ (codes "d\n", End 0) ∷ []
+unfolding told_of
+misnames = refl
 
 -- a call of 16 words and fewer, and `setenv` with a name, are made
 plain_calls : in_each (codes "setenv a -f; test -e mmc 0:1; echo $a $?") ≡ (codes "-f 1\n", End 0) ∷ (codes "-f 0\n", End 0) ∷ (codes "-f 0\n", End 0) ∷ []
