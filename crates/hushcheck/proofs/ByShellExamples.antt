@@ -70,10 +70,10 @@ told_none = refl
 told_profile : told_by (Some Profile) ((0, Warns MixedList) ∷ (1, Warns Exit) ∷ (2, NotFollowed) ∷ (3, Lacks (codes "a")) ∷ []) ≡ (2, NotFollowed) ∷ (3, Lacks (codes "a")) ∷ []
 told_profile = refl
 
-told_2023 : told_by (Some Old2023) ((0, Warns MixedList) ∷ (1, Warns Exit) ∷ (2, Warns WordOfFor) ∷ (3, Warns OptionOfSetenv) ∷ (4, Warns FileTest) ∷ []) ≡ (3, Warns OptionOfSetenv) ∷ []
+told_2023 : told_by (Some Old2023) ((0, Warns MixedList) ∷ (1, Warns Exit) ∷ (2, Warns WordOfFor) ∷ (3, Warns OptionOfSetenv) ∷ (4, Warns FileTest) ∷ (5, Warns ManyWords) ∷ []) ≡ (3, Warns OptionOfSetenv) ∷ (5, Warns ManyWords) ∷ []
 told_2023 = refl
 
-told_2025 : told_by (Some Old2025) ((0, Warns MixedList) ∷ (1, Warns Exit) ∷ (2, Warns ManyWords) ∷ (3, Warns ReservedName) ∷ (4, Warns StraightBehind) ∷ []) ≡ (2, Warns ManyWords) ∷ (3, Warns ReservedName) ∷ (4, Warns StraightBehind) ∷ []
+told_2025 : told_by (Some Old2025) ((0, Warns MixedList) ∷ (1, Warns Exit) ∷ (2, Warns ManyWords) ∷ (3, Warns ReservedName) ∷ (4, Warns StraightBehind) ∷ []) ≡ (3, Warns ReservedName) ∷ (4, Warns StraightBehind) ∷ []
 told_2025 = refl
 
 told_modern : told_by (Some Modern2025) ((0, Warns MixedList) ∷ (1, Warns Exit) ∷ (2, Warns ManyWords) ∷ (3, Warns OptionOfSetenv) ∷ (4, Warns Parenthesis) ∷ []) ≡ (3, Warns OptionOfSetenv) ∷ (4, Warns Parenthesis) ∷ []

@@ -14,7 +14,7 @@ use Rattle.hushlang.specs.declared.tree.Script as code_script
 use Rattle.hushlang.specs.declared.token.SyntaxError.{SyntaxError}
 use Rattle.hushlang_shells.specs.TreesByShell.{TextRead, Runs, Fails, Panics, Unread, started_in}
 use Rattle.rehearse_terms.specs.declared.shell.Shell.{Shell}
-use Rattle.rehearse_terms.specs.declared.shell.Shell.TheVariants.{Profile, Old2023, Old2025, Modern2025}
+use Rattle.rehearse_terms.specs.declared.shell.Shell.TheVariants.{Profile}
 
 -- bytes before what follows, if that is known
 abbrev pub in_front : Text → Option Text → Option Text
@@ -88,9 +88,7 @@ script_run Unread = None
 abbrev pub uboot_script : Option Shell → Text → Option Script
 uboot_script None text = None
 uboot_script (Some Profile) text = None
-uboot_script (Some Old2023) text = script_run (started_in Old2023 text)
-uboot_script (Some Old2025) text = script_run (started_in Old2025 text)
-uboot_script (Some Modern2025) text = script_run (started_in Modern2025 text)
+uboot_script (Some shell) text = script_run (started_in shell text)
 
 abbrev pub or_uboot : Option Script → Result Script SyntaxError → Result Script SyntaxError
 or_uboot old (Ok script) = Ok script

@@ -8,13 +8,16 @@ use Rattle.hushcheck.specs.declared.warning.Warning.TheVariants.{ManyWords, NotF
 use Rattle.rehearse_terms.specs.declared.shell.Shell.{Shell}
 use Rattle.rehearse_terms.specs.declared.shell.Shell.TheVariants.{Profile, Old2023, Old2025, Modern2025}
 
--- what a rehearsal by an old shell of U-Boot does not follow
+-- what a rehearsal by an old shell of U-Boot does not follow, and that of 2023.01 beside it
 abbrev pub stops_old : Warning → Bool
 stops_old StraightBehind = true
 stops_old ReservedName = true
 stops_old OptionOfSetenv = true
-stops_old ManyWords = true
 stops_old warning = false
+
+abbrev pub stops_2023 : Warning → Bool
+stops_2023 ManyWords = true
+stops_2023 warning = stops_old warning
 
 -- what a rehearsal by U-Boot's modern shell does not follow
 abbrev pub stops_modern : Warning → Bool
@@ -29,7 +32,7 @@ stops_modern warning = false
 abbrev pub tells : Option Shell → Warning → Bool
 tells None warning = true
 tells (Some Profile) warning = false
-tells (Some Old2023) warning = stops_old warning
+tells (Some Old2023) warning = stops_2023 warning
 tells (Some Old2025) warning = stops_old warning
 tells (Some Modern2025) warning = stops_modern warning
 

@@ -97,7 +97,7 @@ pub(crate) fn warning_text(warning: Warning) -> &'static [u8]
         Warning::OptionOfSetenv => {
             b"warning: U-Boot's setenv takes this for an option, or sets an empty name"
         }
-        Warning::ManyWords => b"warning: a command has at most 16 words in U-Boot's old shell",
+        Warning::ManyWords => b"warning: a command has at most 16 words in U-Boot 2023.01",
         Warning::StatusInBraces => b"warning: ${?} is empty in U-Boot's old shell",
         Warning::OddName => b"warning: U-Boot's modern shell refuses this name in braces",
         Warning::SpecialParameter => {
