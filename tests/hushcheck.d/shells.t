@@ -28,10 +28,12 @@ what is not followed, by old
   exit; a=; ls && ls || ls; setenv -f a; for i in "$a"; do ls '\b'; done
                                    ^
 
-seventeen words and a file, by old
+seventeen words and a file, by old, and by that of 2023.01
   $ text 'ls 1 2 3 4 5 6 7 8 9 a b c d e f g; test ! -e mmc 0 a' --shell old
   bootcmd: ok
-  bootcmd:1:34: warning: a command has at most 16 words in U-Boot's old shell
+  $ text 'ls 1 2 3 4 5 6 7 8 9 a b c d e f g; test ! -e mmc 0 a' --shell old-2023.01
+  bootcmd: ok
+  bootcmd:1:34: warning: a command has at most 16 words in U-Boot 2023.01
   ls 1 2 3 4 5 6 7 8 9 a b c d e f g; test ! -e mmc 0 a
                                    ^
 

@@ -202,7 +202,7 @@ an option of setenv
 seventeen words
   $ text 'ls 1 2 3 4 5 6 7 8 9 a b c d e f g h'
   bootcmd: ok
-  bootcmd:1:34: warning: a command has at most 16 words in U-Boot's old shell
+  bootcmd:1:34: warning: a command has at most 16 words in U-Boot 2023.01
   ls 1 2 3 4 5 6 7 8 9 a b c d e f g h
                                    ^
 
