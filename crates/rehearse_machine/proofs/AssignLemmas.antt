@@ -20,7 +20,7 @@ use Rattle.rehearse_terms.specs.State.{with_value}
 use Rattle.rehearse_terms.specs.declared.shell.Shell.{Shell}
 use Rattle.rehearse_rules.specs.Parameters.{parameters_in}
 use Rattle.bootstore_state.specs.StoredState.{state_at}
-use Rattle.rehearse_rules.specs.Execution.{Limits, Size, CutSteps, assigned, assign_local, set_local, set_status}
+use Rattle.rehearse_rules.specs.Execution.{Limits, Size, CutSteps, assigned, assign_local, set_status}
 use Rattle.rehearse_rules.specs.declared.halt.Halt.TheVariants as halts
 use Rattle.rehearse_machine.specs.declared.ask.Step.{Step}
 use Rattle.rehearse_machine.specs.declared.ask.Step.TheVariants as steps

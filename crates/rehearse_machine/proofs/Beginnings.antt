@@ -1,6 +1,5 @@
 -- Commands that begin a step and expand words.
 use Rattle.std.proofs.Common.{ℕ, suc, Bool, true, false, List, ◌∷◌, Result, refl, sym, ap, subst, ◌∙◌, ◌≡◌, arith, nat_lt, nat_le, add-one}
-use Rattle.hushlang.specs.Tree as tree
 use Rattle.hushlang.specs.Expansion as expansion
 use Rattle.hushlang.specs.Expansion.{size, most_bytes}
 use Rattle.bootstore_state.specs.declared.store.StoreError.{StoreError}

@@ -1,12 +1,12 @@
 -- After the bound, nothing is begun.
-use Rattle.rehearse_rules.specs.ByShell.{fields_in, reads_again, turns_in}
+use Rattle.rehearse_rules.specs.ByShell.{fields_in, reads_again}
 use Rattle.std.proofs.Common.{ℕ, zero, suc, Bool, false, refl, ap, ◌∙◌, ◌≡◌, ◌≤◌, nat_lt, le-ltb}
 use Rattle.hushlang.specs.Tree as tree
 use Rattle.hushlang.specs.Tree.{Script, AndOr, Command, Arms, IsProperList, IsProperCommand, HoldsCommand}
 use Rattle.rehearse_terms.specs.State.{State}
 use Rattle.rehearse_rules.specs.Parameters.{parameters_in}
 use Rattle.rehearse_rules.proofs.CompoundLemmas.{compound_ended}
-use Rattle.rehearse_rules.specs.Execution.{Limits, Answer, Ended, CutSteps, begin, simple, sized, assign, turns, for_each, exec_script, exec_list, exec_command, exec_arms, for_words, for_begun, compound}
+use Rattle.rehearse_rules.specs.Execution.{Limits, Answer, Ended, CutSteps, begin, simple, sized, assign, turns, exec_script, exec_list, exec_command, exec_arms, for_words, for_begun, compound}
 
 module _ (limits : Limits) (left : ℕ) (text : Script → State → Answer) where
   pub Cut-begin : (s : State) (f : State → Answer) → limits.step_bound ≤ s.steps → begin limits f s ≡ Ended CutSteps s

@@ -15,7 +15,7 @@ use Rattle.hushlang.specs.Tree.{Script}
 use Rattle.rehearse_terms.specs.Outcomes.{OutcomeWord}
 use Rattle.rehearse_terms.specs.State.{Text, Variables, State, with_value, without}
 use Rattle.bootstore_state.specs.StoredState.{state_at}
-use Rattle.builtins.specs.Builtins.{Builtin, builtin_named, builtin_of}
+use Rattle.builtins.specs.Builtins.{Builtin, builtin_of}
 use Rattle.rehearse_rules.proofs.GivenRuns.{called_apart}
 use Rattle.device_list.specs.Called.{Called, BuiltIn, Device, NoCommand, listed_by, other_called, called_by}
 use Rattle.commands.specs.BuiltInCommands.{ChangesVariables, WritesText, Tests, carried, deed_of, setenv, variables_changed, text_written, decimal_from}

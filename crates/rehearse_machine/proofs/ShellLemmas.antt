@@ -1,8 +1,7 @@
 -- Blocks without a command, as the code has them.
-use Rattle.std.proofs.Common.{◌≡◌, ◌∙◌, ℕ, Bool, true, false, List, [], ◌∷◌, length, map, Option, Some, None, refl, sym, ap}
-use Rattle.std.specs.Prelude.{Vec, slice_get}
+use Rattle.std.proofs.Common.{◌≡◌, ◌∙◌, Bool, true, false, List, [], ◌∷◌, length, map, Some, None, refl, sym, ap}
+use Rattle.std.specs.Prelude.{slice_get}
 use Rattle.std.proofs.Math.Dec.{eqb, eqb-suc-zero}
-use Rattle.std.specs.declared.alloc.Global.{Global}
 use Rattle.hushlang.specs.Tree as tree
 use Rattle.hushlang.specs.Tree.{Script, Command, Joined}
 use Rattle.hushlang.specs.TreesShown as view

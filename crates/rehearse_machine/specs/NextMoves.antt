@@ -1,16 +1,14 @@
 -- What the innermost frame does next, as a value. Ours.
-use Rattle.rehearse_rules.specs.ByShell.{turns_in}
 use Rattle.std.specs.Prelude.{◌≡◌, ℕ, ◌+◌, ◌^◌, ◌<◌, List, ◌∷◌, map}
 use Rattle.hushlang.specs.Tree as tree
 use Rattle.hushlang.specs.TreesShown as view
 use Rattle.bootstore_state.specs.Moment.{RunningFrame}
 use Rattle.rehearse_terms.specs.State.{State}
 use Rattle.rehearse_terms.specs.declared.shell.Shell.{Shell}
-use Rattle.rehearse_rules.specs.Parameters.{parameters_in}
 use Rattle.rehearse_rules.specs.Execution.{Limits, set_status}
 use Rattle.rehearse_machine.specs.declared.next_move.Next.{Next}
 use Rattle.rehearse_machine.specs.declared.next_move.Next.TheVariants as nexts
-use Rattle.rehearse_machine.specs.Places.{PlaceNext, GoOn, moved_to, block_frame, place_command, place_counted, place_fitting, for_begins, for_move, run_move, command_at, list_at, place_for}
+use Rattle.rehearse_machine.specs.Places.{PlaceNext, GoOn, moved_to, block_frame, place_command, place_counted, for_move, run_move, command_at, list_at, place_for}
 
 -- what the frame f does next, over the frames below it
 abbrev pub continued : Limits → Next → RunningFrame → List RunningFrame → State → PlaceNext

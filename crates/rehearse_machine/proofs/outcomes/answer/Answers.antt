@@ -1,4 +1,4 @@
-use Rattle.std.proofs.Common.{refl, ap, sym, ◌∙◌, [], ◌∷◌, ◌≡◌, Bool, true, false, map, if◌then◌else◌}
+use Rattle.std.proofs.Common.{refl, ap, ◌∙◌, [], ◌∷◌, ◌≡◌, Bool, true, false, map, if◌then◌else◌}
 use Rattle.text.specs.TextsShown.{bytes_of_words}
 use Rattle.bootstore_state.proofs.TableLemmas.{clone_text}
 use Rattle.device_list.specs.Called.{sets_in}

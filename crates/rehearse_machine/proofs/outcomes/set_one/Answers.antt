@@ -1,6 +1,5 @@
-use Rattle.std.proofs.Common.{ℕ, List, Some, ap, sym, ◌∙◌}
+use Rattle.std.proofs.Common.{sym}
 use Rattle.text.specs.TextsShown.{bytes_of_words}
-use Rattle.bootstore_state.specs.Record.{changed, with_environment}
 use Rattle.device_list.specs.DevicesShown.{setting_shown}
 use Rattle.rehearse_machine.proofs.OutcomeLemmas.{sets_one}
 use Rattle.rehearse_machine.proofs.outcomes.set_one.Goals as goal

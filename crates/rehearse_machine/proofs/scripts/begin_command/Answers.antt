@@ -2,12 +2,10 @@ use Rattle.std.proofs.Common.{ap, ◌∙◌, List, sym, ℕ, map}
 use Rattle.hushlang.specs.TreesShown as view
 use Rattle.hushlang.specs.Tree as tree
 use Rattle.hushlang.specs.Tree.{Command}
-use Rattle.rehearse_rules.specs.ByShell.{turns_in}
 use Rattle.std.specs.Prelude.{Vec}
 use Rattle.std.specs.declared.alloc.Global.{Global}
 use Rattle.hushlang.specs.declared.tree.Word.{Word}
-use Rattle.rehearse_rules.specs.Parameters.{parameters_in}
-use Rattle.rehearse_machine.specs.Places.{place_arms, place_command, place_counted, place_fitting, for_begins, place_for}
+use Rattle.rehearse_machine.specs.Places.{place_arms, place_command, place_counted, place_for}
 use Rattle.rehearse_machine.proofs.ArmLemmas.{Arm}
 use Rattle.rehearse_machine.proofs.CommandLemmas.{says_if, says_loop, says_simple, says_assign, says_for}
 use Rattle.rehearse_machine.proofs.scripts.begin_command.Goals as goal

@@ -1,4 +1,4 @@
-use Rattle.std.proofs.Common.{None, option_map, ap, sym, subst, ◌∙◌, List, ℕ}
+use Rattle.std.proofs.Common.{None, option_map, ap, sym, ◌∙◌}
 use Rattle.builtins.specs.BuiltinsShown.{builtin_shown}
 use Rattle.hushlang.specs.TreesShown as view
 use Rattle.text.specs.TextsShown.{bytes_of_words}

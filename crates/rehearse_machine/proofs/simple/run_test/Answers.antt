@@ -1,4 +1,4 @@
-use Rattle.std.proofs.Common.{sym, ap, ◌∙◌, refl, Bool, [], false}
+use Rattle.std.proofs.Common.{sym, ap, ◌∙◌, refl}
 use Rattle.text.specs.TextsShown.{bytes_of_words}
 use Rattle.commands.specs.BuiltInCommands as says
 use Rattle.device_list.specs.Called as called
