@@ -2,9 +2,11 @@
 ghost use Rattle.std.specs.Prelude.{◌≡◌, ◌≢◌, ◌+◌, ◌*◌, ◌≤◌, ◌<◌, ◌^◌, true, false, List, [], ◌∷◌, length, map, IfOk, IfErr, OnOk};
 ghost use Rattle.rehearse_terms.specs.Bounds.{most_steps};
 ghost use Rattle.rehearse_terms.specs.Outcomes.{OutcomeWord};
+ghost use Rattle.rehearse_machine.specs.Came.{settled};
 ghost use Rattle.rehearse_machine.specs.Machine.{IsAsking, Stops, asked_at, outcome_when};
 ghost use Rattle.rehearse_machine.specs.Tasks.{task_in};
 ghost use Rattle.rehearse_machine.specs.StoppedTexts.{StoppedAt};
+ghost use Rattle.rehearse_rules.specs.Runs.{run_on};
 ghost use Rattle.rehearse_states.specs.RowsShown.{rows_shown, saturated, summary_shown};
 ghost use Rattle.rehearse_states.specs.Endings.{endings};
 ghost use Rattle.rehearse_reports.specs.Following.{IsReportedFor};
@@ -120,6 +122,22 @@ fn resumed<S: Store>(
         return Err(SumError::Steps);
     }
     Ok(stop)
+}
+
+/// Begins the text, and goes on until it stops. Errors: `Memory`.
+fn begin_text<S: Store>(rehearsal: &Rehearsal<'_>, store: &mut S) -> Result<Stop, SumError>
+    requires { (S.record_of store.old).begun + most_steps + 1 < 2 ^ 64 }
+    ensures stops { IfOk result
+        (λ stop. Stops (task_in rehearsal.now).limits stop
+        (λ w. settled (run_on (task_in rehearsal.now) w)) (S.record_of store.new).present) }
+    ensures begun { OnOk result
+        ((S.record_of store.new).begun ≡ (S.record_of store.old).begun +
+        (S.record_of store.new).present.steps) }
+    ensures within { OnOk result ((S.record_of store.new).present.steps ≤ most_steps) }
+    ensures err { IfErr result (λ e. (e ≢ States) × (e ≢ Steps)) }
+{
+    let stopped = begin(rehearsal, store)?;
+    Ok(stopped.stop())
 }
 
 /// What is to come of a text that has stopped: the summary, and keys that are enough for it. States that
@@ -269,7 +287,7 @@ pub fn sum_endings<S: Store>(
     ensures costly { IfErr result (λ e. e ≡ Steps
         → ComesToSteps (map (λ n. n.now) names.now) (task_in rehearsal.now) most_work) }
 {
-    let stop = begin(rehearsal, store)?;
+    let stop = begin_text(rehearsal, store)?;
     if is_spent(store, most_work) {
         return Err(SumError::Steps);
     }

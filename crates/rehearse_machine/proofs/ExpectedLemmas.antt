@@ -2,7 +2,6 @@
 use Rattle.std.proofs.Common.{refl, ◌≡◌, ◌∙◌, sym, ap, subst, Bool, true, false, not, List, [], ◌∷◌, ◌++◌, nat_eq}
 use Rattle.hushlang.specs.Tree.{Script}
 use Rattle.bootstore_state.specs.Moment.{Moment}
-use Rattle.bootstore_state.specs.Record.{Record}
 use Rattle.bootstore_state.specs.StoredState.{state_at}
 use Rattle.device_list.specs.DeviceList.{fails_normally}
 use Rattle.device_list.specs.declared.finish.BoardEnd.{BoardEnd}
@@ -21,7 +20,7 @@ use Rattle.rehearse_machine.specs.Frames.{Frame, Lists, Linked, IfCondition, Loo
 use Rattle.rehearse_machine.specs.Places.{PlaceNext, next_of, frames_of}
 use Rattle.rehearse_machine.specs.Meaning.{first_or_next, full, script, joined_of, arms_of, again, resume, continue, comes_to}
 use Rattle.rehearse_machine.specs.Machine.{Asking, IsAsking, asked_at}
-use Rattle.rehearse_machine.specs.Expecting.{Expects, StillAsks, call_of}
+use Rattle.rehearse_machine.specs.Expecting.{Expects, call_of}
 use Rattle.rehearse_machine.specs.StoppedTexts.{StoppedAt}
 use Rattle.rehearse_machine.specs.declared.rehearsal.Stop.TheVariants.{Asks}
 use Rattle.rehearse_machine.proofs.AskingCommandLemmas.{asks_anew}
@@ -144,8 +143,3 @@ expected_there task p m success stopped expects =
     twice : (b : Bool) → IsExpected task p (outcome_when (not b)) (outcome_when b) → IsExpected task p (outcome_when (not b)) (outcome_when (not (not b)))
     twice true h = h
     twice false h = h
-
--- ---- a command that still asks
-
-pub still_stopped : (task : Task) (p : OutcomeWord) (old new : Record) → StoppedAt task p Asks old.present → StillAsks task.limits old new → StoppedAt task p Asks new.present
-still_stopped task p old new h still = (still.asks, λ w. h.1 w ∙ sym (still.comes w), h.2 ∙ ap Wants (sym still.state))

@@ -24,8 +24,8 @@ use Rattle.rehearse_machine.specs.Came.{Came}
 use Rattle.rehearse_machine.specs.Meaning.{comes_to, IsProperNext, AreProperFrames}
 use Rattle.rehearse_machine.specs.MovesShown.{next_shown, request_shown, Keeps, Does, Comes}
 use Rattle.rehearse_machine.specs.Turning.{to_come, step_comes, IsSoundStep, Drives}
-use Rattle.rehearse_machine.specs.Expecting.{StillAsks, Expected, call_of}
-use Rattle.rehearse_machine.specs.Machine.{Asking, AsksNone, IsAsking, TakesOutcome, asked_at, Stops}
+use Rattle.rehearse_machine.specs.Expecting.{Expects, call_of}
+use Rattle.rehearse_machine.specs.Machine.{Asking, AsksNone, IsAsked, IsAsking, TakesOutcome, asked_at, Stops}
 use Rattle.rehearse_machine.proofs.MoveMeaning.{continue-dry}
 use Rattle.rehearse_machine.proofs.PlaceMoves.{place_answered-is}
 use Rattle.rehearse_machine.proofs.RunSoFar.{answered-is}
@@ -40,6 +40,11 @@ module _ (limits : Limits) (old new : Record) where
       let d : Drives limits (steps.Asks ask) old new = subst (λ (x : Step). Drives limits x old new) is drives in
       let asking : Asking limits new.present = record { request = request_shown ask; again = d.again; sound = d.sound; within = d.within } in
       (asking, λ w. sym (d.means w) ∙ ap (λ (x : PlaceNext). comes_to limits w (next_of x)) (sym (d.again w)), sym (d.means []) ∙ continue-dry limits (frames_of new.present.frames) (state_at new.present []))
+
+  -- and it is the one that was found
+  pub stops_asked : (ask : Ask) (step : Step) → step ≡ steps.Asks ask → Drives limits step old new → IsAsked limits (request_shown ask) new.present
+  unfolding IsAsked
+  stops_asked ask step is drives = let d : Drives limits (steps.Asks ask) old new = subst (λ (x : Step). Drives limits x old new) is drives in d.again
 
   -- the run has ended
   pub stops_ended : (halt : Halt) (step : Step) → step ≡ steps.Ends halt → Drives limits step old new → Stops limits (Ends halt) (to_come limits old.present) new.present
@@ -120,60 +125,6 @@ module _ (limits : Limits) (old mid : Record) (step : Step) (asking : IsAsking l
   pub never_found : ((ask : Ask) → step ≡ steps.Asks ask → ⊥) → ⊥
   never_found other = never_other step refl other
 
-  -- the same command still asks
-  module _ (ask : Ask) (is : step ≡ steps.Asks ask) where
-    found_so : (w : OutcomeWord) → AskOn (request_shown ask) mid.present.frames (state_at mid.present w) ≡ AskOn asking_at.request old.present.frames (state_at old.present w)
-    found_so w = sym (ap (λ (x : Step). next_shown x mid.present w) is) ∙ found w
-
-    found_request : request_shown ask ≡ asking_at.request
-    found_request = let e = found_so [] in cc
-
-    found_frames : mid.present.frames ≡ old.present.frames
-    found_frames = let e = found_so [] in cc
-
-    found_state : (w : OutcomeWord) → state_at mid.present w ≡ state_at old.present w
-    found_state w = let e = found_so w in cc
-
-    again_here : (w : OutcomeWord) → found_again limits mid.present.frames (state_at mid.present w) ≡ found_again limits old.present.frames (state_at old.present w)
-    again_here w = ap (λ (ps : List RunningFrame). found_again limits ps (state_at mid.present w)) found_frames ∙ ap (found_again limits old.present.frames) (found_state w)
-
-    asking_here : Asking limits mid.present
-    asking_here = record {
-      request = request_shown ask;
-      again = λ w. again_here w ∙ asking_at.again w ∙ sym (found_so w);
-      sound = subst (λ (ps : List RunningFrame). AreProperFrames (frames_of ps)) (sym found_frames) asking_at.sound;
-      within = subst (λ (s : State). s.steps ≤ limits.step_bound) (sym (found_state [])) asking_at.within;
-    }
-
-    still_asking : IsAsking limits mid.present
-    unfolding IsAsking
-    still_asking = asking_here
-
-    still_comes : (w : OutcomeWord) → asked_at limits mid.present w ≡ asked_at limits old.present w
-    unfolding asked_at
-    still_comes w = ap (λ (x : PlaceNext). comes_to limits w (next_of x)) (again_here w)
-
-    pub still_asks : StillAsks limits old mid
-    still_asks = record {
-      asks = still_asking;
-      comes = still_comes;
-      state = found_state [];
-      marked = finds.1.marked;
-      begun = let b = finds.1.begun in let c : mid.present.steps ≡ old.present.steps = ap (λ (s : State). s.steps) (found_state []) in omega arith;
-    }
-
-    -- and has these words
-    pub has_words : (asking : Asking limits mid.present) → asking.request ≡ request_shown ask
-    unfolding asking_here
-    has_words other = let e : AskOn other.request mid.present.frames (state_at mid.present []) ≡ AskOn (request_shown ask) mid.present.frames (state_at mid.present []) = sym (other.again []) ∙ asking_here.again [] in cc
-
-  pub is_expected : (ask : Ask) → step ≡ steps.Asks ask → (r : Result Bool StoreError) → IfOk r (λ success. success ≡ not (fails_normally limits.devices (call_of (request_shown ask)))) → IfOk r (Expected limits old mid)
-  is_expected ask is (Ok success) e = record {
-    still = still_asks ask is;
-    expects = λ asking. e ∙ ap (λ (request : Request). not (fails_normally limits.devices (call_of request))) (sym (has_words ask is asking));
-  }
-  is_expected ask is (Err x) e = tt
-
   -- and takes an outcome
   module _ (ask : Ask) (is : step ≡ steps.Asks ask) (outcome : Outcome) (new : Record) (next : Step) (does : Does next mid new (place_answered outcome (request_shown ask) mid.present.frames)) where
     asks_so : (w : OutcomeWord) → AskOn (request_shown ask) mid.present.frames (state_at mid.present w) ≡ AskOn asking_at.request old.present.frames (state_at old.present w)
@@ -248,20 +199,33 @@ module _ (limits : Limits) (old mid : Record) (step : Step) (asking : IsAsking l
   takes_outcome ask is outcome new (Ok next) does = outcome_taken ask is outcome new next does
   takes_outcome ask is outcome new (Err x) does = tt
 
+-- the command that asks takes an outcome
+pub asked_takes : (limits : Limits) (old new : Record) (ask : Ask) (outcome : Outcome) (r : Result Step StoreError) → IsAsking limits old.present → IsAsked limits (request_shown ask) old.present → Comes r old new (place_answered outcome (request_shown ask) old.present.frames) → IfOk r (TakesOutcome limits outcome old new)
+unfolding IsAsked
+asked_takes limits old new ask outcome (Err x) asks asked does = tt
+asked_takes limits old new ask outcome (Ok next) asks asked does = outcome_taken limits old old (steps.Asks ask) asks (λ w. sym (asked w), record { marked = refl; begun = refl }) ask refl outcome new next does
+
+-- what is expected of it
+pub expects_of : (limits : Limits) (m : Moment) (request : Request) (success : Bool) → IsAsked limits request m → success ≡ not (fails_normally limits.devices (call_of request)) → Expects limits m success
+unfolding IsAsked
+expects_of limits m request success asked e asking =
+    let same : request ≡ asking.request = (let f : AskOn request m.frames (state_at m []) ≡ AskOn asking.request m.frames (state_at m []) = sym (asked []) ∙ asking.again [] in cc) in
+    e ∙ ap (λ (r : Request). not (fails_normally limits.devices (call_of r))) same
+
 -- ---- a text that went on
 
-pub all_stop_as : (r : Result Stop StoreError) (limits : Limits) (f g : OutcomeWord → Came) (new : Record) → ((w : OutcomeWord) → g w ≡ f w) → IfOk r (λ stop. Stops limits stop f new.present) → IfOk r (λ stop. Stops limits stop g new.present)
-all_stop_as (Ok stop) limits f g new e h = stops_as limits stop f g new.present e h
-all_stop_as (Err x) limits f g new e h = h
+pub all_stop_as : {A : Type 0} (stop_of : A → Stop) (r : Result A StoreError) (limits : Limits) (f g : OutcomeWord → Came) (new : Record) → ((w : OutcomeWord) → g w ≡ f w) → IfOk r (λ stopped. Stops limits (stop_of stopped) f new.present) → IfOk r (λ stopped. Stops limits (stop_of stopped) g new.present)
+all_stop_as stop_of (Ok stopped) limits f g new e h = stops_as limits (stop_of stopped) f g new.present e h
+all_stop_as stop_of (Err x) limits f g new e h = h
 
-pub marks_on : (r : Result Stop StoreError) (old mid new : Record) → mid.marked ≡ old.marked → OnOk r (Keeps mid new) → OnOk r (new.marked ≡ old.marked)
+pub marks_on : {A : Type 0} (r : Result A StoreError) (old mid new : Record) → mid.marked ≡ old.marked → OnOk r (Keeps mid new) → OnOk r (new.marked ≡ old.marked)
 marks_on (Ok stop) old mid new e h = h.marked ∙ e
 marks_on (Err x) old mid new e h = h
 
-pub begun_on : (r : Result Stop StoreError) (old mid new : Record) → mid.begun ≡ old.begun → mid.present.steps ≡ old.present.steps → OnOk r (Keeps mid new) → OnOk r (new.begun + old.present.steps ≡ old.begun + new.present.steps)
+pub begun_on : {A : Type 0} (r : Result A StoreError) (old mid new : Record) → mid.begun ≡ old.begun → mid.present.steps ≡ old.present.steps → OnOk r (Keeps mid new) → OnOk r (new.begun + old.present.steps ≡ old.begun + new.present.steps)
 begun_on (Ok stop) old mid new a b h = let k = h.begun in omega arith
 begun_on (Err x) old mid new a b h = h
 
-pub grows_on : (r : Result Stop StoreError) (old mid new : Record) → mid.present.steps ≡ old.present.steps → OnOk r (mid.present.steps ≤ new.present.steps) → OnOk r (old.present.steps ≤ new.present.steps)
+pub grows_on : {A : Type 0} (r : Result A StoreError) (old mid new : Record) → mid.present.steps ≡ old.present.steps → OnOk r (mid.present.steps ≤ new.present.steps) → OnOk r (old.present.steps ≤ new.present.steps)
 grows_on (Ok stop) old mid new e h = omega arith
 grows_on (Err x) old mid new e h = h

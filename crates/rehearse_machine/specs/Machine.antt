@@ -12,10 +12,13 @@ use Rattle.rehearse_machine.specs.Came.{Came, Over, Wants}
 use Rattle.rehearse_machine.specs.Meaning.{comes_to}
 use Rattle.rehearse_machine.specs.Turning.{IsSound, IsSoundStep, step_comes}
 use Rattle.rehearse_rules.specs.EndingsShown.{halt_shown}
+use Rattle.rehearse_machine.specs.MovesShown.{request_shown}
 use Rattle.rehearse_machine.specs.declared.ask.Step.{Step}
 use Rattle.rehearse_machine.specs.declared.ask.Step.TheVariants as steps
 use Rattle.rehearse_machine.specs.declared.rehearsal.Stop.{Stop}
 use Rattle.rehearse_machine.specs.declared.rehearsal.Stop.TheVariants.{Asks, Ends}
+use Rattle.rehearse_machine.specs.declared.rehearsal.Stopped.{Stopped}
+use Rattle.rehearse_machine.specs.declared.rehearsal.Stopped.TheVariants as stopped
 
 -- what a moment at which a device command asks comes to with the outcomes of a word
 unfoldable pub asked_at : Limits → Moment → OutcomeWord → Came
@@ -54,3 +57,17 @@ abbrev pub Stops : Limits → Stop → (f : OutcomeWord → Came) → Moment →
 Stops limits Asks f m =
     IsAsking limits m × ((w : OutcomeWord) → f w ≡ asked_at limits m w) × (f [] ≡ Wants (state_at m []))
 Stops limits (Ends halt) f m = (w : OutcomeWord) → f w ≡ Over (halt_shown halt) (state_at m w)
+
+-- the device command that asks at a moment is this one
+unfoldable pub IsAsked : Limits → Request → Moment → Type 0
+IsAsked limits request m = (w : OutcomeWord) → found_again limits m.frames (state_at m w) ≡ AskOn request m.frames (state_at m w)
+
+-- where a text has stopped, without the command that asks
+abbrev pub stop_of : Stopped → Stop
+stop_of (stopped.Asks ask) = Asks
+stop_of (stopped.Ends halt) = Ends halt
+
+-- and the command is the one that asks there
+abbrev pub HasAsk : Limits → Stopped → Moment → Type 0
+HasAsk limits (stopped.Asks ask) m = IsAsked limits (request_shown ask) m
+HasAsk limits (stopped.Ends halt) m = Unit {0}

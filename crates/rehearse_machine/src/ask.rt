@@ -1,7 +1,12 @@
 //! The result of one move of the machine.
+ghost use Rattle.std.specs.Prelude.{◌≡◌, IfOk};
+ghost use Rattle.rehearse_machine.specs.MovesShown.{request_shown};
 
+use bootstore_state::StoreError;
 use device_list::Effect;
 use rehearse_rules::Halt;
+use std::alloc::Global;
+use text::copied_words;
 
 /// The status of a command that was asked, by its outcome.
 #[derive(Clone, Copy)]
@@ -25,6 +30,23 @@ pub struct Ask<'a> {
     pub again: bool,
     /// Its status.
     pub statuses: Statuses,
+}
+
+impl<'a> Ask<'a> {
+    /// A copy. Errors: `Memory`.
+    pub fn copy(&self, alloc: Global) -> Result<Ask<'a>, StoreError>
+        ensures { IfOk result (λ ask. request_shown ask ≡ request_shown self.now) }
+    {
+        let name = Vec::from_slice(alloc, &self.name)?;
+        let words = copied_words(alloc, &self.words)?;
+        Ok(Ask {
+            name,
+            words,
+            effect: self.effect,
+            again: self.again,
+            statuses: self.statuses,
+        })
+    }
 }
 
 /// The result of a move.

@@ -1,42 +1,24 @@
 //! What is expected of the device command that asks.
-ghost use Rattle.std.specs.Prelude.{◌≡◌, ◌∷◌, ◌&&◌, not, IfOk};
+ghost use Rattle.std.specs.Prelude.{◌≡◌, ◌&&◌, not, IfOk};
 ghost use Rattle.device_list.specs.DeviceList.{fails_normally};
-ghost use Rattle.text.specs.TextsShown.{bytes_of_words};
-ghost use Rattle.rehearse_machine.specs.Expecting.{Expected};
+ghost use Rattle.rehearse_machine.specs.Expecting.{call_of};
+ghost use Rattle.rehearse_machine.specs.MovesShown.{request_shown};
 ghost use Rattle.rehearse_rules.specs.Expected.{is_unexpected};
-ghost use Rattle.rehearse_machine.specs.Machine.{IsAsking};
-ghost use Rattle.rehearse_machine.specs.Tasks.{task_in};
 
-use crate::ask::Step;
-use crate::asking::find_again;
-use crate::rehearsal::Rehearsal;
-use bootstore_state::{LogEntry, Store, StoreError};
+use crate::ask::Ask;
+use bootstore_state::{LogEntry, StoreError};
 use device_list::Devices;
+use std::alloc::Global;
+use text::copied_words;
 
-/// Whether a success is expected of a device command.
-fn expects(devices: &Devices, name: Vec<u8>, words: Vec<Vec<u8>>) -> Result<bool, StoreError>
-    ensures { IfOk result (λ success. success ≡ not (fails_normally devices.now
-        (name.items ∷ bytes_of_words words.items))) }
+/// Whether a success is expected of a device command that asks. Errors: `Memory`.
+pub fn expected_success(alloc: Global, devices: &Devices, ask: &Ask<'_>) -> Result<bool, StoreError>
+    ensures { IfOk result (λ success. success
+        ≡ not (fails_normally devices.now (call_of (request_shown ask.now)))) }
 {
-    let mut call = words;
-    call.insert(0, name)?;
+    let mut call = copied_words(alloc, &ask.words)?;
+    call.insert(0, ask.name.clone()?)?;
     Ok(!devices.fails_normally(&call))
-}
-
-/// Whether a success is expected of the device command that asks. Errors: `Memory`.
-pub fn expected_success<S: Store>(
-    rehearsal: &Rehearsal<'_>,
-    store: &mut S,
-) -> Result<bool, StoreError>
-    requires { IsAsking (task_in rehearsal.now).limits (S.record_of store.old).present }
-    ensures { IfOk result (λ success. Expected (task_in rehearsal.now).limits
-        (S.record_of store.old) (S.record_of store.new) success) }
-{
-    let found = find_again(rehearsal.alloc, store, rehearsal.devices, rehearsal.bounds)?;
-    let Step::Asks(ask) = found else {
-        unreachable!();
-    };
-    expects(rehearsal.devices, ask.name, ask.words)
 }
 
 /// Whether a device command took an outcome that is not the expected one.

@@ -37,6 +37,6 @@ pub use list_commands::command_of;
 pub use machine::step;
 pub use outcomes::{answer, value_of, variable_of};
 pub use plain_call::{ShellCall, call_in};
-pub use rehearsal::{Rehearsal, Stop, begin, resume};
+pub use rehearsal::{Rehearsal, Stop, Stopped, begin, resume};
 pub use source::Source;
 pub use steps::{assigned_value, expanded};

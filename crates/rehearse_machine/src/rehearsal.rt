@@ -4,13 +4,12 @@ ghost use Rattle.std.specs.FinMap.{get};
 ghost use Rattle.rehearse_terms.specs.Bounds.{most_steps};
 ghost use Rattle.rehearse_rules.specs.Runs.{run_on};
 ghost use Rattle.rehearse_machine.specs.Came.{settled};
-ghost use Rattle.rehearse_machine.specs.MovesShown.{Keeps, limits_of};
+ghost use Rattle.rehearse_machine.specs.MovesShown.{Keeps, limits_of, request_shown};
 ghost use Rattle.rehearse_machine.specs.Turning.{IsSound, to_come};
-ghost use Rattle.rehearse_machine.specs.Machine.{Stops, IsAsking, TakesOutcome, asked_at, outcome_when};
+ghost use Rattle.rehearse_machine.specs.Machine.{HasAsk, IsAsked, IsAsking, Stops, TakesOutcome, asked_at, outcome_when, stop_of};
 ghost use Rattle.rehearse_machine.specs.Tasks.{source_shown, task_in, text_by};
 
-use crate::ask::Step;
-use crate::asking::find_again;
+use crate::ask::{Ask, Step};
 use crate::by_shell::unread;
 use crate::frames::text;
 use crate::machine::drive;
@@ -33,6 +32,27 @@ pub enum Stop {
     Asks,
     /// The run has ended.
     Ends(Halt),
+}
+
+/// Where a text has stopped.
+#[derive(Drop)]
+pub enum Stopped<'a> {
+    /// This device command asks for an outcome.
+    Asks(Ask<'a>),
+    /// The run has ended.
+    Ends(Halt),
+}
+
+impl<'a> Stopped<'a> {
+    /// The same without the command.
+    pub fn stop(self) -> Stop
+        ensures { result ≡ stop_of self.entry }
+    {
+        match self {
+            Stopped::Asks(_) => Stop::Asks,
+            Stopped::Ends(halt) => Stop::Ends(halt),
+        }
+    }
 }
 
 /// What a rehearsal borrows.
@@ -83,14 +103,17 @@ impl<'a> Rehearsal<'a> {
 }
 
 /// Goes on until a device command asks, or the run ends.
-fn go_on<S: Store>(rehearsal: &Rehearsal<'_>, store: &mut S) -> Result<Stop, StoreError>
+fn go_on<'a, S: Store>(rehearsal: &Rehearsal<'a>, store: &mut S) -> Result<Stopped<'a>, StoreError>
     requires sound { IsSound (S.record_of store.old).present }
     requires steps { (S.record_of store.old).present.steps ≤ rehearsal.now.bounds.steps }
     requires begun { (S.record_of store.old).begun + rehearsal.now.bounds.steps + 1 < 2 ^ 64 }
     ensures stops { IfOk result
-        (λ stop. Stops (limits_of rehearsal.now.devices.now rehearsal.now.bounds) stop
-        (to_come (limits_of rehearsal.now.devices.now rehearsal.now.bounds)
+        (λ stopped. Stops (limits_of rehearsal.now.devices.now rehearsal.now.bounds)
+        (stop_of stopped) (to_come (limits_of rehearsal.now.devices.now rehearsal.now.bounds)
         (S.record_of store.old).present) (S.record_of store.new).present) }
+    ensures asks { IfOk result
+        (λ stopped. HasAsk (limits_of rehearsal.now.devices.now rehearsal.now.bounds) stopped
+        (S.record_of store.new).present) }
     ensures kept { OnOk result (Keeps (S.record_of store.old) (S.record_of store.new)) }
     ensures within { OnOk result
         ((S.record_of store.new).present.steps ≤ rehearsal.now.bounds.steps) }
@@ -106,8 +129,8 @@ fn go_on<S: Store>(rehearsal: &Rehearsal<'_>, store: &mut S) -> Result<Stop, Sto
         rehearsal.bounds,
     )? {
         Step::Going => unreachable!(),
-        Step::Asks(_) => Ok(Stop::Asks),
-        Step::Ends(halt) => Ok(Stop::Ends(halt)),
+        Step::Asks(ask) => Ok(Stopped::Asks(ask)),
+        Step::Ends(halt) => Ok(Stopped::Ends(halt)),
     }
 }
 
@@ -127,11 +150,17 @@ fn text_of<'s, S: Store>(store: &'s S, source: Source<'s>) -> &'s [u8]
 
 /// Starts the text that is given, or else that of the variable, and goes on until a device command
 /// asks, or the run ends. A variable that is not set is run as the empty text. Errors: `Memory`.
-pub fn begin<S: Store>(rehearsal: &Rehearsal<'_>, store: &mut S) -> Result<Stop, StoreError>
+pub fn begin<'a, S: Store>(
+    rehearsal: &Rehearsal<'a>,
+    store: &mut S,
+) -> Result<Stopped<'a>, StoreError>
     requires { (S.record_of store.old).begun + most_steps + 1 < 2 ^ 64 }
     ensures stops { IfOk result
-        (λ stop. Stops (task_in rehearsal.now).limits stop
+        (λ stopped. Stops (task_in rehearsal.now).limits (stop_of stopped)
         (λ w. settled (run_on (task_in rehearsal.now) w)) (S.record_of store.new).present) }
+    ensures asks { IfOk result
+        (λ stopped. HasAsk (task_in rehearsal.now).limits stopped
+        (S.record_of store.new).present) }
     ensures marks { OnOk result ((S.record_of store.new).marked ≡ []) }
     ensures begun { OnOk result
         ((S.record_of store.new).begun ≡ (S.record_of store.old).begun +
@@ -149,50 +178,55 @@ pub fn begin<S: Store>(rehearsal: &Rehearsal<'_>, store: &mut S) -> Result<Stop,
         }
         TextRead::Fails => {
             store.set_status(1)?;
-            Ok(Stop::Ends(Halt::End(1)))
+            Ok(Stopped::Ends(Halt::End(1)))
         }
         TextRead::Panics => {
             let name = Vec::from_slice(rehearsal.alloc, rehearsal.source.name)?;
-            Ok(Stop::Ends(Halt::Panic(name)))
+            Ok(Stopped::Ends(Halt::Panic(name)))
         }
         TextRead::Unread => {
             let name = Vec::from_slice(rehearsal.alloc, rehearsal.source.name)?;
-            Ok(Stop::Ends(unread(shell, name)))
+            Ok(Stopped::Ends(unread(shell, name)))
         }
     }
 }
 
 /// Gives the device command that asks an outcome. Errors: `Memory`.
 fn give_outcome<'a, S: Store>(
-    rehearsal: &Rehearsal<'a>,
+    _rehearsal: &Rehearsal<'a>,
     store: &mut S,
+    ask: Ask<'a>,
     success: bool,
 ) -> Result<Step<'a>, StoreError>
-    requires { IsAsking (task_in rehearsal.now).limits (S.record_of store.old).present }
+    requires asks { IsAsking (task_in _rehearsal.now).limits (S.record_of store.old).present }
+    requires this { IsAsked (task_in _rehearsal.now).limits (request_shown ask)
+        (S.record_of store.old).present }
     ensures { IfOk result
-        (λ step. TakesOutcome (task_in rehearsal.now).limits (outcome_when success)
+        (λ step. TakesOutcome (task_in _rehearsal.now).limits (outcome_when success)
         (S.record_of store.old) (S.record_of store.new) step) }
 {
-    let found = find_again(rehearsal.alloc, store, rehearsal.devices, rehearsal.bounds)?;
-    let Step::Asks(ask) = found else {
-        unreachable!();
-    };
     answer(store, ask, success)
 }
 
 /// Gives the device command that asks an outcome, and goes on until the next one asks, or the run
 /// ends. Errors: `Memory`.
-pub fn resume<S: Store>(
-    rehearsal: &Rehearsal<'_>,
+pub fn resume<'a, S: Store>(
+    rehearsal: &Rehearsal<'a>,
     store: &mut S,
+    ask: Ask<'a>,
     success: bool,
-) -> Result<Stop, StoreError>
+) -> Result<Stopped<'a>, StoreError>
     requires asks { IsAsking (task_in rehearsal.now).limits (S.record_of store.old).present }
+    requires this { IsAsked (task_in rehearsal.now).limits (request_shown ask)
+        (S.record_of store.old).present }
     requires begun { (S.record_of store.old).begun + most_steps + 1 < 2 ^ 64 }
     ensures stops { IfOk result
-        (λ stop. Stops (task_in rehearsal.now).limits stop
+        (λ stopped. Stops (task_in rehearsal.now).limits (stop_of stopped)
         (λ w. asked_at (task_in rehearsal.now).limits (S.record_of store.old).present
         (outcome_when success ∷ w)) (S.record_of store.new).present) }
+    ensures asks { IfOk result
+        (λ stopped. HasAsk (task_in rehearsal.now).limits stopped
+        (S.record_of store.new).present) }
     ensures marks { OnOk result ((S.record_of store.new).marked ≡ (S.record_of store.old).marked) }
     ensures begun { OnOk result
         ((S.record_of store.new).begun + (S.record_of store.old).present.steps
@@ -202,9 +236,9 @@ pub fn resume<S: Store>(
         ((S.record_of store.old).present.steps ≤ (S.record_of store.new).present.steps) }
 {
     let _bound = rehearsal.bounds.steps();
-    match give_outcome(rehearsal, store, success)? {
+    match give_outcome(rehearsal, store, ask, success)? {
         Step::Going => go_on(rehearsal, store),
         Step::Asks(_) => unreachable!(),
-        Step::Ends(halt) => Ok(Stop::Ends(halt)),
+        Step::Ends(halt) => Ok(Stopped::Ends(halt)),
     }
 }

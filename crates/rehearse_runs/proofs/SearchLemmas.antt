@@ -1,11 +1,11 @@
 -- The search for the next run, over the words of runs.
-use Rattle.std.proofs.Common.{◌≡◌, ℕ, zero, suc, ◌+◌, cond, ◌<◌, ◌≤◌, Bool, true, false, List, [], ◌∷◌, ◌++◌, length, map, Option, Some, None, option_map, pred, refl, sym, ap, subst, ◌∙◌, append_assoc, append-nil, arith, Result, Ok, Err, not, ◌&&◌, take, length-append}
+use Rattle.std.proofs.Common.{◌≡◌, ℕ, zero, suc, ◌+◌, cond, ◌<◌, ◌≤◌, Bool, true, false, List, [], ◌∷◌, ◌++◌, length, map, Option, Some, None, option_map, pred, refl, sym, ap, subst, ◌∙◌, append_assoc, append-nil, arith, Result, Ok, Err, not, ◌&&◌, take, length-append, reverse, Vec, Global, vec_len}
 use Rattle.bootstore_state.specs.Moment.{Moment}
 use Rattle.rehearse_terms.specs.Bounds.{most_steps}
 use Rattle.rehearse_terms.specs.Outcomes.{OutcomeWord, Outcome, Success, Failure, WordKind, Run, Short, Long, beyond, common_prefix}
 use Rattle.rehearse_terms.specs.State.{Text, State}
 use Rattle.bootstore_state.specs.StoredState.{state_at}
-use Rattle.rehearse_rules.specs.Execution.{Answer, Normal, Exit, Ended, Dry, Ending}
+use Rattle.rehearse_rules.specs.Execution.{Limits, Request, Answer, Normal, Exit, Ended, Dry, Ending}
 use Rattle.rehearse_rules.specs.Choosing.{allowed_beyond, first_outcome, first_run, first_from, turned}
 use Rattle.rehearse_rules.specs.Expected.{asked_in, unexpected_of}
 use Rattle.rehearse_rules.specs.Laws.{IsExpected}
@@ -15,20 +15,23 @@ use Rattle.rehearse_runs.specs.RunsShown.{outcomes, outcome_of}
 use Rattle.rehearse_rules.specs.EndingsShown.{halt_shown}
 use Rattle.rehearse_runs.specs.Phases.{AreDigits}
 use Rattle.rehearse_machine.specs.Came.{Came, Over, Wants, settled}
-use Rattle.rehearse_machine.specs.Machine.{Stops, asked_at, outcome_when}
+use Rattle.rehearse_machine.specs.Machine.{IsAsked, Stops, asked_at, outcome_when}
 use Rattle.std.specs.Prelude.{◌==◌, IfOk}
 use Rattle.std.proofs.Math.Seq.{take-append_seam}
-use Rattle.std.proofs.lemmas.List.{take-map}
+use Rattle.std.proofs.lemmas.List.{map-append, nil_from_length, reverse-append, take-map}
 use Rattle.bootstore_state.specs.Record.{Record, gone_back, returned}
 use Rattle.bootstore_state.specs.declared.store.StoreError.{StoreError}
 use Rattle.rehearse_rules.specs.declared.halt.Halt.{Halt}
-use Rattle.rehearse_runs.specs.Searching.{AreMarks, MarksIf, Found, FoundFirst, FoundBehind, FoundNext, AreUnexpected, CountsFor, IsCounted, ExpectsFor, counted}
+use Rattle.rehearse_runs.specs.Searching.{AreAsked, AreMarks, KeepsIf, MarksIf, requests, Found, FoundFirst, FoundBehind, FoundNext, AreUnexpected, CountsFor, IsCounted, ExpectedFor, ExpectsFor, counted}
 use Rattle.rehearse_machine.specs.StoppedTexts.{StoppedAt}
 use Rattle.rehearse_machine.specs.declared.rehearsal.Stop.{Stop}
 use Rattle.rehearse_machine.specs.declared.rehearsal.Stop.TheVariants.{Asks, Ends}
 use Rattle.rehearse_machine.proofs.StoppedTextLemmas.{dry_there, asked_within, asked_kind, stopped_on}
 use Rattle.rehearse_machine.specs.Expecting.{Expects}
 use Rattle.rehearse_machine.proofs.ExpectedLemmas.{expected_there}
+use Rattle.rehearse_machine.proofs.StoppingLemmas.{expects_of}
+use Rattle.rehearse_machine.specs.MovesShown.{request_shown}
+use Rattle.rehearse_machine.specs.declared.ask.Ask.{Ask}
 use Rattle.rehearse_rules.proofs.ChoiceTreeLemmas.{Test}
 use Rattle.rehearse_rules.proofs.UnexpectedAnswers.{asked_many, unexpected_within, none_unexpected}
 use Rattle.rehearse_rules.proofs.TaskChoices.{no_run_is_longer, task_begins, task_goes_on, task_ends}
@@ -186,6 +189,15 @@ asked_now task digits m h =
 pub asked_here : (task : Task) (digits : Text) (stop : Stop) (m : Moment) → stop ≡ Asks → StoppedAt task (outcomes digits) stop m → StoppedAt task (outcomes digits) Asks m
 asked_here task digits stop m e h = subst (λ (s : Stop). StoppedAt task (outcomes digits) s m) e h
 
+-- what is expected of the command is expected at the moment
+pub expects_for : (o : Option ℕ) (limits : Limits) (m : Moment) (request : Request) (success : Bool) → IsAsked limits request m → ExpectedFor o limits.devices request success → ExpectsFor o limits m success
+expects_for None limits m request success asked e = tt
+expects_for (Some most) limits m request success asked e = expects_of limits m request success asked e
+
+-- a mark changes nothing of that
+pub asked_marked : (may : Bool) (limits : Limits) (request : Request) (old new : Record) → MarksIf may old new → IsAsked limits request old.present → IsAsked limits request new.present
+asked_marked may limits request old new m h = subst (IsAsked limits request) (sym (marks_keep may old new m).0) h
+
 -- how many answers are unexpected after it
 counted_both : (task : Task) (p : OutcomeWord) (expected success : Bool) → IsExpected task p (outcome_when expected) (outcome_when (not expected)) → unexpected task (p ++ outcome_when success ∷ []) ≡ counted (unexpected task p) expected success
 counted_both task p true true h = h.0
@@ -241,6 +253,55 @@ pub allowed_there : (task : Task) (digits : Text) (m : Moment) (expected success
 allowed_there task digits m expected success count most h e n is =
     ap (λ (o : Option ℕ). is_at_most o (counted count expected success)) is
     ∙ allowed_for task.failures task digits m expected success count h e n.1
+
+-- ---- the commands that are kept
+
+pub requests_on : (asks more : List Ask) (ask : Ask) → more ≡ asks ++ ask ∷ [] → requests more ≡ requests asks ++ request_shown ask ∷ []
+requests_on asks more ask e = ap requests e ∙ map-append request_shown asks (ask ∷ [])
+
+pub keeps_one : (may : Bool) (request : Request) (old new : List Request) → may ≡ true → new ≡ old ++ request ∷ [] → KeepsIf may request old new
+keeps_one true request old new is e = e
+keeps_one false request old new is e = absurd (let f = is in cc)
+
+-- a command was kept just if its moment was marked
+pub kept_on : (may : Bool) (limits : Limits) (request : Request) (old new : List Request) (r m : Record) → IsAsked limits request r.present → KeepsIf may request old new → MarksIf may r m → AreAsked limits (reverse old) r.marked → AreAsked limits (reverse new) m.marked
+kept_on true limits request old new r m asked k e h =
+    subst (λ (x : List Request). AreAsked limits x m.marked) (sym (ap reverse k ∙ reverse-append old (request ∷ [])))
+    (subst (λ (x : Record). AreAsked limits (request ∷ reverse old) x.marked) (sym e) (asked, h))
+kept_on false limits request old new r m asked k e h =
+    subst (λ (x : List Request). AreAsked limits (reverse x) m.marked) (sym k) (subst (λ (x : Record). AreAsked limits (reverse old) x.marked) (sym e) h)
+
+pub kept_same : (limits : Limits) (kept : List Request) (old new : List Moment) → new ≡ old → AreAsked limits kept old → AreAsked limits kept new
+kept_same limits kept old new e h = subst (λ (ms : List Moment). AreAsked limits kept ms) (sym e) h
+
+-- none is kept where no moment is marked
+pub none_kept : (limits : Limits) (asks : List Ask) (marked : List Moment) → asks ≡ [] → marked ≡ [] → AreAsked limits (reverse (requests asks)) marked
+none_kept limits asks marked e m =
+    subst (λ (x : List Ask). AreAsked limits (reverse (requests x)) marked) (sym e) (subst (λ (ms : List Moment). AreAsked limits [] ms) (sym m) tt)
+
+-- the last one asks at the last mark
+pub record AskedBack (limits : Limits) (request : Request) (rest : List Request) (back : Record) : Type 0 where
+  pub asks : IsAsked limits request back.present
+  pub others : AreAsked limits rest back.marked
+
+asked_in_front : (limits : Limits) (request : Request) (rest : List Request) (present : Moment) (begun : ℕ) (marked : List Moment) → AreAsked limits (request ∷ rest) marked → AskedBack limits request rest (returned present begun marked)
+asked_in_front limits request rest present begun [] h = absurd h
+asked_in_front limits request rest present begun (m ∷ ms) h = record { asks = h.0; others = h.1 }
+
+pub asked_back : (limits : Limits) (asks rest : List Ask) (ask : Ask) (r back : Record) → asks ≡ rest ++ ask ∷ [] → AreAsked limits (reverse (requests asks)) r.marked → back ≡ gone_back r → AskedBack limits (request_shown ask) (reverse (requests rest)) back
+asked_back limits asks rest ask r back e h b =
+    subst (λ (x : Record). AskedBack limits (request_shown ask) (reverse (requests rest)) x) (sym b)
+    (asked_in_front limits (request_shown ask) (reverse (requests rest)) r.present r.begun r.marked
+    (subst (λ (x : List Request). AreAsked limits x r.marked) (ap reverse (requests_on rest asks ask e) ∙ reverse-append (requests rest) (request_shown ask ∷ [])) h))
+
+none_behind : (limits : Limits) (marked : List Moment) → AreAsked limits [] marked → true ≡ not (length marked == 0) → ⊥
+none_behind limits [] h some = let f = some in cc
+none_behind limits (m ∷ ms) h some = h
+
+-- a command is kept if a moment is marked
+pub some_kept : (limits : Limits) (asks : Vec Ask Global) (marked : List Moment) → AreAsked limits (reverse (requests asks.items)) marked → true ≡ not (length marked == 0) → vec_len asks ≡ 0 → ⊥
+some_kept limits asks marked h some e =
+    none_behind limits marked (subst (λ (x : List Ask). AreAsked limits (reverse (requests x)) marked) (nil_from_length asks.items (sym asks.ok.0 ∙ e)) h) some
 
 -- where the text stops then
 pub goes_on : (may success : Bool) (task : Task) (digits digits' : Text) (next : Stop) (r₀ r r₁ : Record) → StoppedAt task (outcomes digits) Asks r₀.present → MarksIf may r₀ r → digits' ≡ digits ++ outcome_digit (outcome_when success) ∷ []

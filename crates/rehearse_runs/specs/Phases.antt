@@ -1,16 +1,17 @@
 -- How far a rehearsal is. Ours.
-use Rattle.std.specs.Prelude.{◌≡◌, ◌++◌, Option, Some, None, ℕ, ◌+◌, ◌*◌, ◌^◌, ◌≤◌, Bool, true, false, List, [], length, map, ⊤}
+use Rattle.std.specs.Prelude.{◌≡◌, ◌++◌, Option, Some, None, ℕ, ◌+◌, ◌*◌, ◌^◌, ◌≤◌, Bool, true, false, List, [], length, map, reverse, ⊤}
 use Rattle.bootstore_state.specs.Record.{Record}
 use Rattle.rehearse_terms.specs.Bounds.{most_steps}
 use Rattle.rehearse_terms.specs.Outcomes.{OutcomeWord}
 use Rattle.rehearse_terms.specs.State.{Text}
 use Rattle.bootstore_state.specs.StoredState.{state_at}
+use Rattle.rehearse_rules.specs.Execution.{Limits, Request}
 use Rattle.rehearse_rules.specs.Runs.{Task, run_on, state_of, ending_of, runs, IsListed, rest}
 use Rattle.rehearse_rules.specs.Listing.{outcome_digit}
 use Rattle.output.specs.ByteArrayShown.{Held}
 use Rattle.rehearse_runs.specs.RunsShown.{RunsShown, outcomes, to_come_after, given_if, words_made, in_front_of, work_of, last_answer}
 use Rattle.rehearse_rules.specs.EndingsShown.{halt_shown}
-use Rattle.rehearse_runs.specs.Searching.{AreMarks}
+use Rattle.rehearse_runs.specs.Searching.{AreAsked, AreMarks}
 use Rattle.rehearse_rules.specs.declared.halt.Halt.{Halt}
 use Rattle.rehearse_runs.specs.declared.runs.Phase.{Phase}
 use Rattle.rehearse_runs.specs.declared.runs.Phase.TheVariants.{Fresh, At, Over, Failed}
@@ -44,6 +45,13 @@ StandsAt task given w r Fresh = (given ≡ false) × HasBudget r.begun (runs tas
 StandsAt task given w r (At halt) = (given ≡ true) × StandsOn task w halt r
 StandsAt task given w r Over = (given ≡ true) × (rest task w ≡ [])
 StandsAt task given w r Failed = ⊤
+
+-- the commands that may still fail are kept while the store holds a run
+abbrev pub KeepsAt : Phase → Limits → List Request → Record → Type 0
+KeepsAt Fresh limits kept r = ⊤
+KeepsAt (At halt) limits kept r = AreAsked limits (reverse kept) r.marked
+KeepsAt Over limits kept r = ⊤
+KeepsAt Failed limits kept r = ⊤
 
 -- the word of the digits that were given to `after`, if any were
 abbrev pub start_of : Option Held → Option OutcomeWord

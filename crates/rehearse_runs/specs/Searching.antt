@@ -1,16 +1,20 @@
 -- The search for the next run. Ours.
-use Rattle.std.specs.Prelude.{ℕ, ◌≡◌, ◌+◌, ◌≤◌, Bool, true, false, Option, None, List, [], ◌∷◌, ◌++◌, length, Some}
+use Rattle.std.specs.Prelude.{ℕ, ◌≡◌, ◌+◌, ◌≤◌, Bool, true, false, not, Option, None, List, [], ◌∷◌, ◌++◌, length, map, Some}
 use Rattle.bootstore_state.specs.Moment.{Moment}
 use Rattle.bootstore_state.specs.Record.{Record, with_mark}
 use Rattle.rehearse_terms.specs.Bounds.{most_steps}
 use Rattle.rehearse_terms.specs.Outcomes.{OutcomeWord, Failure, Run, common_prefix}
 use Rattle.bootstore_state.specs.StoredState.{state_at}
 use Rattle.rehearse_rules.specs.Choosing.{turned, first_from}
-use Rattle.rehearse_rules.specs.Execution.{Limits}
+use Rattle.device_list.specs.DeviceList.{Devices, fails_normally}
+use Rattle.rehearse_rules.specs.Execution.{Limits, Request}
 use Rattle.rehearse_rules.specs.Runs.{Task, run_on, state_of, ending_of, kind, runs, unexpected, is_allowed, rest, asked}
 use Rattle.rehearse_rules.specs.EndingsShown.{halt_shown}
-use Rattle.rehearse_machine.specs.Expecting.{Expects, StillAsks}
+use Rattle.rehearse_machine.specs.Expecting.{Expects, call_of}
+use Rattle.rehearse_machine.specs.Machine.{IsAsked}
+use Rattle.rehearse_machine.specs.MovesShown.{request_shown}
 use Rattle.rehearse_machine.specs.StoppedTexts.{StoppedAt}
+use Rattle.rehearse_machine.specs.declared.ask.Ask.{Ask}
 use Rattle.rehearse_rules.specs.declared.halt.Halt.{Halt}
 use Rattle.rehearse_machine.specs.declared.rehearsal.Stop.TheVariants.{Asks}
 
@@ -34,15 +38,15 @@ CountsFor (Some most) are count = count ≡ are
 abbrev pub IsCounted : Task → OutcomeWord → (count : ℕ) → Type 0
 IsCounted task w count = (count ≤ length w) × AreUnexpected task.failures task w count
 
--- whether a success is expected of the command that asks, if a bound asks for it
+-- whether a success is expected of the command that asks at a moment, if a bound asks for it
 abbrev pub ExpectsFor : (most : Option ℕ) → Limits → Moment → (success : Bool) → Type 0
 ExpectsFor None limits m success = Unit {0}
 ExpectsFor (Some most) limits m success = Expects limits m success
 
--- the same command still asks, and this is expected of it, if a bound asks for it
-pub record ExpectedFor (task : Task) (old new : Record) (success : Bool) : Type 0 where
-  pub still : StillAsks task.limits old new
-  pub expects : ExpectsFor task.failures task.limits new.present success
+-- whether a success is expected of a command that asks, if a bound asks for it
+abbrev pub ExpectedFor : (most : Option ℕ) → Devices → Request → (success : Bool) → Type 0
+ExpectedFor None devices request success = Unit {0}
+ExpectedFor (Some most) devices request success = success ≡ not (fails_normally devices (call_of request))
 
 -- the marked moments are those at which device commands asked for the successes of a word that may be failures, the last
 -- first
@@ -50,6 +54,22 @@ abbrev pub AreMarks : Task → OutcomeWord → List Moment → Type 0
 AreMarks task w [] = turned (is_allowed task) w ≡ None
 AreMarks task w (m ∷ ms) = (p : OutcomeWord) × (turned (is_allowed task) w ≡ Some (p ++ Failure ∷ []))
     × StoppedAt task p Asks m × AreMarks task p ms
+
+-- the commands that were kept
+abbrev pub requests : List Ask → List Request
+requests asks = map request_shown asks
+
+-- these commands ask at the marked moments, the last first
+abbrev pub AreAsked : Limits → List Request → List Moment → Type 0
+AreAsked limits [] [] = Unit {0}
+AreAsked limits [] (m ∷ ms) = ⊥
+AreAsked limits (request ∷ rest) [] = ⊥
+AreAsked limits (request ∷ rest) (m ∷ ms) = IsAsked limits request m × AreAsked limits rest ms
+
+-- a command was kept behind the others, or nothing changed
+abbrev pub KeepsIf : Bool → Request → (old new : List Request) → Type 0
+KeepsIf true request old new = new ≡ old ++ request ∷ []
+KeepsIf false request old new = new ≡ old
 
 -- the moment was marked, or nothing changed
 abbrev pub MarksIf : Bool → (old new : Record) → Type 0

@@ -1,16 +1,17 @@
 -- The walk along the digits of a word. Ours.
-use Rattle.std.specs.Prelude.{◌≡◌, ◌≢◌, ◌+◌, ◌≤◌, Bool, [], ◌∷◌, ◌++◌, map, Option, Some, None}
+use Rattle.std.specs.Prelude.{◌≡◌, ◌≢◌, ◌+◌, ◌≤◌, Bool, [], ◌∷◌, ◌++◌, List, map, reverse, Option, Some, None}
 use Rattle.std.specs.Borrow.{Bor}
 use Rattle.bootstore_state.specs.Record.{Record}
 use Rattle.rehearse_terms.specs.Bounds.{most_steps}
 use Rattle.rehearse_terms.specs.Outcomes.{OutcomeWord, Outcome, Run, Short, Long}
 use Rattle.rehearse_terms.specs.State.{Text}
 use Rattle.bootstore_state.specs.StoredState.{state_at}
+use Rattle.rehearse_rules.specs.Execution.{Limits, Request}
 use Rattle.rehearse_rules.specs.Runs.{Task, run_on, state_of, ending_of, kind}
 use Rattle.rehearse_rules.specs.Listing.{outcome_digit}
 use Rattle.rehearse_rules.specs.EndingsShown.{halt_shown}
 use Rattle.rehearse_machine.specs.Machine.{outcome_when}
-use Rattle.rehearse_runs.specs.Searching.{AreMarks}
+use Rattle.rehearse_runs.specs.Searching.{AreAsked, AreMarks}
 use Rattle.rehearse_rules.specs.declared.halt.Halt.{Halt}
 use Rattle.rehearse_runs.specs.declared.walking.Walked.{Walked}
 use Rattle.rehearse_runs.specs.declared.walking.Walked.TheVariants as walked
@@ -63,3 +64,9 @@ WalksTo task text all w (walked.Ends halt) old new = (text ≡ map outcome_digit
     × ReachedFirst task w halt old new
 WalksTo task text all w walked.Short old new = IsShortBehind task [] text
 WalksTo task text all w walked.Long old new = IsLongBehind task [] text
+
+-- at the end of a run, the commands that may still fail are kept
+abbrev pub KeepsFor : Walked → Limits → (kept : List Request) → Record → Type 0
+KeepsFor (walked.Ends halt) limits kept r = AreAsked limits (reverse kept) r.marked
+KeepsFor walked.Short limits kept r = Unit {0}
+KeepsFor walked.Long limits kept r = Unit {0}

@@ -51,7 +51,8 @@ pub(crate) fn write_run<S: Store, O: Out>(
     let mut store = S::new(rehearsal.alloc);
     let mut digits = Bytes::<1000>::new();
     let text = digits_of(word);
-    let Ok(walked) = walk_to(rehearsal, &mut store, &mut digits, text) else {
+    let mut asks = Vec::new(rehearsal.alloc);
+    let Ok(walked) = walk_to(rehearsal, &mut store, &mut digits, &mut asks, text) else {
         return Err(RehearseError::Memory);
     };
     match walked {

@@ -15,7 +15,7 @@ use bootstore_state::Store;
 use device_list::Devices;
 use envtools::Env;
 use output::Bytes;
-use rehearse_machine::{Rehearsal, Source};
+use rehearse_machine::{Ask, Rehearsal, Source};
 use rehearse_records::RunView;
 use rehearse_rules::{Halt, RehearseError};
 use rehearse_terms::Bounds;
@@ -74,6 +74,7 @@ pub struct Runs<'a, S: Store> {
     start: Option<Digits>,
     store: S,
     word: Digits,
+    asks: Vec<Ask<'a>>,
     has_given: bool,
     phase: Phase,
 }
@@ -86,7 +87,8 @@ impl<'a, S: Store> Model for Runs<'a, S> {
     ghost Value = { RunsShown };
 
     ghost use Rattle.rehearse_machine.specs.Tasks.{task_in};
-    ghost use Rattle.rehearse_runs.specs.Phases.{shown_at, start_of, StandsAt, AreDigits, IsRunIf, HasBegunIf};
+    ghost use Rattle.rehearse_runs.specs.Phases.{shown_at, start_of, StandsAt, AreDigits, IsRunIf, HasBegunIf, KeepsAt};
+    ghost use Rattle.rehearse_runs.specs.Searching.{requests};
 
     ghost view = { λ r. shown_at (task_in r.rehearsal) (start_of r.start) r.has_given
         (outcomes r.word.items) (S.record_of r.store).begun r.phase };
@@ -100,7 +102,9 @@ impl<'a, S: Store> Model for Runs<'a, S> {
         (given_if r.has_given (outcomes r.word.items))
         (to_come_after r.has_given (task_in r.rehearsal) (outcomes r.word.items))
         (S.record_of r.store).begun
-        × (task_in r.rehearsal).limits.device_bound ≤ most_run_devices };
+        × (task_in r.rehearsal).limits.device_bound ≤ most_run_devices
+        × KeepsAt r.phase (task_in r.rehearsal).limits (requests r.asks.items)
+        (S.record_of r.store) };
 }
 
 impl<'a, S: Store> Runs<'a, S> {
@@ -155,6 +159,7 @@ impl<'a, S: Store> Runs<'a, S> {
             start: None,
             store: S::new(alloc),
             word: Bytes::new(),
+            asks: Vec::new(alloc),
             has_given: false,
             phase: Phase::Fresh,
         })
@@ -209,7 +214,8 @@ impl<'a, S: Store> Runs<'a, S> {
         };
         let mut store = S::new(alloc);
         let mut digits = Digits::new();
-        let Ok(walked) = walk_to(&rehearsal, &mut store, &mut digits, word) else {
+        let mut asks = Vec::new(alloc);
+        let Ok(walked) = walk_to(&rehearsal, &mut store, &mut digits, &mut asks, word) else {
             return Err(RehearseError::Memory);
         };
         let Walked::Ends(halt) = walked else {
@@ -224,6 +230,7 @@ impl<'a, S: Store> Runs<'a, S> {
             start: Some(copy_of(&digits)),
             store,
             word: digits,
+            asks,
             has_given: true,
             phase: Phase::At(halt),
         })
@@ -237,7 +244,12 @@ impl<'a, S: Store> Runs<'a, S> {
         match self.phase {
             Phase::Fresh => {
                 let mut word = Bytes::new();
-                let Ok(halt) = first_run(&self.rehearsal, &mut self.store, &mut word) else {
+                let Ok(halt) = first_run(
+                    &self.rehearsal,
+                    &mut self.store,
+                    &mut word,
+                    &mut self.asks,
+                ) else {
                     self.phase = Phase::Failed;
                     return Err(RehearseError::Memory);
                 };
@@ -248,7 +260,12 @@ impl<'a, S: Store> Runs<'a, S> {
             }
             Phase::At(_) => {
                 let mut word = copy_of(&self.word);
-                let Ok(found) = next_run(&self.rehearsal, &mut self.store, &mut word) else {
+                let Ok(found) = next_run(
+                    &self.rehearsal,
+                    &mut self.store,
+                    &mut word,
+                    &mut self.asks,
+                ) else {
                     self.phase = Phase::Failed;
                     return Err(RehearseError::Memory);
                 };

@@ -51,7 +51,8 @@ pub fn try_word<S: Store>(
     };
     let mut store = S::new(alloc);
     let mut digits = Digits::new();
-    let Ok(walked) = walk_to(&rehearsal, &mut store, &mut digits, word) else {
+    let mut asks = Vec::new(alloc);
+    let Ok(walked) = walk_to(&rehearsal, &mut store, &mut digits, &mut asks, word) else {
         return Err(RehearseError::Memory);
     };
     match walked {

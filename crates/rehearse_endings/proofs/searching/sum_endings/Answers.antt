@@ -15,10 +15,10 @@ use Rattle.rehearse_endings.specs.declared.sum_error.SumError.TheVariants.{Steps
 use Rattle.rehearse_endings.proofs.searching.sum_endings.Goals as goal
 
 pub summed-requires-clause-reached : goal.summed-requires-clause-reached
-summed-requires-clause-reached g c = reached_first (task_in c.args.rehearsal.now) c.in_ok-stop.stop (g.S.Store.record_of c.begin.new.store).present c.in_ok-stop.ensures.stops
+summed-requires-clause-reached g c = reached_first (task_in c.args.rehearsal.now) c.in_ok-stop.stop (g.S.Store.record_of c.begin_text.new.store).present c.in_ok-stop.ensures.stops
 
 pub returns-clause-rows : goal.returns-clause-rows
-returns-clause-rows g c = whole_rows (map (λ n. n.now) c.args.names.now) (task_in c.args.rehearsal.now) c.in_ok-stop.stop (g.S.Store.record_of c.begin.new.store).present (summary_shown c.in_ok-future.future.summary) c.in_ok-stop.ensures.stops c.in_ok-future.ensures.searched.sums
+returns-clause-rows g c = whole_rows (map (λ n. n.now) c.args.names.now) (task_in c.args.rehearsal.now) c.in_ok-stop.stop (g.S.Store.record_of c.begin_text.new.store).present (summary_shown c.in_ok-future.future.summary) c.in_ok-stop.ensures.stops c.in_ok-future.ensures.searched.sums
 
 pub returns-clause-met : goal.returns-clause-met
 returns-clause-met g c =
@@ -69,7 +69,7 @@ returns-in_err-future-clause-soon g c =
 pub returns-clause-flow : goal.returns-clause-flow
 returns-clause-flow g c =
     let task = task_in c.args.rehearsal.now in
-    let m = (g.S.Store.record_of c.begin.new.store).present in
+    let m = (g.S.Store.record_of c.begin_text.new.store).present in
     let nodes = c.summed.new.table.flow.nodes in
     whole_flow task c.in_ok-stop.stop m (nodes_shown nodes) (nodes_shown c.in_ok-nodes.nodes) c.in_ok-future.future.summary.place (length nodes.items) c.in_ok-stop.ensures.stops c.in_ok-future.ensures.searched.draws
     (c.in_ok-future.ensures.searched.last c.new-table.ensures.entries c.new-table.ensures.flow) (sym (length-map nodes.items node_shown)) c.in_ok-nodes.ensures
@@ -80,4 +80,4 @@ returns-then-is_spent-clause-costly g c = λ is.
     let none = c.requires.begun in
     let begun = c.in_ok-stop.ensures.begun in
     let within = c.in_ok-stop.ensures.within in
-    costly_at_once names (task_in c.args.rehearsal.now) c.args.most_work (g.S.Store.record_of c.begin.new.store).begun (c.is_spent.ensures.spent (search rules)) (omega (arith, none, begun, within))
+    costly_at_once names (task_in c.args.rehearsal.now) c.args.most_work (g.S.Store.record_of c.begin_text.new.store).begun (c.is_spent.ensures.spent (search rules)) (omega (arith, none, begun, within))

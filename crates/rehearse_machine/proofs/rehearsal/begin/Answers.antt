@@ -11,6 +11,7 @@ use Rattle.bootstore_state.specs.StoredState.{state_at}
 use Rattle.rehearse_rules.specs.Runs.{run_on}
 use Rattle.bootstore_state.proofs.StateLemmas.{stored_starts}
 use Rattle.rehearse_machine.specs.Came.{Over, settled}
+use Rattle.rehearse_machine.specs.Machine.{stop_of}
 use Rattle.rehearse_machine.specs.Tasks.{source_shown, task_in}
 use Rattle.rehearse_machine.specs.Turning.{to_come}
 use Rattle.rehearse_machine.proofs.StoppingLemmas.{all_stop_as}
@@ -76,6 +77,6 @@ returns-in_ok-push-in-Runs-clause-stops g c =
     let new = g.S.Store.record_of c.push.new.self in
     let same = same_text variables source.given task.name c.text_of-text_found.result.now start.present (ap (λ (r : Record). r.present.environment) c.in_ok-start.ensures.ok) c.text_of-text_found.ensures in
     let read = ap (λ (x : Shell). first_in x task.text) (sym c.shell-shell.ensures) ∙ ap (first_in c.shell-shell.result) (sym same) ∙ sym c.in_ok-script.ensures ∙ ap text_read c.in-Runs.is in
-    all_stop_as c.go_on.result task.limits (to_come task.limits new.present) (λ w. settled (run_on task w)) (g.S.Store.record_of c.go_on.new.store)
+    all_stop_as stop_of c.go_on.result task.limits (to_come task.limits new.present) (λ w. settled (run_on task w)) (g.S.Store.record_of c.go_on.new.store)
     (λ w. sym (stands_runs task.limits old start new variables c.text.result c.in_ok-new-in-Runs.field-0.value c.in-Runs.script task.text c.in_ok-start.ensures.ok c.in_ok-push-in-Runs.ensures.ok c.text.ensures c.in_ok-new-in-Runs.ensures.ok read task.name w))
     c.go_on.ensures.stops

@@ -1,15 +1,10 @@
 use Rattle.rehearse_machine.specs.Tasks.{task_in}
 use Rattle.rehearse_machine.specs.Machine.{outcome_when}
-use Rattle.rehearse_machine.proofs.StoppingLemmas.{never_found, takes_outcome}
+use Rattle.rehearse_machine.proofs.StoppingLemmas.{asked_takes}
 use Rattle.rehearse_machine.proofs.ToldLemmas.{outcome_succeeds}
 use Rattle.rehearse_machine.proofs.rehearsal.give_outcome.Goals as goal
-
-pub unreachable-requires : goal.unreachable-requires
-unreachable-requires g c =
-    never_found (task_in c.args.rehearsal.now).limits (g.S.Store.record_of c.args.store.now) (g.S.Store.record_of c.find_again.new.store) c.in_ok-found.found c.requires c.in_ok-found.ensures c.in_default.not-Asks
 
 pub returns : goal.returns
 returns g c =
     let outcome = outcome_when c.args.success in
-    takes_outcome (task_in c.args.rehearsal.now).limits (g.S.Store.record_of c.args.store.now) (g.S.Store.record_of c.find_again.new.store) c.in_ok-found.found c.requires c.in_ok-found.ensures
-    c.in-Asks.ask c.in-Asks.is outcome (g.S.Store.record_of c.answer.new.store) c.answer.result (c.answer.ensures outcome (outcome_succeeds c.args.success))
+    asked_takes (task_in c.args._rehearsal.now).limits (g.S.Store.record_of c.args.store.now) (g.S.Store.record_of c.answer.new.store) c.args.ask outcome c.answer.result c.requires.asks c.requires.this (c.answer.ensures outcome (outcome_succeeds c.args.success))

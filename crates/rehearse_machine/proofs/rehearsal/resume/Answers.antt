@@ -1,6 +1,6 @@
 use Rattle.std.proofs.Common.{◌∷◌, arith}
 use Rattle.rehearse_machine.specs.Tasks.{task_in}
-use Rattle.rehearse_machine.specs.Machine.{asked_at, outcome_when}
+use Rattle.rehearse_machine.specs.Machine.{asked_at, outcome_when, stop_of}
 use Rattle.rehearse_machine.specs.Turning.{to_come}
 use Rattle.rehearse_machine.proofs.Limits.{steps_within}
 use Rattle.rehearse_machine.proofs.StoppingLemmas.{all_stop_as, marks_on, begun_on, grows_on}
@@ -25,7 +25,7 @@ returns-in-Going-clause-stops g c =
     let old = g.S.Store.record_of c.args.store.now in
     let new = g.S.Store.record_of c.give_outcome.new.store in
     let taken = rw c.in-Going.is at c.in_ok-give_outcome.ensures in
-    all_stop_as c.go_on.result limits (to_come limits new.present) (λ w. asked_at limits old.present (outcome_when c.args.success ∷ w)) (g.S.Store.record_of c.go_on.new.store) taken.comes c.go_on.ensures.stops
+    all_stop_as stop_of c.go_on.result limits (to_come limits new.present) (λ w. asked_at limits old.present (outcome_when c.args.success ∷ w)) (g.S.Store.record_of c.go_on.new.store) taken.comes c.go_on.ensures.stops
 
 pub returns-in-Going-clause-marks : goal.returns-in-Going-clause-marks
 returns-in-Going-clause-marks g c =

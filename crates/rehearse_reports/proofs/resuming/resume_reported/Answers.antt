@@ -29,7 +29,7 @@ returns-in-Going-clause-stops g c =
     let old = g.S.Store.record_of c.args.store.now in
     let new = g.S.Store.record_of c.give_outcome.new.store in
     let taken = rw c.in-Going.is at c.in_ok-give_outcome.ensures.taken in
-    all_stop_as c.go_on.result limits (to_come limits new.present) (λ w. asked_at limits old.present (outcome_when c.args.success ∷ w)) (g.S.Store.record_of c.go_on.new.store) taken.comes c.go_on.ensures.stops
+    all_stop_as (λ stop. stop) c.go_on.result limits (to_come limits new.present) (λ w. asked_at limits old.present (outcome_when c.args.success ∷ w)) (g.S.Store.record_of c.go_on.new.store) taken.comes c.go_on.ensures.stops
 
 pub returns-in-Going-clause-marks : goal.returns-in-Going-clause-marks
 returns-in-Going-clause-marks g c =

@@ -1,15 +1,14 @@
-use Rattle.std.proofs.Common.{rules, ◌≡◌, ◌∙◌, ◌++◌, sym, ap, subst, arith, ℕ, ◌+◌, true, List, [], ◌∷◌, length, length-append}
-use Rattle.bootstore_state.specs.Moment.{Moment}
+use Rattle.std.proofs.Common.{rules, ◌≡◌, ◌∙◌, ◌++◌, sym, ap, subst, arith, ℕ, ◌+◌, true, [], ◌∷◌, length, length-append}
 use Rattle.rehearse_terms.specs.Outcomes.{Success}
-use Rattle.rehearse_terms.specs.State.{State}
 use Rattle.rehearse_rules.specs.Listing.{outcome_digit}
 use Rattle.rehearse_rules.specs.Runs.{is_at_most, is_allowed}
-use Rattle.rehearse_machine.specs.Machine.{outcome_when}
+use Rattle.rehearse_machine.specs.Machine.{HasAsk, IsAsked, outcome_when, stop_of}
 use Rattle.rehearse_machine.specs.Tasks.{task_in}
-use Rattle.rehearse_machine.proofs.ExpectedLemmas.{still_stopped}
+use Rattle.rehearse_machine.specs.MovesShown.{request_shown}
+use Rattle.rehearse_machine.specs.declared.rehearsal.Stopped.{Stopped}
 use Rattle.rehearse_runs.specs.RunsShown.{outcomes}
-use Rattle.rehearse_runs.specs.Searching.{AreMarks, IsCounted}
-use Rattle.rehearse_runs.proofs.SearchLemmas.{found_end, all_more, asked_here, asked_now, allowed_there, counted_on, first_goes_on, digits_on, outcomes_length}
+use Rattle.rehearse_runs.specs.Searching.{IsCounted}
+use Rattle.rehearse_runs.proofs.SearchLemmas.{found_end, all_more, asked_here, asked_now, allowed_there, counted_on, expects_for, first_goes_on, digits_on, outcomes_length}
 use Rattle.rehearse_runs.proofs.searching.+search.Goals as goal
 
 pub returns-in-Ends-clause-ok : goal.returns-in-Ends-clause-ok
@@ -20,8 +19,8 @@ returns-in-Ends-clause-ok g t c =
 pub after-won-requires : goal.after-won-requires
 after-won-requires g t c =
     let task = task_in c.args.rehearsal.now in
-    let a = asked_now task c.args.digits.now.items (g.S.Store.record_of c.args.store.now).present (asked_here task c.args.digits.now.items c.args.stop (g.S.Store.record_of c.args.store.now).present c.in-Asks.is c.requires.stopped) in
-    let few = (c.requires.count c.in-Asks.is).0 in
+    let a = asked_now task c.args.digits.now.items (g.S.Store.record_of c.args.store.now).present (asked_here task c.args.digits.now.items (stop_of c.args.stopped) (g.S.Store.record_of c.args.store.now).present (ap stop_of c.in-Asks.is) c.requires.stopped) in
+    let few = (c.requires.count (ap stop_of c.in-Asks.is)).0 in
     let long = outcomes_length c.args.digits.now.items in
     let room = a.room in
     let b = c.requires.bound in
@@ -30,8 +29,8 @@ after-won-requires g t c =
 pub after-more-requires : goal.after-more-requires
 after-more-requires g t c =
     let task = task_in c.args.rehearsal.now in
-    let a = asked_now task c.args.digits.now.items (g.S.Store.record_of c.args.store.now).present (asked_here task c.args.digits.now.items c.args.stop (g.S.Store.record_of c.args.store.now).present c.in-Asks.is c.requires.stopped) in
-    let few = (c.requires.count c.in-Asks.is).0 in
+    let a = asked_now task c.args.digits.now.items (g.S.Store.record_of c.args.store.now).present (asked_here task c.args.digits.now.items (stop_of c.args.stopped) (g.S.Store.record_of c.args.store.now).present (ap stop_of c.in-Asks.is) c.requires.stopped) in
+    let few = (c.requires.count (ap stop_of c.in-Asks.is)).0 in
     let long = outcomes_length c.args.digits.now.items in
     let room = a.room in
     let b = c.requires.bound in
@@ -42,27 +41,23 @@ choose-requires g t c =
     let task = task_in c.args.rehearsal.now in
     let digits = c.args.digits.now.items in
     let r = g.S.Store.record_of c.args.store.now in
-    let still = c.in_ok-expected-in-Asks.ensures.still in
-    let asks = still_stopped task (outcomes digits) r (g.S.Store.record_of c.expected_for.new.store) (asked_here task digits c.args.stop r.present c.in-Asks.is c.requires.stopped) still in
-    let marks = subst (λ (ms : List Moment). AreMarks task (outcomes digits) ms) (sym still.marked) c.requires.marks in
-    let b = still.begun in
+    let asks = asked_here task digits (stop_of c.args.stopped) r.present (ap stop_of c.in-Asks.is) c.requires.stopped in
+    let this : IsAsked task.limits (request_shown c.in-Asks.ask) r.present = subst (λ (x : Stopped). HasAsk task.limits x r.present) c.in-Asks.is c.requires.command in
+    let expects = expects_for task.failures task.limits r.present (request_shown c.in-Asks.ask) c.in_ok-expected-in-Asks.expected this c.in_ok-expected-in-Asks.ensures in
     let u = c.requires.begun in
-    (search rules, (asks, (c.in_ok-expected-in-Asks.ensures.expects, (c.requires.count c.in-Asks.is, (marks, (omega arith, c.requires.bound))))))
+    (search rules, (asks, (this, (expects, (c.requires.count (ap stop_of c.in-Asks.is), (c.requires.marks, (c.requires.kept, (omega arith, c.requires.bound))))))))
 
 pub returns-in_ok-next-in-Asks-clause-ok : goal.returns-in_ok-next-in-Asks-clause-ok
 returns-in_ok-next-in-Asks-clause-ok g t c =
     let task = task_in c.args.rehearsal.now in
     let r = g.S.Store.record_of c.args.store.now in
-    let m = g.S.Store.record_of c.expected_for.new.store in
     let digits = c.args.digits.now.items in
     let more = c.choose.new.digits.items in
-    let stopped = asked_here task digits c.args.stop r.present c.in-Asks.is c.requires.stopped in
-    let still = c.in_ok-expected-in-Asks.ensures.still in
-    let there = still_stopped task (outcomes digits) r m stopped still in
+    let stopped = asked_here task digits (stop_of c.args.stopped) r.present (ap stop_of c.in-Asks.is) c.requires.stopped in
+    let this : IsAsked task.limits (request_shown c.in-Asks.ask) r.present = subst (λ (x : Stopped). HasAsk task.limits x r.present) c.in-Asks.is c.requires.command in
+    let expects = expects_for task.failures task.limits r.present (request_shown c.in-Asks.ask) c.in_ok-expected-in-Asks.expected this c.in_ok-expected-in-Asks.ensures in
     let allowed : c.is_at_most-success.result ≡ is_allowed task (outcomes digits ++ Success ∷ []) =
-    c.is_at_most-success.ensures ∙ (λ i. is_at_most (c.failures.result) (c.after-won.ensures i)) ∙ allowed_there task digits m.present c.in_ok-expected-in-Asks.expected true c.args.count c.failures.result there c.in_ok-expected-in-Asks.ensures.expects (c.requires.count c.in-Asks.is) c.failures.ensures in
-    let steps : m.present.steps ≡ r.present.steps = ap (λ (s : State). s.steps) still.state in
-    let begun = still.begun in
+    c.is_at_most-success.ensures ∙ (λ i. is_at_most (c.failures.result) (c.after-won.ensures i)) ∙ allowed_there task digits r.present c.in_ok-expected-in-Asks.expected true c.args.count c.failures.result stopped expects (c.requires.count (ap stop_of c.in-Asks.is)) c.failures.ensures in
     let b = c.in_ok-next-in-Asks.ensures.begun in
     let l = c.in_ok-next-in-Asks.ensures.grows in
     all_more c.search.result task (outcomes digits) (outcomes more) (outcomes c.search.new.digits.items) r (g.S.Store.record_of c.choose.new.store) (g.S.Store.record_of c.search.new.store)
@@ -73,10 +68,10 @@ pub search-requires : goal.search-requires
 search-requires g t c =
     let task = task_in c.args.rehearsal.now in
     let r = g.S.Store.record_of c.args.store.now in
-    let m = g.S.Store.record_of c.expected_for.new.store in
     let digits = c.args.digits.now.items in
-    let stopped = asked_here task digits c.args.stop r.present c.in-Asks.is c.requires.stopped in
-    let still = c.in_ok-expected-in-Asks.ensures.still in
+    let stopped = asked_here task digits (stop_of c.args.stopped) r.present (ap stop_of c.in-Asks.is) c.requires.stopped in
+    let this : IsAsked task.limits (request_shown c.in-Asks.ask) r.present = subst (λ (x : Stopped). HasAsk task.limits x r.present) c.in-Asks.is c.requires.command in
+    let expects = expects_for task.failures task.limits r.present (request_shown c.in-Asks.ask) c.in_ok-expected-in-Asks.expected this c.in_ok-expected-in-Asks.ensures in
     let a = asked_now task digits r.present stopped in
     let made = c.in_ok-next-in-Asks.ensures in
     let d = c.choose.ensures.digits in
@@ -87,17 +82,15 @@ search-requires g t c =
     let v = c.requires.within in
     let w = made.within in
     let b = made.begun in
-    let steps : m.present.steps ≡ r.present.steps = ap (λ (s : State). s.steps) still.state in
-    let begun = still.begun in
     let grows = made.grows in
-    let count = subst (λ (n : ℕ). IsCounted task (outcomes c.choose.new.digits.items) n) (sym c.after-more.ensures) (counted_on task digits c.choose.new.digits.items m.present c.in_ok-expected-in-Asks.expected c.is_at_most-success.result c.args.count (still_stopped task (outcomes digits) r m stopped still) c.in_ok-expected-in-Asks.ensures.expects (c.requires.count c.in-Asks.is) d) in
+    let count = subst (λ (n : ℕ). IsCounted task (outcomes c.choose.new.digits.items) n) (sym c.after-more.ensures) (counted_on task digits c.choose.new.digits.items r.present c.in_ok-expected-in-Asks.expected c.is_at_most-success.result c.args.count stopped expects (c.requires.count (ap stop_of c.in-Asks.is)) d) in
     λ κs h. (
       omega (arith, c.decreases),
       (
         h,
         (
           (λ e. count),
-          (made.stopped, (made.marks, (digits_on digits c.choose.new.digits.items (outcome_when c.is_at_most-success.result) d c.requires.digits, (w, (omega arith, n))))),
+          (made.stopped, (made.command, (made.marks, (made.kept, (digits_on digits c.choose.new.digits.items (outcome_when c.is_at_most-success.result) d c.requires.digits, (w, (omega arith, n))))))),
         ),
       ),
     )

@@ -3,11 +3,13 @@ use Rattle.rehearse_terms.specs.State.{LoggedCommand}
 use Rattle.rehearse_rules.specs.Expected.{asked_in, unexpected_of}
 use Rattle.rehearse_rules.specs.Runs.{Task}
 use Rattle.rehearse_runs.specs.Behind.{GoesOnBehind, IsNotListed}
-use Rattle.rehearse_runs.specs.Walking.{WalksTo}
+use Rattle.rehearse_runs.specs.Walking.{KeepsFor, WalksTo}
 use Rattle.rehearse_runs.specs.Phases.{shown_at}
 use Rattle.rehearse_runs.specs.declared.runs.Phase.TheVariants.{At}
 use Rattle.rehearse_runs.specs.RunsShown.{outcomes}
 use Rattle.rehearse_machine.specs.Tasks.{source_shown, task_from, task_in}
+use Rattle.rehearse_runs.specs.Searching.{requests}
+use Rattle.rehearse_runs.specs.declared.walking.Walked.{Walked}
 use Rattle.rehearse_runs.specs.declared.walking.Walked.TheVariants.{Ends}
 use Rattle.rehearse_runs.proofs.BehindLemmas.{allowed_at, too_many, not_run, run_not_listed, stands_from, goes_on_from, walked_at}
 use Rattle.rehearse_runs.proofs.runs.Runs.behind.Goals as goal
@@ -22,7 +24,9 @@ invariant_of-result g c =
     let walked = walked_at task text all (outcomes all) c.in-Ok.walked (Ends c.in-Ends.halt) old new c.in-Ends.is c.in-Ok.ensures.ok in
     let allowed = allowed_at task text all c.in-Ends.halt old new c.args.devices.now c.failures.result c.unexpected-count.result (ap (λ (t : Task). t.limits.devices) (sym c.in-Some.ensures.shown))
     (c.failures.ensures ∙ ap (λ (t : Task). t.failures) (sym c.in-Some.ensures.shown)) (c.unexpected-count.ensures ∙ ap (λ (log : List LoggedCommand). length (unexpected_of c.args.devices.now (asked_in log))) c.log.ensures) walked in
-    stands_from task text all c.copy_of.result.items c.in-Ends.halt old new c.copy_of.ensures c.new-store.ensures c.in-Some.ensures.bounds (c.if-not-is_at_most.ensures ∙ allowed) walked
+    let stands = stands_from task text all c.copy_of.result.items c.in-Ends.halt old new c.copy_of.ensures c.new-store.ensures c.in-Some.ensures.bounds (c.if-not-is_at_most.ensures ∙ allowed) walked in
+    let kept = subst (λ (w : Walked). KeepsFor w task.limits (requests c.walk_to.new.asks.items) new) c.in-Ends.is c.in-Ok.ensures.kept in
+    (stands.0, stands.1, stands.2, stands.3, stands.4, kept)
 
 pub returns-clause-ok : goal.returns-clause-ok
 returns-clause-ok g c =

@@ -4,4 +4,5 @@ use Rattle.rehearse_runs.proofs.runs.Runs.of.Goals as goal
 
 pub invariant_of-result : goal.invariant_of-result
 invariant_of-result g c =
-    stands_fresh (task_in c.in-Some.rehearsal) c.new-2.result.items (g.S.Store.record_of c.new.result) c.new-2.ensures c.new.ensures c.in-Some.ensures.bounds
+    let fresh = stands_fresh (task_in c.in-Some.rehearsal) c.new-2.result.items (g.S.Store.record_of c.new.result) c.new-2.ensures c.new.ensures c.in-Some.ensures.bounds in
+    (fresh.0, fresh.1, fresh.2, fresh.3, fresh.4, tt)
