@@ -8,6 +8,7 @@ mod EndingsExamples
 mod FlowExamples
 mod PlaceNumberExamples
 pub mod RowLemmas
+pub mod RepeatLemmas
 pub mod EndingLineLemmas
 pub mod NumberedNodes
 mod PlaceNumberLemmas

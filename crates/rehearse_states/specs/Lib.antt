@@ -1,4 +1,5 @@
 pub mod Words
+pub mod Repeats
 pub mod RunWords
 pub mod Endings
 pub mod Flow

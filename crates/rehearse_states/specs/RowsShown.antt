@@ -1,7 +1,7 @@
 -- What contracts see of rows and summaries. Ours.
-use Rattle.std.specs.Prelude.{ℕ, ◌+◌, min, List, [], ◌∷◌, map, Bool, true, false, Option, option_map, Vec}
+use Rattle.std.specs.Prelude.{ℕ, ◌+◌, min, List, [], ◌∷◌, map, Bool, true, false, Option, Some, None, option_map, Vec}
 use Rattle.std.specs.declared.alloc.Global.{Global}
-use Rattle.rehearse_terms.specs.Outcomes.{Success, Failure}
+use Rattle.rehearse_terms.specs.Outcomes.{OutcomeWord, Success, Failure}
 use Rattle.rehearse_rules.specs.EndingsShown.{halt_shown}
 use Rattle.rehearse_states.specs.Endings.{RunEnd, Row, end_eq, fewer, in_front, counts_at}
 use Rattle.rehearse_states.specs.Summaries.{Summary}
@@ -43,12 +43,17 @@ value_shown value = option_map (λ v. v.items) value
 abbrev pub run_end_shown : made.RunEnd → RunEnd
 run_end_shown e = record { ending = halt_shown e.halt; values = map value_shown e.values.items }
 
+-- the first of some runs with the fewest unexpected answers, if it is not the first of all
+abbrev pub fewest_of : (word : OutcomeWord) → (fewest : Option OutcomeWord) → OutcomeWord
+fewest_of word None = word
+fewest_of word (Some fewest) = fewest
+
 abbrev pub row_shown : rt.Row → Row
 row_shown r = record {
   run_end = run_end_shown r.run_end.value;
   count = r.count;
   word = r.word;
-  fewest = (r.fewest, r.unexpected);
+  fewest = (fewest_of r.word r.fewest, r.unexpected);
 }
 
 abbrev pub rows_shown : Vec rt.Row Global → List Row

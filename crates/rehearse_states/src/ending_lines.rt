@@ -4,6 +4,7 @@ ghost use Rattle.std.specs.List.{flat_map};
 ghost use Rattle.text.specs.Escapes.{word_escaped, word_form};
 ghost use Rattle.rehearse_rules.specs.Listing.{line, last_line, outcome_digit, spelled};
 ghost use Rattle.rehearse_rules.specs.EndingsShown.{halt_shown};
+ghost use Rattle.rehearse_rules.specs.Execution.{outcome_when};
 ghost use Rattle.rehearse_states.specs.EndingLines.{count_text, row_lines, row_text, endings_text, counted};
 ghost use Rattle.rehearse_states.specs.Drawing.{failing_on, nodes_shown};
 ghost use Rattle.rehearse_states.specs.RowsShown.{most_runs, row_shown, rows_shown};
@@ -45,26 +46,35 @@ fn put_count(text: &mut Vec<u8>, count: u128) -> Result<(), StoreError>
     put_number(text, count)
 }
 
-/// Adds the digit of each outcome of a word.
-fn put_outcomes(text: &mut Vec<u8>, word: &RunWord) -> Result<(), StoreError>
-    ensures { OnOk result (text.new.items ≡ text.old.items ++ map outcome_digit word.now) }
+/// Adds the digit of each outcome.
+fn put_outcomes(text: &mut Vec<u8>, outcomes: &[bool]) -> Result<(), StoreError>
+    ensures { OnOk result (text.new.items
+        ≡ text.old.items ++ map outcome_digit (map outcome_when outcomes.now)) }
 {
-    let mut rest = word;
-    while let Some((success, behind)) = rest.split_first() {
-        text.push(if success { b'0' } else { b'1' })?;
-        rest = behind;
+    for success in outcomes {
+        text.push(if *success { b'0' } else { b'1' })?;
     }
     Ok(())
 }
 
-/// Adds the digits of a word, or a dot for the empty word.
-fn put_digits(text: &mut Vec<u8>, word: &RunWord) -> Result<(), StoreError>
-    ensures { OnOk result (text.new.items ≡ text.old.items ++ spelled word.now) }
+/// Adds the digits of outcomes, or a dot if there are none.
+fn put_digits(text: &mut Vec<u8>, outcomes: &[bool]) -> Result<(), StoreError>
+    ensures { OnOk result (text.new.items
+        ≡ text.old.items ++ spelled (map outcome_when outcomes.now)) }
 {
-    if word.is_empty() {
+    if outcomes.is_empty() {
         return put(text, b".");
     }
-    put_outcomes(text, word)
+    put_outcomes(text, outcomes)
+}
+
+/// Adds the digits of a word, or a dot for the empty word.
+fn put_run_word(alloc: Global, text: &mut Vec<u8>, word: &RunWord) -> Result<(), StoreError>
+    ensures { OnOk result (text.new.items ≡ text.old.items ++ spelled word.now) }
+{
+    let outcomes = word.outcomes(alloc)?;
+    put_digits(text, &outcomes)?;
+    Ok(())
 }
 
 /// Adds bytes in word form.
@@ -116,17 +126,17 @@ pub fn put_ending(text: &mut Vec<u8>, halt: &Halt) -> Result<(), StoreError>
 }
 
 /// Adds the line of an ending, without what fails.
-fn put_row(text: &mut Vec<u8>, row: &Row) -> Result<(), StoreError>
+fn put_row(alloc: Global, text: &mut Vec<u8>, row: &Row) -> Result<(), StoreError>
     ensures { OnOk result (text.new.items ≡ text.old.items ++ line (row_text (row_shown row.now))) }
 {
     put(text, b"ends ")?;
     put_count(text, row.count)?;
     put(text, b" first ")?;
-    put_digits(text, &row.word)?;
+    put_run_word(alloc, text, &row.word)?;
     put(text, b" fewest ")?;
     put_number(text, row.unexpected as u128)?;
     put(text, b" ")?;
-    put_digits(text, &row.fewest)?;
+    put_run_word(alloc, text, row.fewest_word())?;
     put(text, b" ")?;
     put_ending(text, &row.run_end.halt)?;
     put(text, b"\n")
@@ -135,6 +145,7 @@ fn put_row(text: &mut Vec<u8>, row: &Row) -> Result<(), StoreError>
 /// Adds the lines of an ending: how many runs have it, the values that they leave, and the
 /// unexpected answers of the run with the fewest.
 fn put_lines(
+    alloc: Global,
     text: &mut Vec<u8>,
     names: &[&[u8]],
     devices: &Devices,
@@ -144,9 +155,10 @@ fn put_lines(
     ensures { OnOk result (text.new.items ≡ text.old.items ++ row_lines (map (λ n. n.now) names.now)
         (failing_on devices.now (nodes_shown nodes.now)) (row_shown row.now)) }
 {
-    put_row(text, row)?;
+    put_row(alloc, text, row)?;
     put_values(text, names, &row.run_end.values)?;
-    put_fails(text, devices, nodes, &row.fewest, 1)?;
+    let outcomes = row.fewest_word().outcomes(alloc)?;
+    put_fails(text, devices, nodes, &outcomes, 1)?;
     Ok(())
 }
 
@@ -176,7 +188,7 @@ pub fn text_of(
 {
     let mut text = Vec::new(alloc);
     for row in rows {
-        put_lines(&mut text, names, devices, nodes, row)?;
+        put_lines(alloc, &mut text, names, devices, nodes, row)?;
     }
     put(&mut text, b"all ")?;
     put_count(&mut text, total(rows))?;

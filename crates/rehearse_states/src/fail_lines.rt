@@ -11,7 +11,6 @@ ghost use Rattle.rehearse_states.specs.EndingLines.{answer_text, fails_lines, fa
 use crate::ending_lines::put;
 use crate::flow::Node;
 use crate::flow_lines::put_words;
-use crate::run_word::RunWord;
 use bootstore_state::StoreError;
 use device_list::Devices;
 
@@ -70,19 +69,19 @@ fn put_if_unexpected(
 }
 
 /// Adds a line for each device command whose answer is unexpected on the way from a line of a flow
-/// by the outcomes of a word.
+/// by these outcomes.
 pub(crate) fn put_fails(
     text: &mut Vec<u8>,
     devices: &Devices,
     nodes: &[Node],
-    word: &RunWord,
+    outcomes: &[bool],
     number: usize,
 ) -> Result<(), StoreError>
     ensures { OnOk result (text.new.items ≡ text.old.items
         ++ fails_lines (unexpected_of devices.now (walk (numbered (map node_shown nodes.now))
-        word.now number).log)) }
+        (map outcome_when outcomes.now) number).log)) }
 {
-    let Some((success, rest)) = word.split_first() else {
+    let Some((success, rest)) = outcomes.split_first() else {
         return Ok(());
     };
     let Some(
@@ -95,6 +94,6 @@ pub(crate) fn put_fails(
     else {
         return Ok(());
     };
-    put_if_unexpected(text, devices, success, words)?;
-    put_fails(text, devices, nodes, rest, next_of(success, *won, *lost))
+    put_if_unexpected(text, devices, *success, words)?;
+    put_fails(text, devices, nodes, rest, next_of(*success, *won, *lost))
 }

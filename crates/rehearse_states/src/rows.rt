@@ -1,5 +1,5 @@
 //! Rows: how runs end, how many do, and which is the first.
-ghost use Rattle.std.specs.Prelude.{◌≡◌, ◌≤◌, ◌∷◌, [], map, IfOk};
+ghost use Rattle.std.specs.Prelude.{◌≡◌, ◌≤◌, ◌∷◌, [], map, option_map, IfOk};
 ghost use Rattle.rehearse_rules.specs.Execution.{outcome_when};
 ghost use Rattle.rehearse_states.specs.RowsShown.{row_shown, run_end_shown, rows_shown, joined_up, with_row_up, merge_up};
 ghost use Rattle.rehearse_states.specs.Endings.{fewer, one_run, in_front, counts_at};
@@ -19,10 +19,22 @@ pub struct Row {
     pub count: u128,
     /// The word of the first of these runs.
     pub word: RunWord,
-    /// The word of the first of these runs with the fewest unexpected answers.
-    pub fewest: RunWord,
+    /// The word of the first of these runs with the fewest unexpected answers, if it is another one.
+    pub fewest: Option<RunWord>,
     /// How many of its answers are unexpected.
     pub unexpected: usize,
+}
+
+impl Row {
+    /// The word of the first of these runs with the fewest unexpected answers.
+    pub fn fewest_word(&self) -> &RunWord
+        ensures { result.now ≡ (row_shown self.now).fewest.0 }
+    {
+        match &self.fewest {
+            Some(fewest) => fewest,
+            None => &self.word,
+        }
+    }
 }
 
 /// The row of one run that is over.
@@ -35,10 +47,26 @@ pub(crate) fn one_row(alloc: Global, run_end: RunEnd) -> Result<Vec<Row>, StoreE
         run_end,
         count: 1,
         word: RunWord::new(),
-        fewest: RunWord::new(),
+        fewest: None,
         unexpected: 0,
     })?;
     Ok(rows)
+}
+
+/// A copy of a row, which shares its ending and words.
+fn copy_row(row: &Row) -> Result<Row, StoreError>
+    ensures { IfOk result (λ copy. row_shown copy ≡ row_shown row.now) }
+{
+    let run_end = row.run_end.clone()?;
+    let word = row.word.clone()?;
+    let fewest = row.fewest.clone()?;
+    Ok(Row {
+        run_end,
+        count: row.count,
+        word,
+        fewest,
+        unexpected: row.unexpected,
+    })
 }
 
 /// A copy of rows, which shares their endings and words.
@@ -47,16 +75,8 @@ pub fn copy_rows(alloc: Global, rows: &Vec<Row>) -> Result<Vec<Row>, StoreError>
 {
     let mut copies = Vec::new(alloc);
     for row in rows {
-        let run_end = row.run_end.clone()?;
-        let word = row.word.clone()?;
-        let fewest = row.fewest.clone()?;
-        copies.push(Row {
-            run_end,
-            count: row.count,
-            word,
-            fewest,
-            unexpected: row.unexpected,
-        })?;
+        let copy = copy_row(row)?;
+        copies.push(copy)?;
     }
     Ok(copies)
 }
@@ -66,6 +86,41 @@ fn counts_at(normal: bool, success: bool) -> usize
     ensures { result ≡ counts_at normal (outcome_when success) }
 {
     usize::from(normal == success)
+}
+
+/// The word with one more outcome, the first, if there is a word.
+fn put_before(
+    alloc: Global,
+    word: Option<RunWord>,
+    success: bool,
+) -> Result<Option<RunWord>, StoreError>
+    ensures { IfOk result (λ made. made ≡ option_map (λ w. outcome_when success ∷ w) word) }
+{
+    match word {
+        None => Ok(None),
+        Some(word) => {
+            let longer = word.with_first(alloc, success)?;
+            Ok(Some(longer))
+        }
+    }
+}
+
+/// Puts an outcome before the words of a row, which counts so much. Words that are one stay one.
+fn row_in_front(alloc: Global, row: Row, counts: usize, success: bool) -> Result<Row, StoreError>
+    ensures { IfOk result (λ made. row_shown made ≡ in_front (outcome_when success) counts (row_shown row)) }
+{
+    let Some(unexpected) = counts.checked_add(row.unexpected) else {
+        return Err(StoreError::Memory);
+    };
+    let word = row.word.with_first(alloc, success)?;
+    let fewest = put_before(alloc, row.fewest, success)?;
+    Ok(Row {
+        run_end: row.run_end,
+        count: row.count,
+        word,
+        fewest,
+        unexpected,
+    })
 }
 
 /// Puts an outcome before each word of the rows, where a failure is expected, or else a success.
@@ -81,18 +136,8 @@ pub(crate) fn put_in_front(
     let counts = counts_at(normal, success);
     let mut made = Vec::new(alloc);
     for row in rows {
-        let Some(unexpected) = counts.checked_add(row.unexpected) else {
-            return Err(StoreError::Memory);
-        };
-        let word = row.word.with_first(alloc, success)?;
-        let fewest = row.fewest.with_first(alloc, success)?;
-        made.push(Row {
-            run_end: row.run_end,
-            count: row.count,
-            word,
-            fewest,
-            unexpected,
-        })?;
+        let longer = row_in_front(alloc, row, counts, success)?;
+        made.push(longer)?;
     }
     Ok(made)
 }
@@ -107,12 +152,12 @@ fn join(row: Row, further: &Row) -> Result<Row, StoreError>
     if row.unexpected <= further.unexpected {
         return Ok(Row { count, ..row });
     }
-    let fewest = further.fewest.clone()?;
+    let fewest = further.fewest_word().clone()?;
     Ok(Row {
         run_end: row.run_end,
         count,
         word: row.word,
-        fewest,
+        fewest: Some(fewest),
         unexpected: further.unexpected,
     })
 }
