@@ -24,11 +24,13 @@ use Rattle.rehearse_reuse.specs.Futures.{came_kind}
 use Rattle.rehearse_reuse.specs.SummedRuns.{FitsIf}
 use Rattle.rehearse_states.specs.Drawing.{asks_in, node_shown, nodes_shown}
 use Rattle.rehearse_states.specs.Flow as flow
-use Rattle.rehearse_states.specs.RowsShown.{summary_shown, saturated_summary}
+use Rattle.rehearse_states.specs.RowsShown.{saturated_summary}
+use Rattle.rehearse_states.specs.SumNodes.{SumNode, IsSummary}
+use Rattle.rehearse_states.specs.declared.summary.Summary as rt
 use Rattle.rehearse_states.specs.Summaries.{Summary}
 use Rattle.rehearse_states.specs.declared.flow.Flow.{Flow}
 use Rattle.rehearse_states.proofs.NodeLemmas.{asks_append}
-use Rattle.rehearse_endings.proofs.SearchLemmas.{Room, kind_settled}
+use Rattle.rehearse_endings.proofs.SearchLemmas.{Room, kind_settled, shown_as}
 use Rattle.rehearse_endings.specs.Indexed.{Fits, NoneFits}
 use Rattle.rehearse_endings.specs.Searching.{IsKeptAt, SummedFrom}
 use Rattle.rehearse_endings.specs.States.{AreApart, AreKeptAs, AreOnOneRun, Asked, ComesBefore, ComesBy, ComesToStates, ComesToSteps, Entered, HasEntered, HasStates, IsKeptAs, IsLike, IsMet, IsSearchedIn, IsUnlike, NoTwoAlike, Searched}
@@ -162,11 +164,11 @@ unlike_more : (limits : Limits) (searched : List Searched) (s : Searched) → No
 unlike_more limits [] s h k = (tt, tt)
 unlike_more limits (x ∷ searched) s h k = (all_and (λ other. IsUnlike limits x other.asked) searched (s ∷ []) h.0 (k.0, tt), unlike_more limits searched s h.1 k.1)
 
-pub gone_through : (names : List Text) (task : Task) (p : OutcomeWord) (m : Moment) (begun : List Asked) (old new : Table) (made : Flow) (node_words : List Text) (won lost : ℕ) (key_list : List Key) (devices place : ℕ) (shown : Summary)
+pub gone_through : (names : List Text) (task : Task) (p : OutcomeWord) (m : Moment) (begun : List Asked) (old new : Table) (made : Flow) (node_words : List Text) (won lost : ℕ) (key_list : List Key) (devices : ℕ) (sum_nodes : List SumNode) (whole : rt.Summary) (shown : Summary)
     → HasEntered names task ((p, m) ∷ begun) old → nodes_shown made.nodes ≡ nodes_shown old.flow.nodes ++ flow.Asks node_words won lost ∷ []
-    → IsKeptAt old.entries.items new.entries.items m key_list devices place shown → new.flow ≡ made → new.visited ≡ old.visited
-    → AreEnoughAt task.limits names m key_list → SummedFrom names task.limits Asks m shown → devices ≡ length m.log → HasEntered names task begun new
-gone_through names task p m begun old new made node_words won lost key_list devices place shown has nodes kept flows visited enough summed logged = (
+    → IsKeptAt old.entries.items new.entries.items m key_list devices whole → new.flow ≡ made → new.visited ≡ old.visited
+    → AreEnoughAt task.limits names m key_list → IsSummary sum_nodes whole shown → SummedFrom names task.limits Asks m shown → devices ≡ length m.log → HasEntered names task begun new
+gone_through names task p m begun old new made node_words won lost key_list devices sum_nodes whole shown has nodes kept flows visited enough is summed logged = (
   searched,
   record {
     kept_as = subst (AreKeptAs searched) (sym kept.kept.1) (kept_more has.0 old.entries.items s e has.1.kept_as kept_as);
@@ -205,7 +207,7 @@ gone_through names task p m begun old new made node_words won lost key_list devi
       keys = ap keys_of kept.kept.3 ∙ kept.same;
       steps = kept.kept.4;
       devices = kept.kept.5 ∙ logged;
-      shown = kept.kept.6 ∙ summed.2;
+      shown = (shown_as sum_nodes whole e.summary shown (saturated_summary summed.0) kept.kept.6 summed.2 is).1;
     }
 
     here : IsSearchedIn names task s

@@ -30,7 +30,9 @@ use Rattle.rehearse_reuse.specs.Futures.{came_kind, came_ending, came_end, came_
 use Rattle.rehearse_states.specs.Endings.{RunEnd, Row, HasRows, counts_at, of_both, ending, end_with, end_of, endings}
 use Rattle.rehearse_states.specs.Summaries.{Summary, summary_of_sides, summary_at_end}
 use Rattle.rehearse_reuse.specs.SummedRuns.{Sums, came_count, FitsIf, moved_by, moved_on, of_end, of_sides, Summed}
-use Rattle.rehearse_states.specs.RowsShown.{saturated, of_both_up, summary_shown, saturated_summary}
+use Rattle.rehearse_states.specs.RowsShown.{saturated, of_both_up, summary_with, saturated_summary}
+use Rattle.rehearse_states.specs.SumNodes.{SumNode, DrawsRows, HasMoreSums, IsSummary, sums_shown}
+use Rattle.rehearse_states.proofs.SumLemmas.{draws_further}
 use Rattle.rehearse_reuse.specs.Reuse.{FitsByKeys}
 use Rattle.rehearse_reuse.proofs.ReusedSummaries.{summaries_are_reused, nodes_are_reused, keys_are_reused}
 use Rattle.rehearse_reads.specs.Keys.{Key, Access, AreAmong, AgreeOn, keys_in_front}
@@ -51,7 +53,7 @@ use Rattle.rehearse_endings.specs.Searched.{IsSearched, IsSpent}
 use Rattle.rehearse_endings.specs.declared.table.Future.{Future}
 use Rattle.rehearse_endings.specs.declared.table.Table.{Table}
 use Rattle.rehearse_endings.specs.declared.table.Entry.{Entry}
-use Rattle.rehearse_states.specs.declared.summary.Summary as kept
+use Rattle.rehearse_states.specs.declared.summary.Summary as rt
 use Rattle.rehearse_states.specs.Flow.{Node, asked_in}
 use Rattle.rehearse_reuse.specs.DrawnRuns.{further, Draws, seen_at}
 use Rattle.rehearse_states.specs.Drawing.{HasMore, nodes_shown}
@@ -203,12 +205,12 @@ module _ (names : List Text) (task : Task) (depth : ℕ) (m : Moment) (reached :
 -- ---- the table
 
 -- an entry that fits
-module _ (names : List Text) (limits : Limits) (nodes : List Node) (e : Entry) (t : Moment) (h : IsEntry names limits nodes e) (asks : IsAsking limits t) (fits : Fits limits.step_bound limits.device_bound e t) where
+module _ (names : List Text) (limits : Limits) (nodes : List Node) (sum_nodes : List SumNode) (e : Entry) (t : Moment) (h : IsEntry names limits nodes sum_nodes e) (asks : IsAsking limits t) (fits : Fits limits.step_bound limits.device_bound e t) where
   fits_there : FitsByKeys limits (keys_of e.known.items) h.summary h.moment t
   fits_there =
       let m : Moment = h.moment in
       let kept : Summary = h.summary in
-      let shown : summary_shown e.summary ≡ saturated_summary kept = h.shown in
+      let shown : summary_with (map saturated kept.rows) e.summary ≡ saturated_summary kept = h.shown.1 in
       let agree : AgreeOn (keys_of e.known.items) (state_at m []) (state_at t []) = agree_on_known m t e.known.items h.known fits.known in
       let fits_steps : FitsIf kept.cut_steps m.steps t.steps kept.steps limits.step_bound =
       subst (λ (x : Summary). FitsIf x.cut_steps m.steps t.steps x.steps limits.step_bound) shown (subst (λ (n : ℕ). FitsIf e.summary.cut_steps n t.steps e.summary.steps limits.step_bound) h.steps fits.steps) in
@@ -222,16 +224,21 @@ module _ (names : List Text) (limits : Limits) (nodes : List Node) (e : Entry) (
         devices = fits_devices;
       }
 
-  summed_there : (s : Summary) → s ≡ moved_by e.steps t.steps e.devices (length t.log) (summary_shown e.summary) → SummedFrom names limits Asks t s
-  summed_there s is =
+  abbrev rows_there : List Row
+  rows_there = map saturated h.summary.rows
+
+  abbrev shown_there : Summary
+  shown_there = moved_by e.steps t.steps e.devices (length t.log) (summary_with rows_there e.summary)
+
+  summed_there : SummedFrom names limits Asks t shown_there
+  summed_there =
       let m : Moment = h.moment in
       let kept : Summary = h.summary in
-      let shown : summary_shown e.summary ≡ saturated_summary kept = h.shown in (
+      let shown : summary_with rows_there e.summary ≡ saturated_summary kept = h.shown.1 in (
         moved_on m t kept,
         summaries_are_reused limits names m t (keys_of e.known.items) kept h.asks asks h.enough h.sums fits_there,
-        is
-            ∙ ap (λ (n : ℕ). moved_by n t.steps e.devices (length t.log) (summary_shown e.summary)) h.steps
-            ∙ ap (λ (n : ℕ). moved_by m.steps t.steps n (length t.log) (summary_shown e.summary)) h.devices
+        ap (λ (n : ℕ). moved_by n t.steps e.devices (length t.log) (summary_with rows_there e.summary)) h.steps
+            ∙ ap (λ (n : ℕ). moved_by m.steps t.steps n (length t.log) (summary_with rows_there e.summary)) h.devices
             ∙ ap (λ (x : Summary). moved_by m.steps t.steps (length m.log) (length t.log) x) shown,
       )
 
@@ -241,39 +248,41 @@ module _ (names : List Text) (limits : Limits) (nodes : List Node) (e : Entry) (
       (draws_as nodes e.summary.place (seen_at limits h.moment) (seen_at limits t) (λ w. sym (nodes_are_reused limits names h.moment t (keys_of e.known.items) h.summary h.asks asks h.enough h.sums fits_there w)) h.draws)
 
   -- what a look-up in the table finds
-  found_there : (es : List Entry) (i : ℕ) (f : Future) → slice_get es i ≡ Some e → IsTaken e t f → IsFound names limits nodes es t f
+  found_there : (es : List Entry) (i : ℕ) (f : Future) → slice_get es i ≡ Some e → IsTaken e t f → IsFound names limits nodes sum_nodes es t f
   found_there es i f got taken = record {
-    sums = summed_there (summary_shown f.summary) taken.sums;
+    shown = shown_there;
+    is = (subst (λ (n : ℕ). DrawsRows sum_nodes n rows_there) (sym taken.node) h.shown.0, taken.sums rows_there);
+    sums = summed_there;
     draws = drawn_there f.summary.place taken.place;
     keys = subst (AreEnoughAt limits names t) (sym taken.keys) (keys_are_reused limits names h.moment t (keys_of e.known.items) h.summary h.asks asks h.enough h.sums fits_there);
     some = λ none. let l = slice_get_within es i e got in let a : length es ≡ 0 = ap length none in absurd (omega arith);
   }
 
-entry_in : (names : List Text) (limits : Limits) (nodes : List Node) (es : List Entry) (i : ℕ) (e : Entry) → slice_get es i ≡ Some e → AreEntries names limits nodes es → IsEntry names limits nodes e
-entry_in names limits nodes es i e got all = subst (IsEntry names limits nodes) (get_or_from_slice_get es i e e got) (all i e (slice_get_within es i e got))
+entry_in : (names : List Text) (limits : Limits) (nodes : List Node) (sum_nodes : List SumNode) (es : List Entry) (i : ℕ) (e : Entry) → slice_get es i ≡ Some e → AreEntries names limits nodes sum_nodes es → IsEntry names limits nodes sum_nodes e
+entry_in names limits nodes sum_nodes es i e got all = subst (IsEntry names limits nodes sum_nodes) (get_or_from_slice_get es i e e got) (all i e (slice_get_within es i e got))
 
 -- what a look-up in the table finds, and if it finds nothing, no entry fits
-pub looked_up : (names : List Text) (limits : Limits) (nodes : List Node) (table : Table) (t : Moment) (number : ℕ) → AreEntries names limits nodes table.entries.items → AreNoted table → IsAsking limits t → number ≡ place_number t.frames
+pub looked_up : (names : List Text) (limits : Limits) (nodes : List Node) (sum_nodes : List SumNode) (table : Table) (t : Moment) (number : ℕ) → AreEntries names limits nodes sum_nodes table.entries.items → AreNoted table → IsAsking limits t → number ≡ place_number t.frames
     → (o : Option Future) → MatchOption o (NoneFrom limits.step_bound limits.device_bound table t number 0) (TakesOne limits.step_bound limits.device_bound table.entries.items t)
-    → MatchOption o (NoneFits limits.step_bound limits.device_bound table.entries.items t) (IsFound names limits nodes table.entries.items t)
-looked_up names limits nodes table t number all noted asks is None none = λ place e got fits.
+    → MatchOption o (NoneFits limits.step_bound limits.device_bound table.entries.items t) (IsFound names limits nodes sum_nodes table.entries.items t)
+looked_up names limits nodes sum_nodes table t number all noted asks is None none = λ place e got fits.
     let here : IsNoted table table.entries.items place e = noted place e got in
     let same : place_number (reverse e.frames.items) ≡ number = ap place_number fits.frames ∙ sym is in
     none place e e.known.items got (let l = here.short in omega arith) (subst (λ (n : ℕ). LeadTo table table.entries.items n 0 e.known.items place) same here.leads) fits.known fits
-looked_up names limits nodes table t number all noted asks is (Some f) takes =
-    found_there names limits nodes takes.1 t (entry_in names limits nodes table.entries.items takes.0 takes.1 takes.2 all) asks takes.3 table.entries.items takes.0 f takes.2 takes.4
+looked_up names limits nodes sum_nodes table t number all noted asks is (Some f) takes =
+    found_there names limits nodes sum_nodes takes.1 t (entry_in names limits nodes sum_nodes table.entries.items takes.0 takes.1 takes.2 all) asks takes.3 table.entries.items takes.0 f takes.2 takes.4
 
-module _ (names : List Text) (limits : Limits) (nodes : List Node) where
-  one_at : (e : Entry) → IsEntry names limits nodes e → (n : ℕ) (d : Entry) → n < 1 → IsEntry names limits nodes (get_or (e ∷ []) n d)
+module _ (names : List Text) (limits : Limits) (nodes : List Node) (sum_nodes : List SumNode) where
+  one_at : (e : Entry) → IsEntry names limits nodes sum_nodes e → (n : ℕ) (d : Entry) → n < 1 → IsEntry names limits nodes sum_nodes (get_or (e ∷ []) n d)
   one_at e k zero d l = k
   one_at e k (suc n) d l = absurd (omega arith)
 
-  all_append : (es : List Entry) (e : Entry) → AreEntries names limits nodes es → IsEntry names limits nodes e → AreEntries names limits nodes (es ++ e ∷ [])
-  all_append es e h k = All-append (IsEntry names limits nodes) es (e ∷ []) h (one_at e k)
+  all_append : (es : List Entry) (e : Entry) → AreEntries names limits nodes sum_nodes es → IsEntry names limits nodes sum_nodes e → AreEntries names limits nodes sum_nodes (es ++ e ∷ [])
+  all_append es e h k = All-append (IsEntry names limits nodes sum_nodes) es (e ∷ []) h (one_at e k)
 
   -- more nodes
-  wider : (new : List Node) (e : Entry) → HasMore nodes new → IsEntry names limits nodes e → IsEntry names limits new e
-  wider new e h k = record {
+  wider : (new : List Node) (new_sums : List SumNode) (e : Entry) → HasMore nodes new → HasMoreSums sum_nodes new_sums → IsEntry names limits nodes sum_nodes e → IsEntry names limits new new_sums e
+  wider new new_sums e h more k = record {
     moment = k.moment;
     asks = k.asks;
     frames = k.frames;
@@ -284,24 +293,29 @@ module _ (names : List Text) (limits : Limits) (nodes : List Node) where
     devices = k.devices;
     summary = k.summary;
     sums = k.sums;
-    shown = k.shown;
+    shown = (draws_further sum_nodes new_sums e.summary.sum (map saturated k.summary.rows) more k.shown.0, k.shown.1);
     draws = draws_on nodes new e.summary.place (seen_at limits k.moment) h k.draws;
   }
 
-  pub entries_as : (old new : List Entry) → new ≡ old → AreEntries names limits nodes old → AreEntries names limits nodes new
-  entries_as old new e h = subst (AreEntries names limits nodes) (sym e) h
+  pub entries_as : (old new : List Entry) → new ≡ old → AreEntries names limits nodes sum_nodes old → AreEntries names limits nodes sum_nodes new
+  entries_as old new e h = subst (AreEntries names limits nodes sum_nodes) (sym e) h
 
-  pub all_wider : (new : List Node) (es : List Entry) → HasMore nodes new → AreEntries names limits nodes es → AreEntries names limits new es
-  all_wider new es h k = λ n d l. wider new (get_or es n d) h (k n d l)
+  pub all_wider : (new : List Node) (new_sums : List SumNode) (es : List Entry) → HasMore nodes new → HasMoreSums sum_nodes new_sums → AreEntries names limits nodes sum_nodes es → AreEntries names limits new new_sums es
+  all_wider new new_sums es h more k = λ n d l. wider new new_sums (get_or es n d) h more (k n d l)
+
+-- the summary that is kept
+pub shown_as : (sum_nodes : List SumNode) (whole copy : rt.Summary) (s t : Summary) → copy ≡ whole → s ≡ t → IsSummary sum_nodes whole s → IsSummary sum_nodes copy t
+shown_as sum_nodes whole copy s t e f h = subst (λ (x : rt.Summary). IsSummary sum_nodes x t) (sym e) (subst (IsSummary sum_nodes whole) f h)
 
 -- one more entry
-pub entries_more : (names : List Text) (task : Task) (nodes : List Node) (depth devices : ℕ) (m n : Moment) (keys : List Key) (old new : List Entry) (place : ℕ) (s : Summary) → IsReached task depth Asks m → AreEntries names task.limits nodes old → n ≡ m
-    → SummedFrom names task.limits Asks m s → Draws nodes place (seen_at task.limits m) → devices ≡ length m.log → AreAmong (asked_reads n) keys → AreEnoughAt task.limits names m keys → IsKeptAt old new n keys devices place s → AreEntries names task.limits nodes new
-entries_more names task nodes depth devices m n keys old new place s reached all same summed draws log asked enough kept_there =
-    let kept : IsKeptAt old new m keys devices place s = subst (λ (x : Moment). IsKeptAt old new x keys devices place s) same kept_there in
+pub entries_more : (names : List Text) (task : Task) (nodes : List Node) (sum_nodes : List SumNode) (depth devices : ℕ) (m n : Moment) (keys : List Key) (old new : List Entry) (whole : rt.Summary) (s : Summary) → IsReached task depth Asks m → AreEntries names task.limits nodes sum_nodes old → n ≡ m
+    → IsSummary sum_nodes whole s → SummedFrom names task.limits Asks m s → Draws nodes whole.place (seen_at task.limits m) → devices ≡ length m.log → AreAmong (asked_reads n) keys → AreEnoughAt task.limits names m keys → IsKeptAt old new n keys devices whole
+    → AreEntries names task.limits nodes sum_nodes new
+entries_more names task nodes sum_nodes depth devices m n keys old new whole s reached all same is summed draws log asked enough kept_there =
+    let kept : IsKeptAt old new m keys devices whole = subst (λ (x : Moment). IsKeptAt old new x keys devices whole) same kept_there in
     let e : Entry = kept.kept.0 in
     let known : keys_of e.known.items ≡ keys = ap keys_of kept.kept.3 ∙ kept.same in
-    let entry : IsEntry names task.limits nodes e = record {
+    let entry : IsEntry names task.limits nodes sum_nodes e = record {
       moment = m;
       asks = reached_asks task depth m reached;
       frames = ap reverse kept.kept.2 ∙ kept.frames;
@@ -312,10 +326,10 @@ entries_more names task nodes depth devices m n keys old new place s reached all
       devices = kept.kept.5 ∙ log;
       summary = summed.0;
       sums = summed.1;
-      shown = kept.kept.6 ∙ summed.2;
-      draws = subst (λ (p : ℕ). Draws nodes p (seen_at task.limits m)) (sym kept.kept.7) draws;
+      shown = shown_as sum_nodes whole e.summary s (saturated_summary summed.0) kept.kept.6 summed.2 is;
+      draws = subst (λ (x : rt.Summary). Draws nodes x.place (seen_at task.limits m)) (sym kept.kept.6) draws;
     } in
-    subst (AreEntries names task.limits nodes) (sym kept.kept.1) (all_append names task.limits nodes old e all entry)
+    subst (AreEntries names task.limits nodes sum_nodes) (sym kept.kept.1) (all_append names task.limits nodes sum_nodes old e all entry)
 
 -- ---- keys
 
@@ -389,10 +403,13 @@ searched_behind names task stop r here done last before after f is returns h =
     let begun_last : last.begun ≡ done.begun = begun_back done last returns in
     let a = h.begun in
     record {
-      sums = subst (λ (m : Moment). SummedFrom names task.limits stop m (summary_shown f.summary)) present h.sums;
+      shown = h.shown;
+      is = h.is;
+      sums = subst (λ (m : Moment). SummedFrom names task.limits stop m h.shown) present h.sums;
       draws = subst (λ (m : Moment). Draws (nodes_shown after.flow.nodes) f.summary.place (seen_from task.limits stop m)) present h.draws;
       keys = subst (λ (m : Moment). AreEnoughAtStop task.limits names stop m (keys_shown f.keys.items)) present h.keys;
       grows = h.grows;
+      more = h.more;
       last = h.last;
       marks = ap (λ (x : Record). x.marked) returns ∙ marks_by r done.present done.begun done.marked marked;
       table = h.table;
@@ -467,8 +484,8 @@ begun_sides r₀ r r₁ r₂ back r₃ r₄ v₀ v₁ v₂ v₃ v₄ marked on w
 pub room_kept : (visited most visited' most' : ℕ) → visited' ≡ visited → most' ≡ most → visited ≤ most → visited' ≤ most'
 room_kept visited most visited' most' e f l = omega arith
 
-none_there : (names : List Text) (limits : Limits) (nodes : List Node) (n : ℕ) (d : Entry) → n < 0 → IsEntry names limits nodes (get_or [] n d)
-none_there names limits nodes n d l = absurd (omega arith)
+none_there : (names : List Text) (limits : Limits) (nodes : List Node) (sum_nodes : List SumNode) (n : ℕ) (d : Entry) → n < 0 → IsEntry names limits nodes sum_nodes (get_or [] n d)
+none_there names limits nodes sum_nodes n d l = absurd (omega arith)
 
 -- ---- the whole
 
@@ -487,8 +504,8 @@ ending_settled (Dry s) = refl
 pub reached_first : (task : Task) (stop : Stop) (m : Moment) → Stops task.limits stop (λ w. settled (run_on task w)) m → IsReached task 0 stop m
 reached_first task stop m h = ([], refl, h)
 
-pub no_entries : (names : List Text) (limits : Limits) (nodes : List Node) (es : List Entry) → es ≡ [] → AreEntries names limits nodes es
-no_entries names limits nodes es e = subst (AreEntries names limits nodes) (sym e) (none_there names limits nodes)
+pub no_entries : (names : List Text) (limits : Limits) (nodes : List Node) (sum_nodes : List SumNode) (es : List Entry) → es ≡ [] → AreEntries names limits nodes sum_nodes es
+no_entries names limits nodes sum_nodes es e = subst (AreEntries names limits nodes sum_nodes) (sym e) (none_there names limits nodes sum_nodes)
 
 end_settled : (names : List Text) (task : Task) (w : OutcomeWord) → came_end names (settled (run_on task w)) ≡ end_of names task w
 end_settled names task w =

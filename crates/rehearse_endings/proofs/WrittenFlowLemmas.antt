@@ -26,6 +26,8 @@ use Rattle.rehearse_states.specs.Words.{words_in}
 use Rattle.rehearse_endings.specs.Searching.{future, seen_from, IsReached, AreEntries}
 use Rattle.rehearse_states.specs.declared.flow.Flow.{Flow}
 use Rattle.rehearse_states.specs.declared.flow.Node as rt
+use Rattle.rehearse_states.specs.declared.sum_nodes.SumNode as sum
+use Rattle.rehearse_states.specs.SumNodes.{SumNode, HasMoreSums, sums_shown}
 use Rattle.rehearse_endings.specs.declared.table.Table.{Table}
 use Rattle.rehearse_machine.proofs.AskingCommandLemmas.{asks_anew}
 use Rattle.rehearse_endings.proofs.DrawingLemmas.{draws_on, end_drawn, words_logged, asks_drawn}
@@ -79,6 +81,13 @@ more_nodes a b c more e f = (more, f ∙ e)
 pub no_more : (a b : List Node) → b ≡ a → HasMore a b
 no_more a b e = ([], e ∙ sym (append-nil a))
 
+-- nodes of rows, after others
+pub more_sums_on : (a b c : List SumNode) → HasMoreSums a b → HasMoreSums b c → HasMoreSums a c
+more_sums_on a b c h k = (h.0 ++ k.0, k.1 ∙ ap (λ (x : List SumNode). x ++ k.0) h.1 ∙ append_assoc a h.0 k.0)
+
+pub no_more_sums : (a b : List SumNode) → b ≡ a → HasMoreSums a b
+no_more_sums a b e = ([], e ∙ sym (append-nil a))
+
 -- a node that was made last
 pub last_made : (old asked new : Vec rt.Node Global) (node : Node) (place kept : ℕ) → place ≡ length old.items → nodes_shown asked ≡ nodes_shown old ++ node ∷ [] → new ≡ asked → kept ≡ place → kept + 1 ≡ length new.items
 last_made old asked new node place kept at made_so same kept_at =
@@ -90,10 +99,12 @@ last_made old asked new node place kept at made_so same kept_at =
     omega (arith, a, b, c, d, e, at, kept_at)
 
 -- the entries of a table, when a state is entered
-pub entered_as : (names : List Text) (limits : Limits) (old new : Table) → new.entries.items ≡ old.entries.items → new.flow ≡ old.flow → AreEntries names limits (nodes_shown old.flow.nodes) old.entries.items → AreEntries names limits (nodes_shown new.flow.nodes) new.entries.items
-entered_as names limits old new e f h =
-    subst (λ (x : Flow). AreEntries names limits (nodes_shown x.nodes) new.entries.items) (sym f)
-    (subst (AreEntries names limits (nodes_shown old.flow.nodes)) (sym e) h)
+pub entered_as : (names : List Text) (limits : Limits) (old new : Table) → new.entries.items ≡ old.entries.items → new.flow ≡ old.flow → new.sums ≡ old.sums → AreEntries names limits (nodes_shown old.flow.nodes) (sums_shown old.sums) old.entries.items
+    → AreEntries names limits (nodes_shown new.flow.nodes) (sums_shown new.sums) new.entries.items
+entered_as names limits old new e f g h =
+    subst (λ (x : Flow). AreEntries names limits (nodes_shown x.nodes) (sums_shown new.sums) new.entries.items) (sym f)
+    (subst (λ (x : Vec sum.SumNode Global). AreEntries names limits (nodes_shown old.flow.nodes) (sums_shown x) new.entries.items) (sym g)
+    (subst (AreEntries names limits (nodes_shown old.flow.nodes) (sums_shown old.sums)) (sym e) h))
 
 -- ---- the order of the lines
 

@@ -13,7 +13,8 @@ use Rattle.rehearse_reports.specs.ReportsShown.{keys_shown}
 use Rattle.rehearse_reports.specs.declared.known.Known.{Known}
 use Rattle.rehearse_reuse.specs.SummedRuns.{FitsIf, moved_by}
 use Rattle.rehearse_states.specs.PlaceNumbers.{place_number}
-use Rattle.rehearse_states.specs.RowsShown.{summary_shown}
+use Rattle.rehearse_states.specs.Endings.{Row}
+use Rattle.rehearse_states.specs.RowsShown.{summary_with}
 use Rattle.rehearse_endings.specs.Numbers.{mixed_known}
 use Rattle.rehearse_endings.specs.declared.table.Entry.{Entry}
 use Rattle.rehearse_endings.specs.declared.table.Future.{Future}
@@ -85,7 +86,8 @@ pub record Fits (step_bound device_bound : ℕ) (e : Entry) (m : Moment) : Type 
 
 -- what is to come after the entry, as it is at the moment
 pub record IsTaken (e : Entry) (m : Moment) (f : Future) : Type 0 where
-  pub sums : summary_shown f.summary ≡ moved_by e.steps m.steps e.devices (length m.log) (summary_shown e.summary)
+  pub sums : (rows : List Row) → summary_with rows f.summary ≡ moved_by e.steps m.steps e.devices (length m.log) (summary_with rows e.summary)
+  pub node : f.summary.sum ≡ e.summary.sum
   pub place : f.summary.place ≡ e.summary.place
   pub keys : keys_shown f.keys.items ≡ keys_of e.known.items
 

@@ -9,7 +9,8 @@ use Rattle.rehearse_machine.specs.declared.rehearsal.Stop.{Stop}
 use Rattle.rehearse_machine.specs.StoppedTexts.{StoppedAt}
 use Rattle.rehearse_reuse.specs.DrawnRuns.{Draws}
 use Rattle.rehearse_states.specs.Drawing.{HasMore, nodes_shown}
-use Rattle.rehearse_states.specs.RowsShown.{summary_shown}
+use Rattle.rehearse_states.specs.Summaries.{Summary}
+use Rattle.rehearse_states.specs.SumNodes.{HasMoreSums, IsSummary, sums_shown}
 use Rattle.rehearse_endings.specs.Searching.{SummedFrom, seen_from, AreEntries}
 use Rattle.rehearse_endings.specs.Indexed.{AreNoted}
 use Rattle.rehearse_endings.specs.States.{Asked, ComesBy, HasEntered}
@@ -24,13 +25,16 @@ IsSpent work r = (work < r.begun) × (r.begun ≤ work + most_steps)
 
 -- everything after the stop is searched: the summary says what is to come, the keys are enough for it, and the table has what was entered
 pub record IsSearched (names : List Text) (task : Task) (stop : Stop) (old new : Record) (before after : Table) (f : Future) : Type 0 where
-  pub sums : SummedFrom names task.limits stop old.present (summary_shown f.summary)
+  pub shown : Summary
+  pub is : IsSummary (sums_shown after.sums) f.summary shown
+  pub sums : SummedFrom names task.limits stop old.present shown
   pub draws : Draws (nodes_shown after.flow.nodes) f.summary.place (seen_from task.limits stop old.present)
   pub keys : AreEnoughAtStop task.limits names stop old.present (keys_shown f.keys.items)
   pub grows : HasMore (nodes_shown before.flow.nodes) (nodes_shown after.flow.nodes)
+  pub more : HasMoreSums (sums_shown before.sums) (sums_shown after.sums)
   pub last : before.entries.items ≡ [] → before.flow.nodes.items ≡ [] → f.summary.place + 1 ≡ length after.flow.nodes.items
   pub marks : new.marked ≡ old.marked
-  pub table : AreEntries names task.limits (nodes_shown after.flow.nodes) after.entries.items
+  pub table : AreEntries names task.limits (nodes_shown after.flow.nodes) (sums_shown after.sums) after.entries.items
   pub begun : new.begun + 2 * before.visited * most_steps ≤ old.begun + 2 * after.visited * most_steps
   pub room : after.visited ≤ after.most
   pub most : after.most ≡ before.most

@@ -22,7 +22,9 @@ use Rattle.rehearse_states.specs.Flow.{Node, Seen, asked_in}
 use Rattle.rehearse_reuse.specs.DrawnRuns.{Draws, seen_behind, seen_at}
 use Rattle.rehearse_states.specs.Summaries.{Summary}
 use Rattle.rehearse_reuse.specs.SummedRuns.{Summed, SumsAt}
-use Rattle.rehearse_states.specs.RowsShown.{summary_shown, saturated_summary}
+use Rattle.rehearse_states.specs.RowsShown.{saturated_summary}
+use Rattle.rehearse_states.specs.SumNodes.{SumNode, IsSummary}
+use Rattle.rehearse_states.specs.declared.summary.Summary as rt
 use Rattle.rehearse_endings.specs.declared.table.Entry.{Entry}
 use Rattle.rehearse_endings.specs.declared.table.Future.{Future}
 
@@ -44,8 +46,8 @@ abbrev pub IsReached : Task → (depth : ℕ) → Stop → Moment → Type 0
 IsReached task depth stop m = (p : OutcomeWord) × (length p ≡ depth) × StoppedAt task p stop m
 
 -- an entry is the summary of a moment at which a device command asks, with what was known there of keys that are enough, and the
--- nodes draw what is to come of it
-pub record IsEntry (names : List Text) (limits : Limits) (nodes : List Node) (e : Entry) : Type 0 where
+-- nodes draw what is to come of it, and its rows
+pub record IsEntry (names : List Text) (limits : Limits) (nodes : List Node) (sum_nodes : List SumNode) (e : Entry) : Type 0 where
   pub moment : Moment
   pub asks : IsAsking limits moment
   pub frames : reverse e.frames.items ≡ moment.frames
@@ -56,29 +58,31 @@ pub record IsEntry (names : List Text) (limits : Limits) (nodes : List Node) (e 
   pub devices : e.devices ≡ length moment.log
   pub summary : Summary
   pub sums : SumsAt names limits moment summary
-  pub shown : summary_shown e.summary ≡ saturated_summary summary
+  pub shown : IsSummary sum_nodes e.summary (saturated_summary summary)
   pub draws : Draws nodes e.summary.place (seen_at limits moment)
 
-abbrev pub AreEntries : (names : List Text) → Limits → List Node → List Entry → Type 0
-AreEntries names limits nodes entries = All (IsEntry names limits nodes) entries
+abbrev pub AreEntries : (names : List Text) → Limits → List Node → List SumNode → List Entry → Type 0
+AreEntries names limits nodes sum_nodes entries = All (IsEntry names limits nodes sum_nodes) entries
 
 -- what was found of a moment at which a device command asks, in the table
-pub record IsFound (names : List Text) (limits : Limits) (nodes : List Node) (entries : List Entry) (m : Moment) (f : Future) : Type 0 where
-  pub sums : SummedFrom names limits Asks m (summary_shown f.summary)
+pub record IsFound (names : List Text) (limits : Limits) (nodes : List Node) (sum_nodes : List SumNode) (entries : List Entry) (m : Moment) (f : Future) : Type 0 where
+  pub shown : Summary
+  pub is : IsSummary sum_nodes f.summary shown
+  pub sums : SummedFrom names limits Asks m shown
   pub draws : Draws nodes f.summary.place (seen_at limits m)
   pub keys : AreEnoughAt limits names m (keys_shown f.keys.items)
   pub some : entries ≢ []
 
 -- one more entry
-abbrev pub IsKept : (old new : List Entry) → List RunningFrame → List Known → (steps devices place : ℕ) → Summary → Type 0
-IsKept old new frames known steps devices place shown = (e : Entry) × (new ≡ old ++ e ∷ []) × (e.frames.items ≡ frames) × (e.known.items ≡ known)
-    × (e.steps ≡ steps) × (e.devices ≡ devices) × (summary_shown e.summary ≡ shown) × (e.summary.place ≡ place)
+abbrev pub IsKept : (old new : List Entry) → List RunningFrame → List Known → (steps devices : ℕ) → rt.Summary → Type 0
+IsKept old new frames known steps devices summary = (e : Entry) × (new ≡ old ++ e ∷ []) × (e.frames.items ≡ frames) × (e.known.items ≡ known)
+    × (e.steps ≡ steps) × (e.devices ≡ devices) × (e.summary ≡ summary)
 
 -- one more entry, of a moment, with what the moment has at these keys
-pub record IsKeptAt (old new : List Entry) (m : Moment) (keys : List Key) (devices place : ℕ) (shown : Summary) : Type 0 where
+pub record IsKeptAt (old new : List Entry) (m : Moment) (keys : List Key) (devices : ℕ) (summary : rt.Summary) : Type 0 where
   pub left : List RunningFrame
   pub known : List Known
   pub frames : reverse left ≡ m.frames
   pub holds : AllHold m known
   pub same : keys_of known ≡ keys
-  pub kept : IsKept old new left known m.steps devices place shown
+  pub kept : IsKept old new left known m.steps devices summary

@@ -1,5 +1,5 @@
 -- The states in which device commands ask, and to which the runs of a task come. Ours.
-use Rattle.std.specs.Prelude.{◌≡◌, ℕ, ◌+◌, ◌*◌, ◌<◌, List, [], ◌∷◌, ◌++◌, length, reverse, ◌⊎◌}
+use Rattle.std.specs.Prelude.{◌≡◌, ℕ, ◌+◌, ◌*◌, ◌<◌, List, [], ◌∷◌, ◌++◌, length, map, reverse, ◌⊎◌}
 use Rattle.std.specs.List.{AllByRecursion}
 use Rattle.bootstore_state.specs.Moment.{Moment}
 use Rattle.bootstore_state.specs.StoredState.{state_at}
@@ -15,7 +15,7 @@ use Rattle.rehearse_frames.specs.KeysToCome.{AreEnoughAt}
 use Rattle.rehearse_reports.specs.Known.{AllHold, keys_of}
 use Rattle.rehearse_reuse.specs.SummedRuns.{FitsIf, SumsAt}
 use Rattle.rehearse_states.specs.Drawing.{asks_in, nodes_shown}
-use Rattle.rehearse_states.specs.RowsShown.{summary_shown, saturated_summary}
+use Rattle.rehearse_states.specs.RowsShown.{saturated, saturated_summary, summary_with}
 use Rattle.rehearse_states.specs.Summaries.{Summary}
 use Rattle.rehearse_endings.specs.declared.table.Entry.{Entry}
 use Rattle.rehearse_endings.specs.declared.table.Table.{Table}
@@ -90,14 +90,14 @@ ComesToSteps names task steps =
 
 -- ---- while the search goes on
 
--- the entry of a state that was searched
+-- the entry of a state that was searched, apart from its rows
 pub record IsKeptAs (s : Searched) (e : Entry) : Type 0 where
   pub frames : reverse e.frames.items ≡ s.asked.1.frames
   pub known : AllHold s.asked.1 e.known.items
   pub keys : keys_of e.known.items ≡ s.keys
   pub steps : e.steps ≡ s.asked.1.steps
   pub devices : e.devices ≡ length s.asked.1.log
-  pub shown : summary_shown e.summary ≡ saturated_summary s.to_come
+  pub shown : summary_with (map saturated s.to_come.rows) e.summary ≡ saturated_summary s.to_come
 
 abbrev pub AreKeptAs : List Searched → List Entry → Type 0
 AreKeptAs [] [] = Unit {0}

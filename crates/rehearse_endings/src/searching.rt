@@ -7,7 +7,8 @@ ghost use Rattle.rehearse_machine.specs.Machine.{IsAsking, Stops, asked_at, outc
 ghost use Rattle.rehearse_machine.specs.Tasks.{task_in};
 ghost use Rattle.rehearse_machine.specs.StoppedTexts.{StoppedAt};
 ghost use Rattle.rehearse_rules.specs.Runs.{run_on};
-ghost use Rattle.rehearse_states.specs.RowsShown.{rows_shown, saturated, summary_shown};
+ghost use Rattle.rehearse_states.specs.RowsShown.{rows_shown, saturated};
+ghost use Rattle.rehearse_states.specs.SumNodes.{sums_shown};
 ghost use Rattle.rehearse_states.specs.Endings.{endings};
 ghost use Rattle.rehearse_reports.specs.Following.{IsReportedFor};
 ghost use Rattle.rehearse_reports.specs.ReportsShown.{accesses_shown, keys_shown};
@@ -27,7 +28,7 @@ use bootstore_state::Store;
 use rehearse_machine::{Rehearsal, Stop, begin};
 use rehearse_reports::{Key, Reported, keys_of, known_at, resume_reported};
 use rehearse_states::{
-    Node, Row, Summary, copy_frames, hash_of, of_end, of_sides, run_end_of, words_at,
+    Node, Row, Summary, copy_frames, hash_of, of_end, of_sides, rows_of, run_end_of, words_at,
 };
 use std::alloc::Global;
 
@@ -60,15 +61,16 @@ fn keep<S: Store>(
     hash: u64,
     keys: Vec<Key>,
     devices: u32,
-    summary: &Summary,
+    summary: Summary,
 ) -> Result<Vec<Key>, SumError>
     requires { hash ≡ place_number (S.record_of store.now).present.frames }
     ensures err { IfErr result (λ e. e ≡ Memory) }
     ensures keys { IfOk result (λ kept. keys_shown kept.items ≡ keys_shown keys.items) }
     ensures kept { OnOk result (IsKeptAt table.old.entries.items table.new.entries.items
-        (S.record_of store.now).present (keys_shown keys.items) devices summary.now.place (summary_shown summary.now)) }
+        (S.record_of store.now).present (keys_shown keys.items) devices summary) }
     ensures noted { OnOk result (AreNoted table.old → AreNoted table.new) }
     ensures flow { table.new.flow ≡ table.old.flow }
+    ensures sums { table.new.sums ≡ table.old.sums }
     ensures visited { table.new.visited ≡ table.old.visited }
     ensures most { table.new.most ≡ table.old.most }
 {
@@ -154,7 +156,7 @@ fn summed<S: Store>(
     requires reached { IsReached (task_in rehearsal.now) depth stop
         (S.record_of store.old).present }
     requires table { AreEntries (map (λ n. n.now) names.now) (task_in rehearsal.now).limits (nodes_shown table.old.flow.nodes)
-        table.old.entries.items }
+        (sums_shown table.old.sums) table.old.entries.items }
     requires noted { AreNoted table.old }
     requires within { (S.record_of store.old).present.steps ≤ most_steps }
     requires bound { (task_in rehearsal.now).limits.device_bound < 2 ^ 32 }
@@ -179,7 +181,14 @@ fn summed<S: Store>(
         Stop::Ends(halt) => {
             let place = table.flow.end(&halt)?;
             let run_end = run_end_of(rehearsal.alloc, store, halt, names)?;
-            let summary = of_end(rehearsal.alloc, store.steps(), devices, run_end, place)?;
+            let summary = of_end(
+                rehearsal.alloc,
+                &mut table.sums,
+                store.steps(),
+                devices,
+                run_end,
+                place,
+            )?;
             let keys = keys_at_end(rehearsal.alloc, names)?;
             Ok(Future { summary, keys })
         }
@@ -238,7 +247,7 @@ fn summed<S: Store>(
                 .ask(words, won.summary.place, lost.summary.place)?;
             let steps = store.steps();
             let summary = of_sides(
-                rehearsal.alloc,
+                &mut table.sums,
                 steps,
                 devices,
                 normal,
@@ -246,7 +255,7 @@ fn summed<S: Store>(
                 lost.summary,
                 place,
             )?;
-            let keys = keep(rehearsal.alloc, store, table, hash, both, devices, &summary)?;
+            let keys = keep(rehearsal.alloc, store, table, hash, both, devices, summary)?;
             Ok(Future { summary, keys })
         }
     }
@@ -294,9 +303,10 @@ pub fn sum_endings<S: Store>(
     let mut table = Table::new(rehearsal.alloc, most_states);
     let future = summed(rehearsal, store, &mut table, names, most_work, 0, stop)?;
     let states = table.visited;
+    let rows = rows_of(rehearsal.alloc, &table.sums, future.summary.sum)?;
     let nodes = table.flow.into_lines(rehearsal.alloc)?;
     Ok(Endings {
-        rows: future.summary.rows,
+        rows,
         states,
         nodes,
     })

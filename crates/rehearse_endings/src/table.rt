@@ -5,7 +5,9 @@ ghost use Rattle.rehearse_machine.specs.Machine.{IsAsking};
 ghost use Rattle.rehearse_machine.specs.MovesShown.{limits_of};
 ghost use Rattle.rehearse_reuse.specs.SummedRuns.{FitsIf, moved_by};
 ghost use Rattle.rehearse_states.specs.PlaceNumbers.{place_number};
-ghost use Rattle.rehearse_states.specs.RowsShown.{summary_shown};
+ghost use Rattle.rehearse_states.specs.Endings.{Row};
+ghost use Rattle.rehearse_states.specs.RowsShown.{summary_with};
+ghost use Rattle.rehearse_states.specs.SumNodes.{sums_shown};
 ghost use Rattle.rehearse_endings.specs.Searching.{AreEntries, IsFound, IsKept};
 ghost use Rattle.rehearse_endings.specs.Indexed.{AllOf, AreNoted, BeginWith, Fits, FitsNot, HasMoreWays, IsNumberBehind, KnowsNext, Leads, NoneBy, NoneFits, NoneFrom, NotesOne, TakesOne, WayIsNoted, known_in, noted, ways};
 ghost use Rattle.rehearse_reports.specs.Known.{AllHold, key_of, keys_of};
@@ -18,7 +20,7 @@ use crate::sum_error::SumError;
 use bootstore_state::{Frame, Store, StoreError};
 use device_list::Devices;
 use rehearse_reports::{Key, Known, all_hold, keys_of};
-use rehearse_states::{Flow, Summary, copy_rows, same_frames};
+use rehearse_states::{Flow, SumNode, Summary, same_frames};
 use rehearse_terms::RunBounds;
 use std::alloc::Global;
 use std::collections::HashMap;
@@ -59,6 +61,8 @@ pub(crate) struct Table {
     pub(crate) longest: usize,
     /// The nodes of the states, and of the ways to end.
     pub(crate) flow: Flow,
+    /// What the rows of the states are made of, and those of the runs that are over.
+    pub(crate) sums: Vec<SumNode>,
     /// How many states were entered.
     pub(crate) visited: u32,
     /// How many states may be entered.
@@ -84,6 +88,7 @@ impl Table {
             alike: HashMap::new(alloc),
             longest: 0,
             flow: Flow::new(alloc),
+            sums: Vec::new(alloc),
             visited: 0,
             most,
         }
@@ -94,6 +99,7 @@ impl Table {
         ensures entries { self.new.entries.items ≡ self.old.entries.items }
         ensures noted { AreNoted self.old → AreNoted self.new }
         ensures flow { self.new.flow ≡ self.old.flow }
+        ensures sums { self.new.sums ≡ self.old.sums }
         ensures most { self.new.most ≡ self.old.most }
         ensures visited { OnOk result (self.new.visited ≡ self.old.visited + 1) }
         ensures within { OnOk result (self.new.visited ≤ self.new.most) }
@@ -124,12 +130,12 @@ impl Table {
         requires depth { length (S.record_of store.now).present.log ≡ depth }
         requires place { place ≡ place_number (S.record_of store.now).present.frames }
         requires table { AreEntries (map (λ n. n.now) names.now) (limits_of devices.now bounds) (nodes_shown self.now.flow.nodes)
-            self.now.entries.items }
+            (sums_shown self.now.sums) self.now.entries.items }
         requires noted { AreNoted self.now }
         ensures { IfOk result
             (λ found. MatchOption found (NoneFits bounds.steps bounds.devices self.now.entries.items (S.record_of store.now).present)
             (IsFound (map (λ n. n.now) names.now) (limits_of devices.now bounds) (nodes_shown self.now.flow.nodes)
-            self.now.entries.items (S.record_of store.now).present)) }
+            (sums_shown self.now.sums) self.now.entries.items (S.record_of store.now).present)) }
     {
         let (_devices, _names) = (devices, names);
         let found = self.look(alloc, store, bounds, place, 0, depth)?;
@@ -317,19 +323,19 @@ impl Table {
         known: Vec<Known>,
         steps: u32,
         devices: u32,
-        summary: &Summary,
+        summary: Summary,
     ) -> Result<(), SumError>
         requires { place ≡ place_number (reverse frames.items) }
         ensures err { IfErr result (λ e. e ≡ Memory) }
         ensures kept { OnOk result
             (IsKept self.old.entries.items self.new.entries.items frames.items known.items steps devices
-            summary.now.place (summary_shown summary.now)) }
+            summary) }
         ensures noted { OnOk result (AreNoted self.old → AreNoted self.new) }
         ensures flow { self.new.flow ≡ self.old.flow }
+        ensures sums { self.new.sums ≡ self.old.sums }
         ensures visited { self.new.visited ≡ self.old.visited }
         ensures most { self.new.most ≡ self.old.most }
     {
-        let copy = copy_summary(alloc, summary)?;
         let at = self.entries.len();
         let number = self.note_ways(alloc, place, &known, at)?;
         note(alloc, &mut self.alike, number, at)?;
@@ -339,7 +345,7 @@ impl Table {
             known,
             steps,
             devices,
-            summary: copy,
+            summary,
         })?;
         Ok(())
     }
@@ -360,6 +366,7 @@ impl Table {
         ensures alike { self.new.alike ≡ self.old.alike }
         ensures longest { self.new.longest ≡ self.old.longest }
         ensures flow { self.new.flow ≡ self.old.flow }
+        ensures sums { self.new.sums ≡ self.old.sums }
         ensures visited { self.new.visited ≡ self.old.visited }
         ensures most { self.new.most ≡ self.old.most }
     {
@@ -389,6 +396,7 @@ impl Table {
         ensures alike { self.new.alike ≡ self.old.alike }
         ensures longest { self.new.longest ≡ self.old.longest }
         ensures flow { self.new.flow ≡ self.old.flow }
+        ensures sums { self.new.sums ≡ self.old.sums }
         ensures visited { self.new.visited ≡ self.old.visited }
         ensures most { self.new.most ≡ self.old.most }
     {
@@ -447,22 +455,6 @@ fn note(
     noted.push(at)?;
     places.insert(number, noted)?;
     Ok(())
-}
-
-/// A copy of a summary.
-fn copy_summary(alloc: Global, summary: &Summary) -> Result<Summary, StoreError>
-    ensures sums { IfOk result (λ copy. summary_shown copy ≡ summary_shown summary.now) }
-    ensures place { IfOk result (λ copy. copy.place ≡ summary.now.place) }
-{
-    let rows = copy_rows(alloc, &summary.rows)?;
-    Ok(Summary {
-        rows,
-        steps: summary.steps,
-        devices: summary.devices,
-        cut_steps: summary.cut_steps,
-        cut_devices: summary.cut_devices,
-        place: summary.place,
-    })
 }
 
 /// Whether there is room: the same as there if a run was cut, else enough.
@@ -539,17 +531,16 @@ fn moved(
 ) -> Result<Future, StoreError>
     requires steps { FitsIf entry.now.summary.cut_steps entry.now.steps steps entry.now.summary.steps bounds.steps }
     requires devices { FitsIf entry.now.summary.cut_devices entry.now.devices devices entry.now.summary.devices bounds.devices }
-    ensures sums { IfOk result
-        (λ f. summary_shown f.summary ≡ moved_by entry.now.steps steps entry.now.devices devices
-        (summary_shown entry.now.summary)) }
+    ensures sums { IfOk result (λ f. (rows : List Row) → summary_with rows f.summary
+        ≡ moved_by entry.now.steps steps entry.now.devices devices (summary_with rows entry.now.summary)) }
+    ensures node { IfOk result (λ f. f.summary.sum ≡ entry.now.summary.sum) }
     ensures place { IfOk result (λ f. f.summary.place ≡ entry.now.summary.place) }
     ensures keys { IfOk result (λ f. keys_shown f.keys.items ≡ keys_of entry.now.known.items) }
 {
     let old = &entry.summary;
     let keys = keys_of(alloc, &entry.known)?;
-    let rows = copy_rows(alloc, &old.rows)?;
     let summary = Summary {
-        rows,
+        sum: old.sum,
         steps: reach_from(old.cut_steps, entry.steps, steps, old.steps, bounds.steps()),
         devices: reach_from(
             old.cut_devices,

@@ -9,6 +9,7 @@ mod FlowExamples
 mod PlaceNumberExamples
 pub mod RowLemmas
 pub mod RepeatLemmas
+pub mod SumLemmas
 pub mod EndingLineLemmas
 pub mod NumberedNodes
 mod PlaceNumberLemmas

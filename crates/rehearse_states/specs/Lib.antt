@@ -6,5 +6,7 @@ pub mod Flow
 pub mod Drawing
 pub mod Summaries
 pub mod RowsShown
+pub mod SumNodes
+pub mod SumRows
 pub mod EndingLines
 pub mod PlaceNumbers

@@ -59,9 +59,10 @@ row_shown r = record {
 abbrev pub rows_shown : Vec rt.Row Global → List Row
 rows_shown rows = map row_shown rows.items
 
-abbrev pub summary_shown : kept.Summary → Summary
-summary_shown s = record {
-  rows = rows_shown s.rows;
+-- a summary with these rows
+abbrev pub summary_with : List Row → kept.Summary → Summary
+summary_with rows s = record {
+  rows = rows;
   steps = s.steps;
   devices = s.devices;
   cut_steps = s.cut_steps;

@@ -38,10 +38,9 @@ impl Row {
 }
 
 /// The row of one run that is over.
-pub(crate) fn one_row(alloc: Global, run_end: RunEnd) -> Result<Vec<Row>, StoreError>
-    ensures { IfOk result (λ rows. rows_shown rows ≡ one_run (run_end_shown run_end, ([], 0)) ∷ []) }
+pub(crate) fn one_row(alloc: Global, run_end: Rc<RunEnd>) -> Result<Vec<Row>, StoreError>
+    ensures { IfOk result (λ rows. rows_shown rows ≡ one_run (run_end_shown run_end.value, ([], 0)) ∷ []) }
 {
-    let run_end = Rc::new(alloc, run_end)?;
     let mut rows = Vec::new(alloc);
     rows.push(Row {
         run_end,
@@ -70,7 +69,7 @@ fn copy_row(row: &Row) -> Result<Row, StoreError>
 }
 
 /// A copy of rows, which shares their endings and words.
-pub fn copy_rows(alloc: Global, rows: &Vec<Row>) -> Result<Vec<Row>, StoreError>
+pub(crate) fn copy_rows(alloc: Global, rows: &Vec<Row>) -> Result<Vec<Row>, StoreError>
     ensures { IfOk result (λ copy. rows_shown copy ≡ rows_shown rows.now) }
 {
     let mut copies = Vec::new(alloc);

@@ -6,7 +6,11 @@ use Rattle.rehearse_machine.specs.Tasks.{task_in}
 use Rattle.rehearse_machine.specs.declared.rehearsal.Stop.{Stop}
 use Rattle.rehearse_machine.specs.declared.rehearsal.Stop.TheVariants.{Asks}
 use Rattle.rehearse_states.specs.PlaceNumbers.{place_number}
-use Rattle.rehearse_states.specs.RowsShown.{run_end_shown, summary_shown}
+use Rattle.rehearse_states.specs.RowsShown.{of_both_up, run_end_shown}
+use Rattle.rehearse_states.specs.Summaries.{Summary, summary_at_end, summary_of_sides}
+use Rattle.rehearse_states.specs.SumNodes.{SumNode, HasMoreSums, IsSummary, sums_shown}
+use Rattle.rehearse_states.specs.declared.sum_nodes.SumNode as sum
+use Rattle.rehearse_states.proofs.SumLemmas.{draws_further}
 use Rattle.text.specs.TextsShown.{bytes_of_words}
 use Rattle.std.proofs.lemmas.List.{length-map}
 use Rattle.rehearse_reuse.specs.DrawnRuns.{Draws}
@@ -26,7 +30,7 @@ use Rattle.std.proofs.Common.{Err}
 use Rattle.std.proofs.lemmas.Result.{err_from_is_err_and}
 use Rattle.rehearse_endings.proofs.IndexLemmas.{noted_same, nothing}
 use Rattle.rehearse_endings.proofs.EnteredStateLemmas.{refused_as, passed_on, met_as, enters, too_many, too_costly, comes_by, gone_through, none_entered, something}
-use Rattle.rehearse_endings.proofs.WrittenFlowLemmas.{state_drawn, kept_drawn, last_made, ended_drawn, more_on, more_nodes, no_more, entered_as}
+use Rattle.rehearse_endings.proofs.WrittenFlowLemmas.{state_drawn, kept_drawn, last_made, ended_drawn, more_on, more_nodes, no_more, more_sums_on, no_more_sums, entered_as}
 use Rattle.rehearse_endings.proofs.SearchLemmas.{marked_present, reached_marked, reached_asks, last_there, keys_of_sides, searched_behind, Room, begun_back, begun_marked, begun_on, begun_won, begun_behind, begun_lost, spent_by, begun_sides, reached_within, reached_as, reached_below, reached_on, won_on, back_there, marks_back, room_kept, lost_on, sides_of, summed_end, summed_sides, all_wider, entries_more}
 use Rattle.rehearse_endings.specs.declared.sum_error.SumError.{SumError}
 use Rattle.rehearse_endings.specs.declared.sum_error.SumError.TheVariants.{States, Steps}
@@ -61,7 +65,7 @@ summed-requires g t c κs within =
     let b = c.requires.bound in
     let r₁ = g.S.Store.record_of c.resumed.new.store in
     let stops = won_on task r (g.S.Store.record_of c.mark-in-Asks.new.self) r₁ c.in_ok-won_stop-in-Asks.won_stop c.in_ok-mark-in-Asks-2.ensures.ok c.in_ok-won_stop-in-Asks.ensures.stops in
-    let entered = entered_as (map (λ n. n.now) c.args.names.now) task.limits c.args.table.now c.enter.new.self c.enter.ensures.entries c.enter.ensures.flow c.requires.table in
+    let entered = entered_as (map (λ n. n.now) c.args.names.now) task.limits c.args.table.now c.enter.new.self c.enter.ensures.entries c.enter.ensures.flow c.enter.ensures.sums c.requires.table in
     let marked = begun_marked r (g.S.Store.record_of c.mark-in-Asks.new.self) c.in_ok-mark-in-Asks-2.ensures.ok in
     let on = begun_on (g.S.Store.record_of c.mark-in-Asks.new.self) r₁ c.in_ok-won_stop-in-Asks.ensures.begun c.in_ok-won_stop-in-Asks.ensures.within in
     let room = c.requires.begun in
@@ -120,16 +124,21 @@ returns-in_ok-keys-in-Ends-clause-searched g t c =
     let task = task_in c.args.rehearsal.now in
     let m = (g.S.Store.record_of c.args.store.now).present in
     let nodes = nodes_shown c.end.new.self.nodes in
+    let sum_nodes = sums_shown c.of_end.new.sums in
+    let shown = summary_at_end (run_end_shown c.in_ok-run_end-in-Ends.run_end) c.steps.result c.logged-devices.result in
     record {
+      shown = shown;
+      is = c.in_ok-summary-in-Ends.ensures.sums;
       sums =
-          subst (λ (x : Stop). SummedFrom (map (λ n. n.now) c.args.names.now) task.limits x m (summary_shown c.in_ok-summary-in-Ends.summary)) (sym c.in-Ends.is)
-          (summed_end (map (λ n. n.now) c.args.names.now) task.limits c.in-Ends.halt (run_end_shown c.in_ok-run_end-in-Ends.run_end) m c.logged-devices.result c.steps.result (summary_shown c.in_ok-summary-in-Ends.summary) (sym c.logged-devices.ensures) c.steps.ensures c.in_ok-run_end-in-Ends.ensures c.in_ok-summary-in-Ends.ensures.sums);
+          subst (λ (x : Stop). SummedFrom (map (λ n. n.now) c.args.names.now) task.limits x m shown) (sym c.in-Ends.is)
+          (summed_end (map (λ n. n.now) c.args.names.now) task.limits c.in-Ends.halt (run_end_shown c.in_ok-run_end-in-Ends.run_end) m c.logged-devices.result c.steps.result shown (sym c.logged-devices.ensures) c.steps.ensures c.in_ok-run_end-in-Ends.ensures refl);
       draws = ended_drawn task.limits nodes c.in_ok-place-in-Ends.place c.in_ok-summary-in-Ends.summary.place c.in-Ends.halt c.args.stop m c.in-Ends.is c.in_ok-summary-in-Ends.ensures.place c.in_ok-place-in-Ends.ensures.place;
       keys = subst (λ (x : Stop). AreEnoughAtStop task.limits (map (λ n. n.now) c.args.names.now) x m (keys_shown c.in_ok-keys-in-Ends.keys.items)) (sym c.in-Ends.is) c.in_ok-keys-in-Ends.ensures;
       grows = c.in_ok-place-in-Ends.ensures.grows;
+      more = c.in_ok-summary-in-Ends.ensures.grows;
       last = λ none no_nodes. ap (λ (n : ℕ). n + 1) c.in_ok-summary-in-Ends.ensures.place ∙ c.in_ok-place-in-Ends.ensures.last no_nodes;
       marks = refl;
-      table = all_wider (map (λ n. n.now) c.args.names.now) task.limits (nodes_shown c.args.table.now.flow.nodes) nodes c.args.table.now.entries.items c.in_ok-place-in-Ends.ensures.grows c.requires.table;
+      table = all_wider (map (λ n. n.now) c.args.names.now) task.limits (nodes_shown c.args.table.now.flow.nodes) (sums_shown c.args.table.now.sums) nodes sum_nodes c.args.table.now.entries.items c.in_ok-place-in-Ends.ensures.grows c.in_ok-summary-in-Ends.ensures.grows c.requires.table;
       begun = omega arith;
       room = c.requires.room;
       most = refl;
@@ -143,13 +152,16 @@ returns-in-Some-clause-searched g t c =
     let limits = (task_in c.args.rehearsal.now).limits in
     let m = (g.S.Store.record_of c.args.store.now).present in
     let nodes = nodes_shown c.args.table.now.flow.nodes in
-    let found : IsFound names limits nodes c.args.table.now.entries.items m c.in-Some.found = something _ _ c.in_ok-found-in-Asks.field-0 c.in-Some.found c.in-Some.is c.in_ok-found-in-Asks.ensures in
-    let shown = summary_shown c.in-Some.found.summary in
+    let sum_nodes = sums_shown c.args.table.now.sums in
+    let found : IsFound names limits nodes sum_nodes c.args.table.now.entries.items m c.in-Some.found = something _ _ c.in_ok-found-in-Asks.field-0 c.in-Some.found c.in-Some.is c.in_ok-found-in-Asks.ensures in
     record {
-      sums = subst (λ (x : Stop). SummedFrom names limits x m shown) (sym c.in-Asks.is) found.sums;
+      shown = found.shown;
+      is = found.is;
+      sums = subst (λ (x : Stop). SummedFrom names limits x m found.shown) (sym c.in-Asks.is) found.sums;
       draws = subst (λ (x : Stop). Draws nodes c.in-Some.found.summary.place (seen_from limits x m)) (sym c.in-Asks.is) found.draws;
       keys = subst (λ (x : Stop). AreEnoughAtStop limits names x m (keys_shown c.in-Some.found.keys.items)) (sym c.in-Asks.is) found.keys;
       grows = no_more nodes nodes refl;
+      more = no_more_sums sum_nodes sum_nodes refl;
       last = λ none no_nodes. absurd (found.some none);
       marks = refl;
       table = c.requires.table;
@@ -197,7 +209,19 @@ returns-in_ok-keys-in-Asks-clause-searched g t c =
     let keys_kept = subst (AreEnoughAt task.limits names r.present) (sym c.in_ok-keys-in-Asks.ensures.keys) keys_at in
     let words_are : c.deref.result.now ≡ c.in_ok-words-in-Asks.words.items = search rules in
     let normal = c.fails_normally-normal.ensures ∙ ap (λ (ws : List (Vec ℕ Global)). fails_normally task.limits.devices (bytes_of_words ws)) words_are in
-    let summed = summed_sides names task c.args.depth r.present sides.reached c.in_ok-won_stop-in-Asks.won_stop c.in_ok-lost_stop-in-Asks.lost_stop won_at lost_at (summary_shown won.summary) (summary_shown lost.summary) (summary_shown summary) c.steps-steps.result c.logged-devices.result c.fails_normally-normal.result (bytes_of_words c.in_ok-words-in-Asks.words.items) steps log sides.won sides.lost c.in_ok-words-in-Asks.ensures normal c.in_ok-won-in-Asks.ensures.searched.sums c.in_ok-lost-in-Asks.ensures.searched.sums c.in_ok-summary-in-Asks.ensures.sums in
+    let won_shown = c.in_ok-won-in-Asks.ensures.searched.shown in
+    let lost_shown = c.in_ok-lost-in-Asks.ensures.searched.shown in
+    let shown = summary_of_sides (of_both_up c.fails_normally-normal.result) c.steps-steps.result c.logged-devices.result won_shown lost_shown in
+    let won_sums = sums_shown c.summed.new.table.sums in
+    let lost_sums = sums_shown c.summed-in-Asks.new.table.sums in
+    let new_sums = sums_shown c.of_sides.new.sums in
+    let sum_nodes = sums_shown after.sums in
+    let same_sums : sum_nodes ≡ new_sums = ap (λ (v : Vec sum.SumNode Global). sums_shown v) c.keep.ensures.sums in
+    let more_sums = c.in_ok-lost-in-Asks.ensures.searched.more in
+    let won_is : IsSummary lost_sums won.summary won_shown = (draws_further won_sums lost_sums won.summary.sum won_shown.rows more_sums c.in_ok-won-in-Asks.ensures.searched.is.0, c.in_ok-won-in-Asks.ensures.searched.is.1) in
+    let is : IsSummary sum_nodes summary shown = subst (λ (x : List SumNode). IsSummary x summary shown) (sym same_sums) (c.in_ok-summary-in-Asks.ensures.sums won_shown lost_shown won_is c.in_ok-lost-in-Asks.ensures.searched.is) in
+    let grown : HasMoreSums lost_sums sum_nodes = more_sums_on lost_sums new_sums sum_nodes c.in_ok-summary-in-Asks.ensures.grows (no_more_sums new_sums sum_nodes same_sums) in
+    let summed = summed_sides names task c.args.depth r.present sides.reached c.in_ok-won_stop-in-Asks.won_stop c.in_ok-lost_stop-in-Asks.lost_stop won_at lost_at won_shown lost_shown shown c.steps-steps.result c.logged-devices.result c.fails_normally-normal.result (bytes_of_words c.in_ok-words-in-Asks.words.items) steps log sides.won sides.lost c.in_ok-words-in-Asks.ensures normal c.in_ok-won-in-Asks.ensures.searched.sums c.in_ok-lost-in-Asks.ensures.searched.sums refl in
     let won_nodes = nodes_shown c.summed.new.table.flow.nodes in
     let nodes = c.summed-in-Asks.new.table.flow.nodes in
     let same = ap (λ (x : Flow). nodes_shown x.nodes) c.keep.ensures.flow in
@@ -210,11 +234,13 @@ returns-in_ok-keys-in-Asks-clause-searched g t c =
     sides.reached sides.won sides.lost log c.in_ok-words-in-Asks.ensures c.in_ok-won-in-Asks.ensures.searched.draws c.in_ok-lost-in-Asks.ensures.searched.grows c.in_ok-lost-in-Asks.ensures.searched.draws at c.in_ok-place-in-Asks.ensures.nodes in
     let draws = kept_drawn task.limits r.present (nodes_shown c.ask.new.self.nodes) (nodes_shown after.flow.nodes) place summary.place same kept_at drawn in
     let more = more_nodes (nodes_shown nodes) (nodes_shown c.ask.new.self.nodes) (nodes_shown after.flow.nodes) _ c.in_ok-place-in-Asks.ensures.nodes same in
-    let kept : IsKeptAt c.summed-in-Asks.new.table.entries.items after.entries.items r.present (keys_shown c.in_ok-both-in-Asks.both.items) c.logged-devices.result summary.place (summary_shown summary) =
-    subst (λ (m : Moment). IsKeptAt c.summed-in-Asks.new.table.entries.items after.entries.items m (keys_shown c.in_ok-both-in-Asks.both.items) c.logged-devices.result summary.place (summary_shown summary)) at_last c.in_ok-keys-in-Asks.ensures.kept in
+    let kept : IsKeptAt c.summed-in-Asks.new.table.entries.items after.entries.items r.present (keys_shown c.in_ok-both-in-Asks.both.items) c.logged-devices.result summary =
+    subst (λ (m : Moment). IsKeptAt c.summed-in-Asks.new.table.entries.items after.entries.items m (keys_shown c.in_ok-both-in-Asks.both.items) c.logged-devices.result summary) at_last c.in_ok-keys-in-Asks.ensures.kept in
     searched_behind names task c.args.stop r₀ r done last before after _ first c.back-in-Asks.ensures
     (record {
-      sums = subst (λ (x : Stop). SummedFrom names task.limits x r.present (summary_shown summary)) (sym c.in-Asks.is) summed;
+      shown = shown;
+      is = is;
+      sums = subst (λ (x : Stop). SummedFrom names task.limits x r.present shown) (sym c.in-Asks.is) summed;
       draws = subst (λ (x : Stop). Draws (nodes_shown after.flow.nodes) summary.place (seen_from task.limits x r.present)) (sym c.in-Asks.is) draws;
       keys = subst (λ (x : Stop). AreEnoughAtStop task.limits names x r.present (keys_shown c.in_ok-keys-in-Asks.keys.items)) (sym c.in-Asks.is) keys_kept;
       grows =
@@ -227,12 +253,17 @@ returns-in_ok-keys-in-Asks-clause-searched g t c =
           more_on one three four
           (more_on one two three (more_on one entered two (no_more one entered (ap shown c.enter.ensures.flow)) c.in_ok-won-in-Asks.ensures.searched.grows) c.in_ok-lost-in-Asks.ensures.searched.grows)
           (more_nodes three (nodes_shown c.ask.new.self.nodes) four _ c.in_ok-place-in-Asks.ensures.nodes (ap shown c.keep.ensures.flow));
+      more =
+          let first = sums_shown before.sums in
+          let entered = sums_shown c.enter.new.self.sums in
+          more_sums_on first lost_sums sum_nodes
+          (more_sums_on first won_sums lost_sums (more_sums_on first entered won_sums (no_more_sums first entered (ap (λ (v : Vec sum.SumNode Global). sums_shown v) c.enter.ensures.sums)) c.in_ok-won-in-Asks.ensures.searched.more) more_sums) grown;
       last = λ none no_nodes. last_made nodes c.ask.new.self.nodes after.flow.nodes _ place summary.place c.in_ok-place-in-Asks.ensures.place c.in_ok-place-in-Asks.ensures.nodes (ap (λ (x : Flow). x.nodes) c.keep.ensures.flow) kept_at;
       marks = marks_back r marked tried behind back failed done second c.in_ok-won_stop-in-Asks.ensures.marks c.in_ok-won-in-Asks.ensures.searched.marks c.back.ensures c.in_ok-lost_stop-in-Asks.ensures.marks c.in_ok-lost-in-Asks.ensures.searched.marks;
       table =
-          entries_more names task (nodes_shown after.flow.nodes) c.args.depth c.logged-devices.result r.present last.present (keys_shown c.in_ok-both-in-Asks.both.items) c.summed-in-Asks.new.table.entries.items after.entries.items summary.place (summary_shown summary) sides.reached
-          (all_wider names task.limits (nodes_shown nodes) (nodes_shown after.flow.nodes) c.summed-in-Asks.new.table.entries.items more c.in_ok-lost-in-Asks.ensures.searched.table)
-          at_last summed draws log c.in_ok-both-in-Asks.ensures.asked keys_at c.in_ok-keys-in-Asks.ensures.kept;
+          entries_more names task (nodes_shown after.flow.nodes) sum_nodes c.args.depth c.logged-devices.result r.present last.present (keys_shown c.in_ok-both-in-Asks.both.items) c.summed-in-Asks.new.table.entries.items after.entries.items summary shown sides.reached
+          (all_wider names task.limits (nodes_shown nodes) lost_sums (nodes_shown after.flow.nodes) sum_nodes c.summed-in-Asks.new.table.entries.items more grown c.in_ok-lost-in-Asks.ensures.searched.table)
+          at_last is summed draws log c.in_ok-both-in-Asks.ensures.asked keys_at c.in_ok-keys-in-Asks.ensures.kept;
       begun = begun_sides r marked tried behind back failed done before.visited c.enter.new.self.visited c.summed.new.table.visited c.summed-in-Asks.new.table.visited after.visited second c.in_ok-won_stop-in-Asks.ensures.begun c.in_ok-won_stop-in-Asks.ensures.within c.in_ok-enter-in-Asks.ensures.visited
           c.in_ok-won-in-Asks.ensures.searched.begun c.back.ensures c.in_ok-lost_stop-in-Asks.ensures.begun c.in_ok-lost_stop-in-Asks.ensures.within c.in_ok-lost-in-Asks.ensures.searched.begun c.keep.ensures.visited;
       room = room_kept c.summed-in-Asks.new.table.visited c.summed-in-Asks.new.table.most after.visited after.most c.keep.ensures.visited c.keep.ensures.most c.in_ok-lost-in-Asks.ensures.searched.room;
@@ -245,8 +276,8 @@ returns-in_ok-keys-in-Asks-clause-searched g t c =
           (enters names task p r.present begun met by c.args.table.now entered none_here c.enter.new.self c.enter.ensures.entries c.enter.ensures.flow c.in_ok-enter-in-Asks.ensures.visited) in
           let left =
           c.in_ok-lost-in-Asks.ensures.searched.entered (p ++ Failure ∷ []) ((p, r.present) ∷ begun) (stopped_on task p r.present lost_at Failure c.in_ok-lost_stop-in-Asks.lost_stop met sides.lost) (comes_by p Failure r.present begun by) gone in
-          gone_through names task p r.present begun c.summed-in-Asks.new.table after c.ask.new.self words won.summary.place lost.summary.place (keys_shown c.in_ok-both-in-Asks.both.items) c.logged-devices.result summary.place (summary_shown summary)
-          left c.in_ok-place-in-Asks.ensures.nodes kept c.keep.ensures.flow c.keep.ensures.visited keys_at summed log;
+          gone_through names task p r.present begun c.summed-in-Asks.new.table after c.ask.new.self words won.summary.place lost.summary.place (keys_shown c.in_ok-both-in-Asks.both.items) c.logged-devices.result sum_nodes summary shown
+          left c.in_ok-place-in-Asks.ensures.nodes kept c.keep.ensures.flow c.keep.ensures.visited keys_at is summed log;
     })
 
 -- ---- the states that are refused

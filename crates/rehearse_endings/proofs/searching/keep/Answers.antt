@@ -1,6 +1,5 @@
 use Rattle.std.proofs.Common.{◌∙◌, ap, sym, subst, reverse, ℕ}
 use Rattle.rehearse_states.specs.PlaceNumbers.{place_number}
-use Rattle.rehearse_states.specs.RowsShown.{summary_shown}
 use Rattle.rehearse_endings.specs.Searching.{IsKept}
 use Rattle.rehearse_endings.proofs.searching.keep.Goals as goal
 
@@ -16,6 +15,6 @@ returns-clause-kept g c =
       holds = c.in_ok-known.ensures.hold;
       same = c.in_ok-known.ensures.keys;
       kept =
-          subst (λ (steps : ℕ). IsKept c.args.table.now.entries.items c.keep.new.self.entries.items c.in_ok-frames.frames.items c.in_ok-known.known.items steps c.args.devices c.args.summary.now.place (summary_shown c.args.summary.now))
+          subst (λ (steps : ℕ). IsKept c.args.table.now.entries.items c.keep.new.self.entries.items c.in_ok-frames.frames.items c.in_ok-known.known.items steps c.args.devices c.args.summary)
           c.steps.ensures c.in_ok-keep.ensures.kept;
     }

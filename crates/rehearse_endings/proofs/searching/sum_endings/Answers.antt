@@ -1,4 +1,4 @@
-use Rattle.std.proofs.Common.{ℕ, ◌+◌, ◌<◌, ◌≤◌, ◌≡◌, arith, rules, [], length, map, ap, sym, subst, ◌∙◌, Err}
+use Rattle.std.proofs.Common.{ℕ, ◌+◌, ◌<◌, ◌≤◌, ◌≡◌, arith, rules, [], List, length, map, ap, sym, subst, ◌∙◌, Err}
 use Rattle.std.proofs.lemmas.List.{length-map}
 use Rattle.rehearse_states.specs.Drawing.{asks_in, node_shown, nodes_shown}
 use Rattle.rehearse_states.proofs.NodeLemmas.{asks_in_lines}
@@ -8,7 +8,8 @@ use Rattle.rehearse_endings.specs.States.{ComesToStates, ComesToSteps}
 use Rattle.rehearse_endings.proofs.EnteredStateLemmas.{first_entered, whole_asks, whole_states, refused_as, passed_on, costly_at_once}
 use Rattle.rehearse_machine.specs.Tasks.{task_in}
 use Rattle.rehearse_terms.specs.Bounds.{most_steps}
-use Rattle.rehearse_states.specs.RowsShown.{summary_shown}
+use Rattle.rehearse_states.specs.SumNodes.{DrawsRows, sum_shown}
+use Rattle.rehearse_states.specs.declared.sum_nodes.SumNode as sum
 use Rattle.rehearse_endings.proofs.SearchLemmas.{reached_first, whole_rows}
 use Rattle.rehearse_endings.specs.declared.sum_error.SumError.{SumError}
 use Rattle.rehearse_endings.specs.declared.sum_error.SumError.TheVariants.{Steps}
@@ -18,7 +19,10 @@ pub summed-requires-clause-reached : goal.summed-requires-clause-reached
 summed-requires-clause-reached g c = reached_first (task_in c.args.rehearsal.now) c.in_ok-stop.stop (g.S.Store.record_of c.begin_text.new.store).present c.in_ok-stop.ensures.stops
 
 pub returns-clause-rows : goal.returns-clause-rows
-returns-clause-rows g c = whole_rows (map (λ n. n.now) c.args.names.now) (task_in c.args.rehearsal.now) c.in_ok-stop.stop (g.S.Store.record_of c.begin_text.new.store).present (summary_shown c.in_ok-future.future.summary) c.in_ok-stop.ensures.stops c.in_ok-future.ensures.searched.sums
+returns-clause-rows g c =
+    let searched = c.in_ok-future.ensures.searched in
+    c.in_ok-rows.ensures searched.shown.rows (subst (λ (x : List sum.SumNode). DrawsRows (map sum_shown x) c.in_ok-future.future.summary.sum searched.shown.rows) (sym c.deref.ensures.value) searched.is.0)
+    ∙ whole_rows (map (λ n. n.now) c.args.names.now) (task_in c.args.rehearsal.now) c.in_ok-stop.stop (g.S.Store.record_of c.begin_text.new.store).present searched.shown c.in_ok-stop.ensures.stops searched.sums
 
 pub returns-clause-met : goal.returns-clause-met
 returns-clause-met g c =

@@ -1,6 +1,6 @@
 use Rattle.std.proofs.Common.{ℕ, ap, sym, ◌∙◌, get_or}
 use Rattle.rehearse_reuse.specs.SummedRuns.{moved_by}
-use Rattle.rehearse_states.specs.RowsShown.{summary_shown}
+use Rattle.rehearse_states.specs.RowsShown.{summary_with}
 use Rattle.rehearse_endings.specs.Indexed.{FitsNot, IsTaken, noted, places_in}
 use Rattle.rehearse_endings.proofs.IndexLemmas.{all_in_all, all_more, none_in_none}
 use Rattle.rehearse_endings.proofs.table.Table.find_alike.Goals as goal
@@ -19,10 +19,11 @@ returns-in-Some-fitting g c =
     let m = (g.S.Store.record_of c.args.store.now).present in
     let e = c.in-Some-fitting.entry.now in
     let taken : IsTaken e m c.in_ok-found.found = record {
-      sums =
-          c.in_ok-found.ensures.sums
-          ∙ ap (λ (n : ℕ). moved_by e.steps n e.devices c.args.depth (summary_shown e.summary)) c.steps.ensures
-          ∙ ap (λ (n : ℕ). moved_by e.steps m.steps e.devices n (summary_shown e.summary)) (sym c.requires);
+      sums = λ rows.
+          c.in_ok-found.ensures.sums rows
+          ∙ ap (λ (n : ℕ). moved_by e.steps n e.devices c.args.depth (summary_with rows e.summary)) c.steps.ensures
+          ∙ ap (λ (n : ℕ). moved_by e.steps m.steps e.devices n (summary_with rows e.summary)) (sym c.requires);
+      node = c.in_ok-found.ensures.node;
       place = c.in_ok-found.ensures.place;
       keys = c.in_ok-found.ensures.keys;
     } in

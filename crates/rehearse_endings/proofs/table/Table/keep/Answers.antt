@@ -12,8 +12,8 @@ pub returns-clause-noted : goal.returns-clause-noted
 returns-clause-noted c noted =
     let old = c.args.self.now in
     let mid = c.note_ways.new.self in
-    let e : Entry = record { frames = c.args.frames; known = c.args.known; steps = c.args.steps; devices = c.args.devices; summary = c.in_ok-copy.copy } in
-    let new : Table = record { entries = c.push.new.self; onward = mid.onward; forks = mid.forks; alike = c.note.new.places; longest = c.max-self.result; flow = mid.flow; visited = mid.visited; most = mid.most } in
+    let e : Entry = record { frames = c.args.frames; known = c.args.known; steps = c.args.steps; devices = c.args.devices; summary = c.args.summary } in
+    let new : Table = record { entries = c.push.new.self; onward = mid.onward; forks = mid.forks; alike = c.note.new.places; longest = c.max-self.result; flow = mid.flow; sums = mid.sums; visited = mid.visited; most = mid.most } in
     let k = c.in_ok-number.ensures in
     let same = ap (λ (v : Vec Entry Global). v.items) k.entries in
     let way = subst (λ (ks : List Known). WayIsNoted old.entries.items mid c.in_ok-number.number c.args.place ks c.len-at.result) c.deref.ensures.value k.ways in
@@ -24,5 +24,5 @@ returns-clause-noted c noted =
 
 pub returns-clause-kept : goal.returns-clause-kept
 returns-clause-kept c =
-    let kept : Entry = record { frames = c.args.frames; known = c.args.known; steps = c.args.steps; devices = c.args.devices; summary = c.in_ok-copy.copy } in
-    (kept, c.in_ok-push.ensures.items ∙ ap (λ (v : Vec Entry Global). v.items ++ kept ∷ []) c.in_ok-number.ensures.entries, refl, refl, refl, refl, c.in_ok-copy.ensures.sums, c.in_ok-copy.ensures.place)
+    let kept : Entry = record { frames = c.args.frames; known = c.args.known; steps = c.args.steps; devices = c.args.devices; summary = c.args.summary } in
+    (kept, c.in_ok-push.ensures.items ∙ ap (λ (v : Vec Entry Global). v.items ++ kept ∷ []) c.in_ok-number.ensures.entries, refl, refl, refl, refl, refl)
