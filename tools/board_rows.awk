@@ -1,9 +1,10 @@
-# What `ubtool endings` tells of a board, as rows of the tables of docs/BOARDS.md. OWN, BY_SHELL and STEADY have for each
+# What `ubtool endings` tells of a board, as rows of the tables of docs/BOARDS.md. BY_SHELL, OWN and STEADY have for each
 # alternative of the board its line `given ..` (`given` alone if there is one alternative), what `endings` wrote, and a line
-# `ms N`: by ubtool's own reading, by the board's shell, and with each answer as it is. VARIABLES is what comes before the runs in a
-# row. Writes PATH.row, PATH.shell of what ends otherwise there, and PATH.steady: a row of all alternatives if they end alike, else
-# rows of those that do; and PATH.endings, the lines of `endings` of the first of each row of PATH.row, each after the board.
-# Usage: awk -v board=BOARD -v before=VARIABLES -v files=PATH -f board_rows.awk OWN BY_SHELL STEADY
+# `ms N`: by the board's shell, by ubtool's own reading, and by the shell with each answer as it is. VARIABLES is what comes before
+# the runs in a row. Writes PATH.row, PATH.own of what ends otherwise by that reading, and PATH.steady: a row of all alternatives if
+# they end alike, else rows of those that do; and PATH.endings, the lines of `endings` of the first of each row of PATH.row, each
+# after the board.
+# Usage: awk -v board=BOARD -v before=VARIABLES -v files=PATH -f board_rows.awk BY_SHELL OWN STEADY
 
 FNR == 1 { file++; at = 0 }
 /^given( |$)/ { part[file, ++at] = $0; next }
@@ -63,11 +64,11 @@ function is_first(file, at, among,    i) {
 END {
     count = at
     for (at = 1; at <= count; at++) {
-        row[1, at] = runs[1, at] " | " states[1, at] " | " shares(1, at)
-        row[2, at] = runs[2, at] " | " shares(2, at)
-        row[3, at] = runs[3, at] " | " states[3, at] " | " shares(3, at)
         every[at] = 1
         differs[at] = ends[1, at] != ends[2, at]
+        row[1, at] = runs[1, at] " | " states[1, at] " | " shares(1, at) " | " (differs[at] ? "differs" : "same")
+        row[2, at] = runs[2, at] " | " shares(2, at)
+        row[3, at] = runs[3, at] " | " states[3, at] " | " shares(3, at)
     }
     for (at = 1; at <= count; at++) {
         if (is_first(1, at, every)) {
@@ -77,7 +78,7 @@ END {
                 print board ": " line[i] >(files ".endings")
         }
         if (is_first(2, at, differs))
-            print "| " subject(2, at, differs) " | " row[2, at] " |" >(files ".shell")
+            print "| " subject(2, at, differs) " | " row[2, at] " |" >(files ".own")
         if (is_first(3, at, every))
             print "| " subject(3, at, every) " | " row[3, at] " | " ms[at, 3] " |" >(files ".steady")
     }
