@@ -88,3 +88,15 @@ a variable that is asked for is read at the end
   var v14=1
   fails load
   all 16384 states 14
+
+Eight hundred states, each with an ending of its own: a state keeps no list of the endings behind it.
+
+  $ each 'load || bad%d%.0s;' 800 | sed 's/^/bootcmd=/; $a\' | lines_image apart
+  $ (ulimit -v 20480; ubtool endings -c apart.config -d devices) >told; grep -c '^ends 1 ' told; tail -n 1 told
+  801
+  all 801 states 800
+
+and so if the way to each goes now by a success and now by a failure
+  $ each 'if load; then true; else bad%d; fi; if load; then badb%d; fi;' 200 | sed 's/^/bootcmd=/; $a\' | lines_image turns
+  $ (ulimit -v 20480; ubtool endings -c turns.config -d devices) | tail -n 1
+  all 401 states 400
