@@ -3,8 +3,7 @@ use Rattle.std.proofs.Common.{◌≡◌, ◌∙◌, refl, sym, ap, subst, List, 
 use Rattle.envimage.specs.Data.{Pair}
 use Rattle.envimage.specs.declared.image.ImageError.{ImageError}
 use Rattle.board_start.specs.Boards.{Board, Fault, OfDevices, OfStart, board_of}
-use Rattle.board_start.specs.Start.{begun}
-use Rattle.board_start.specs.StartAnswers.{Begins as StartBegins}
+use Rattle.board_start.specs.StartAnswers.{IsBoard}
 use Rattle.board_start.specs.declared.board_error.BoardError.{BoardError}
 use Rattle.board_start.specs.declared.board_error.BoardError.TheVariants as faulty
 use Rattle.board_start.specs.declared.start_error.StartError.{StartError}
@@ -16,11 +15,11 @@ use Rattle.rehearse_terms.specs.State.{Text}
 use Rattle.rehearse_terms.specs.declared.shell.Shell.{Shell}
 use Rattle.tool_images.specs.PrintingImages.{environment_in}
 use Rattle.tool_words.specs.declared.ask.Taking.{Taking}
-use Rattle.ubtool.specs.Beginning.{Beginning, NoBeginning, OfBoard, OfImage, Begins, beginning_of, begun_with, with_board, with_image}
-use Rattle.device_list.specs.DeviceList.{steady_if}
+use Rattle.ubtool.specs.Beginning.{Beginning, NoBeginning, OfBoard, OfImage, Begins, beginning_of, with_board, with_image}
 use Rattle.ubtool.specs.BoardEnvironment.{on_board as on_board_of}
 use Rattle.ubtool.specs.Faults.{board_error}
 use Rattle.ubtool.specs.Given.{Given}
+use Rattle.ubtool.specs.declared.beginning.Beginning.{Beginning as BeginningRead}
 use Rattle.ubtool.specs.Headline.{HasBoard}
 use Rattle.ubtool.specs.Refusing.{HasImage}
 use Rattle.ubtool.specs.declared.rehearsal_error.RehearsalError.{RehearsalError}
@@ -46,16 +45,26 @@ not_begun image answer IsSo told listed starts memory (refused.Start fault) h = 
 not_begun image answer IsSo told listed starts memory refused.Write h = absurd h
 not_begun image answer IsSo told listed starts memory refused.Memory h = memory h.0 h.1
 
--- where the list is right, and a rehearsal cannot start as it says
-pub not_started : (image : Result (List Pair) ImageError) (environment found : List Pair) (shell : Shell) (list : Result Board Fault) (board : Board) (taking : Taking) (name : Text) (text : Option Text) → image ≡ Ok environment → found ≡ on_board_of shell environment → list ≡ Ok board
-    → (error : BoardError) → StartBegins (begun board.start taking.alternative found name text) (Err error) → Begins image (with_image image shell list taking name text) (Err (board_error error))
-not_started image environment found shell list board taking name text is same listed (faulty.Start fault) h =
-    ap (λ i. with_image i shell list taking name text) is
-    ∙ ap (λ b. with_board b taking (on_board_of shell environment) name text) listed
-    ∙ ap (λ e. begun_with (steady_if taking.steady board.devices) (begun board.start taking.alternative e name text)) (sym same)
-    ∙ ap (begun_with (steady_if taking.steady board.devices)) h
-not_started image environment found shell list board taking name text is same listed (faulty.Devices fault) h = absurd h
-not_started image environment found shell list board taking name text is same listed faulty.Memory h = (environment, is)
+-- where the list of the board is faulty
+pub no_board : (list : Result Board Fault) (environment : List Pair) (taking : Taking) (name : Text) (text : Option Text)
+    → (error : BoardError) → IsBoard list (Err error) → Begins (Ok environment) (with_board list taking environment name text) (Err (board_error error))
+no_board list environment taking name text (faulty.Start fault) h = ap (λ b. with_board b taking environment name text) h
+no_board list environment taking name text (faulty.Devices fault) h = ap (λ b. with_board b taking environment name text) h
+no_board list environment taking name text faulty.Memory h = (environment, refl)
+
+-- what begins in the environment that a board has of an image begins with the image
+pub from_image : (image : Result (List Pair) ImageError) (shell : Shell) (list : Result Board Fault) (taking : Taking) (name : Text) (text : Option Text) (environment found : List Pair) → image ≡ Ok environment → found ≡ on_board_of shell environment
+    → (result : Result BeginningRead RehearsalError) → Begins (Ok found) (with_board list taking found name text) result → Begins image (with_image image shell list taking name text) result
+from_image image shell list taking name text environment found is same result h = by result h
+  where
+    alike : with_image image shell list taking name text ≡ with_board list taking found name text
+    alike = ap (λ i. with_image i shell list taking name text) is ∙ ap (λ e. with_board list taking e name text) (sym same)
+
+    by : (r : Result BeginningRead RehearsalError) → Begins (Ok found) (with_board list taking found name text) r → Begins image (with_image image shell list taking name text) r
+    by (Ok beginning) k = alike ∙ k
+    by (Err error) k =
+        not_begun (Ok found) (with_board list taking found name text) (λ e. Begins image (with_image image shell list taking name text) (Err e))
+        (λ fault said. alike ∙ said) (λ fault said. alike ∙ said) (λ fault said. alike ∙ said) (λ e said. (environment, is)) error k
 
 -- where there is something to begin with, the image is right
 pub has-image : (g : Given) (beginning : Beginning) → beginning_of g ≡ Ok beginning → HasImage g

@@ -8,6 +8,7 @@ use Rattle.board_start.specs.Start.{Begun, begun}
 use Rattle.board_start.specs.declared.start_error.StartError.{StartError}
 use Rattle.device_list.specs.DeviceList.{Devices, steady_if}
 use Rattle.rehearse_rules.specs.declared.rehearse_error.RehearseError.TheVariants.{DeviceList}
+use Rattle.rehearse_terms.specs.Asking.{Asking}
 use Rattle.rehearse_terms.specs.State.{Text}
 use Rattle.rehearse_terms.specs.declared.shell.Shell.{Shell}
 use Rattle.text.specs.TextsShown.{option_items}
@@ -57,6 +58,10 @@ beginning_of g =
 -- what the program begins with, seen as the definitions have it
 abbrev pub beginning_shown : BeginningRead → Beginning
 beginning_shown b = record { environment = b.env; devices = b.devices; text = option_items b.text }
+
+-- all that is given begins with this, and these runs are asked for
+abbrev pub StartsWith : Given → BeginningRead → Asking → Type 0
+StartsWith g beginning asking = (beginning_of g ≡ Ok (beginning_shown beginning)) × (g.asking ≡ asking)
 
 -- what is found, or why there is nothing; memory may run out if the image is right
 abbrev pub Begins : (image : Result (List Pair) ImageError) → Result Beginning NoBeginning →

@@ -1,11 +1,12 @@
 //! What a rehearsal begins with.
-ghost use Rattle.std.specs.Prelude.{◌≡◌};
+ghost use Rattle.std.specs.Prelude.{◌≡◌, Ok};
 ghost use Rattle.std.specs.Option.{option_copied};
 ghost use Rattle.board_start.specs.Boards.{board_of};
+ghost use Rattle.board_start.specs.BoardShown.{board_shown};
 ghost use Rattle.device_list.specs.DeviceList.{steady_if};
 ghost use Rattle.text.specs.TextsShown.{option_bytes};
 ghost use Rattle.tool_images.specs.PrintingImages.{environment_in};
-ghost use Rattle.ubtool.specs.Beginning.{Begins, with_image};
+ghost use Rattle.ubtool.specs.Beginning.{Begins, with_board, with_image};
 
 use crate::board_environment::env_of_board;
 use crate::rehearsal_error::RehearsalError;
@@ -44,6 +45,48 @@ fn taken(devices: Devices, steady: bool) -> Devices
     if steady { devices.steady() } else { devices }
 }
 
+/// What a rehearsal begins with on this board, in this environment. Errors: `Start` for another reason than
+/// `TooMany`, `Memory`.
+fn begin_on(
+    board: Board,
+    env: Env,
+    taking: Taking,
+    name: &[u8],
+    text: Option<&[u8]>,
+) -> Result<Beginning, RehearsalError>
+    ensures { Begins (Ok env)
+        (with_board (Ok (board_shown board)) taking env name.now (option_bytes text.entry)) result }
+{
+    let Board { start, devices } = board;
+    match start.begin(taking.alternative, env, name, text) {
+        Ok(Begun { env, text }) => Ok(Beginning {
+            env,
+            devices: taken(devices, taking.steady),
+            text,
+        }),
+        Err(error) => Err(error.into()),
+    }
+}
+
+/// What a rehearsal begins with on the board of this list, in this environment. Errors in order: `Start` with
+/// `TooMany`; `Rehearsal` with the first fault of the device list; `Start` for another reason; `Memory`
+/// wherever a growth is made.
+fn begin_in(
+    alloc: Global,
+    env: Env,
+    list: DeviceText<'_>,
+    name: &[u8],
+    text: Option<&[u8]>,
+) -> Result<Beginning, RehearsalError>
+    ensures { Begins (Ok env)
+        (with_board (board_of list.entry.text.now) list.entry.taking env name.now (option_bytes text.entry)) result }
+{
+    match Board::parse(alloc, list.text) {
+        Ok(board) => begin_on(board, env, list.taking, name, text),
+        Err(error) => Err(error.into()),
+    }
+}
+
 /// What a rehearsal of a variable of an image, or of a text in its environment, begins with, on a board
 /// of this shell. Errors in order: the image; `Start` with `TooMany`; `Rehearsal` with the first fault of
 /// the device list; `Start` for another reason; `Memory` wherever a growth is made.
@@ -61,12 +104,8 @@ pub(crate) fn begin(
         (with_image (environment_in order first.now (option_copied second.entry)) shell
         (board_of list.entry.text.now) list.entry.taking name.now (option_bytes text.entry)) result }
 {
-    let env = env_of_board(alloc, first, second, order, shell)?;
-    let Board { start, devices } = Board::parse(alloc, list.text)?;
-    let Begun { env, text } = start.begin(list.taking.alternative, env, name, text)?;
-    Ok(Beginning {
-        env,
-        devices: taken(devices, list.taking.steady),
-        text,
-    })
+    match env_of_board(alloc, first, second, order, shell) {
+        Ok(env) => begin_in(alloc, env, list, name, text),
+        Err(error) => Err(error.into()),
+    }
 }

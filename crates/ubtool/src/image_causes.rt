@@ -1,6 +1,8 @@
 //! What has to fail for each ending of an image's variable or of a given text, from the bytes of the image to the lines.
 ghost use Rattle.std.specs.Prelude.{◌≡◌, ◌&&◌, IfOk, IfErr};
 ghost use Rattle.std.specs.Option.{option_copied};
+ghost use Rattle.ubtool.specs.Beginning.{StartsWith};
+ghost use Rattle.ubtool.specs.Given.{Given};
 ghost use Rattle.ubtool.specs.CausesOfImages.{AreAllCauses, AreCausesOf, LacksCauses, RefusesCauses, RefusesOne, RefusesTurn, TellsCauses, TellsOne, causes_given, runs_by};
 ghost use Rattle.rehearse_causes.specs.TellingCauses as below;
 ghost use Rattle.rehearse_runs.specs.RehearsedEnvironment.{task_asked};
@@ -37,6 +39,24 @@ fn causes_begun<'x, O: Out>(
     causes_env::<Trail, O>(alloc, &beginning.env, &beginning.devices, &ask, out)
 }
 
+/// The same, of all that begins so. Errors: `Rehearsal` with `NoSuchVariable`, `Write`, `Memory`.
+fn causes_told<O: Out>(
+    alloc: Global,
+    beginning: &Beginning,
+    ask: &CausesAsk<'_>,
+    out: &mut O,
+) -> Result<bool, RehearsalError>
+    ensures ok { (g : Given) → StartsWith g beginning.now (runs_by ask.now)
+        → IfOk result (λ fine. TellsOne g ask.now.check (O.sink out.old) (O.sink out.new) fine) }
+    ensures err { (g : Given) → StartsWith g beginning.now (runs_by ask.now)
+        → IfErr result (λ e. RefusesOne g ask.now.check (O.sink out.old) (O.sink out.new) e) }
+{
+    match causes_begun(alloc, beginning, ask, out) {
+        Ok(fine) => Ok(fine),
+        Err(error) => Err(error.into()),
+    }
+}
+
 /// Writes the lines of one alternative: that which is named, or that of a list which has no other.
 /// Errors: those of `causes_bytes`, and `Start` with `Alternatives`.
 fn causes_of_one<O: Out>(
@@ -56,8 +76,10 @@ fn causes_of_one<O: Out>(
         list.entry.text.now list.entry.taking ask.now) ask.now.check (O.sink out.old) (O.sink out.new) e) }
 {
     let shell = ask.bounds.shell();
-    let beginning = begin(alloc, first, second, order, shell, list, ask.name, ask.text)?;
-    Ok(causes_begun(alloc, &beginning, ask, out)?)
+    match begin(alloc, first, second, order, shell, list, ask.name, ask.text) {
+        Ok(beginning) => causes_told(alloc, &beginning, ask, out),
+        Err(error) => Err(error),
+    }
 }
 
 /// The lines of one alternative, and whether all is well. Errors: those of `causes_of_one`, without

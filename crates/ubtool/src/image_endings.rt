@@ -1,8 +1,12 @@
 //! How all runs of an image's variable or of a given text end, from the bytes of the image to the lines.
 ghost use Rattle.std.specs.Prelude.{◌≡◌, IfOk, IfErr};
 ghost use Rattle.std.specs.Option.{option_copied};
-ghost use Rattle.ubtool.specs.EndingsOfImages.{AreAllLines, AreLinesOf, LacksLines, RefusesEndings, RefusesOne, RefusesTurn, TellsEndings, TellsOne, endings_given};
-ghost use Rattle.text.specs.TextsShown.{option_bytes, option_items};
+ghost use Rattle.ubtool.specs.EndingsOfImages.{AreAllLines, AreLinesOf, LacksLines, RefusesEndings, RefusesOne, RefusesTurn, TellsEndings, TellsOne, endings_given, runs_by};
+ghost use Rattle.ubtool.specs.Beginning.{StartsWith};
+ghost use Rattle.ubtool.specs.Given.{Given};
+ghost use Rattle.rehearse_endings.specs.TellingEndings as below;
+ghost use Rattle.rehearse_runs.specs.RehearsedEnvironment.{task_asked};
+ghost use Rattle.text.specs.TextsShown.{option_items};
 
 use crate::beginning::{Beginning, DeviceText, begin};
 use crate::in_turn::{add_headed, named, start_of, turns_told};
@@ -11,13 +15,50 @@ use bootstore_trail::Trail;
 use envimage::ByteOrder;
 use output::{Out, Over, write_all};
 use rehearse_endings::{EndingsAsk, endings_env};
+use rehearse_rules::RehearseError;
 use std::alloc::Global;
 
-/// The text that is rehearsed in place of the variable's.
-fn text_of(beginning: &Beginning) -> Option<&[u8]>
-    ensures { option_bytes result ≡ option_items beginning.now.text }
+/// Writes the lines of what a rehearsal begins with. Errors: `NoSuchVariable`; `States`, `Steps`; `Write`, `Memory`.
+fn endings_begun<'x, O: Out>(
+    alloc: Global,
+    beginning: &'x Beginning,
+    ask: &EndingsAsk<'x>,
+    out: &mut O,
+) -> Result<(), RehearseError>
+    ensures ok { IfOk result (λ _. below.TellsEndings (task_asked beginning.now.env beginning.now.devices
+        (option_items beginning.now.text) (runs_by ask.now)) ask.now (O.sink out.old) (O.sink out.new)) }
+    ensures err { IfErr result (λ e. below.RefusesEndings (task_asked beginning.now.env beginning.now.devices
+        (option_items beginning.now.text) (runs_by ask.now)) ask.now (O.sink out.old) (O.sink out.new) e) }
 {
-    beginning.text.as_deref()
+    let ask = EndingsAsk {
+        name: ask.name,
+        text: beginning.text.as_deref(),
+        bounds: ask.bounds,
+        states: ask.states,
+        work: ask.work,
+        names: ask.names,
+        flow: ask.flow,
+    };
+    endings_env::<Trail, O>(alloc, &beginning.env, &beginning.devices, &ask, out)
+}
+
+/// The same, of all that begins so. Errors: `Rehearsal` with `NoSuchVariable`, `States` and `Steps`; `Write`, `Memory`.
+fn endings_told<O: Out>(
+    alloc: Global,
+    beginning: &Beginning,
+    ask: &EndingsAsk<'_>,
+    out: &mut O,
+) -> Result<(), RehearsalError>
+    ensures ok { (g : Given) → StartsWith g beginning.now (runs_by ask.now)
+        → IfOk result (λ _. TellsOne g ask.now.flow ask.now.states (O.sink out.old) (O.sink out.new)) }
+    ensures err { (g : Given) → StartsWith g beginning.now (runs_by ask.now)
+        → IfErr result
+        (λ e. RefusesOne g ask.now.flow ask.now.states ask.now.work (O.sink out.old) (O.sink out.new) e) }
+{
+    match endings_begun(alloc, beginning, ask, out) {
+        Ok(()) => Ok(()),
+        Err(error) => Err(error.into()),
+    }
 }
 
 /// Writes the lines of one alternative: that which is named, or that of a list which has no other.
@@ -39,19 +80,10 @@ fn endings_of_one<O: Out>(
         list.entry.text.now list.entry.taking ask.now) ask.now.flow ask.now.states ask.now.work (O.sink out.old) (O.sink out.new) e) }
 {
     let shell = ask.bounds.shell();
-    let beginning = begin(alloc, first, second, order, shell, list, ask.name, ask.text)?;
-    let text = text_of(&beginning);
-    let ask = EndingsAsk {
-        name: ask.name,
-        text,
-        bounds: ask.bounds,
-        states: ask.states,
-        work: ask.work,
-        names: ask.names,
-        flow: ask.flow,
-    };
-    endings_env::<Trail, O>(alloc, &beginning.env, &beginning.devices, &ask, out)?;
-    Ok(())
+    match begin(alloc, first, second, order, shell, list, ask.name, ask.text) {
+        Ok(beginning) => endings_told(alloc, &beginning, ask, out),
+        Err(error) => Err(error),
+    }
 }
 
 /// The lines of one alternative. Errors: those of `endings_of_one`, without `Write`.

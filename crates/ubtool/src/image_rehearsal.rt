@@ -7,7 +7,8 @@ ghost use Rattle.rehearse_terms.specs.WantedShown.{wanted_slices};
 ghost use Rattle.rehearse_runs.specs.RehearsedEnvironment as below;
 ghost use Rattle.rehearse_runs.specs.AskShown.{asking_of, text_given};
 ghost use Rattle.text.specs.TextsShown.{option_items};
-ghost use Rattle.ubtool.specs.Given.{given};
+ghost use Rattle.ubtool.specs.Beginning.{StartsWith};
+ghost use Rattle.ubtool.specs.Given.{Given, given};
 ghost use Rattle.ubtool.specs.Headline.{Rehearses};
 ghost use Rattle.ubtool.specs.Refusing.{Refuses};
 
@@ -73,7 +74,7 @@ fn wanted_of<'x>(ask: &Ask<'x>) -> Wanted<&'x [u8]>
     }
 }
 
-/// Writes the listing of what a rehearsal begins with.
+/// Writes the listing of what a rehearsal begins with. Errors: `NoSuchVariable`, `NotARun`; `Write`, `Memory`.
 fn rehearse_begun<'x, O: Out>(
     alloc: Global,
     beginning: &'x Beginning,
@@ -95,7 +96,26 @@ fn rehearse_begun<'x, O: Out>(
     rehearse_env::<Trail, O>(alloc, &beginning.env, &beginning.devices, &ask, out)
 }
 
-/// The same in this shell, which is that of the bounds.
+/// The same, of all that begins so. Errors: `Rehearsal` with `NoSuchVariable` and `NotARun`; `Write`, `Memory`.
+fn rehearse_told<O: Out>(
+    alloc: Global,
+    beginning: &Beginning,
+    ask: &Ask<'_>,
+    out: &mut O,
+) -> Result<Finish, RehearsalError>
+    requires { HasRoom (page_of (wanted_slices ask.now.wanted)) }
+    ensures ok { (g : Given) → StartsWith g beginning.now (asking_of ask.now)
+        → IfOk result (λ finish. Rehearses g (O.sink out.old) (O.sink out.new) finish) }
+    ensures err { (g : Given) → StartsWith g beginning.now (asking_of ask.now)
+        → IfErr result (λ e. Refuses g (O.sink out.old) (O.sink out.new) e) }
+{
+    match rehearse_begun(alloc, beginning, ask, out) {
+        Ok(finish) => Ok(finish),
+        Err(error) => Err(error.into()),
+    }
+}
+
+/// Rehearses as `rehearse_bytes` does, in this shell, which is that of the bounds.
 fn rehearse_in<O: Out>(
     alloc: Global,
     first: &[u8],
@@ -115,6 +135,8 @@ fn rehearse_in<O: Out>(
         (λ e. Refuses (given order first.now (option_copied second.entry) list.entry.text.now list.entry.taking
         (text_given ask.now) (asking_of ask.now)) (O.sink out.old) (O.sink out.new) e) }
 {
-    let beginning = begin(alloc, first, second, order, shell, list, ask.name, ask.text)?;
-    Ok(rehearse_begun(alloc, &beginning, ask, out)?)
+    match begin(alloc, first, second, order, shell, list, ask.name, ask.text) {
+        Ok(beginning) => rehearse_told(alloc, &beginning, ask, out),
+        Err(error) => Err(error),
+    }
 }

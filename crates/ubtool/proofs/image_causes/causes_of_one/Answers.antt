@@ -1,34 +1,25 @@
-use Rattle.std.proofs.Common.{◌≡◌, ◌∙◌, ap, sym, subst, refl, Bool, Ok, Err, IfErr, Result}
-use Rattle.std.proofs.lemmas.Result.{err_from_is_err_and}
+use Rattle.std.proofs.Common.{◌≡◌, ◌∙◌, ap, sym, refl, Ok}
 use Rattle.std.specs.Option.{option_copied}
 use Rattle.board_start.specs.Boards.{board_of}
 use Rattle.rehearse_terms.specs.declared.shell.Shell.{Shell}
 use Rattle.text.specs.TextsShown.{option_bytes}
 use Rattle.tool_images.specs.PrintingImages.{environment_in}
 use Rattle.ubtool.specs.Beginning.{beginning_of, beginning_shown, with_image}
-use Rattle.ubtool.specs.CausesOfImages.{RefusesOne, causes_given}
-use Rattle.ubtool.specs.Faults.{rehearse_error}
-use Rattle.ubtool.specs.declared.rehearsal_error.RehearsalError.{RehearsalError}
-use Rattle.ubtool.proofs.ImageCausesLemmas.{causes-image, refused-causes}
+use Rattle.ubtool.specs.CausesOfImages.{causes_given}
 use Rattle.ubtool.proofs.image_causes.causes_of_one.Goals as goal
 
-pub returns-in_err-causes_begun-clause-err : goal.returns-in_err-causes_begun-clause-err
-returns-in_err-causes_begun-clause-err g c =
-    let out = g.O.Out.sink c.args.out.now in
-    let out' = g.O.Out.sink c.causes_begun.new.out in
+pub returns-in-Ok-clause-ok : goal.returns-in-Ok-clause-ok
+returns-in-Ok-clause-ok g c =
     let image = environment_in c.args.order c.args.first.now (option_copied c.args.second) in
     let given = causes_given c.args.order c.args.first.now (option_copied c.args.second) c.args.list.text.now c.args.list.taking c.args.ask.now in
-    let found : beginning_of given ≡ Ok (beginning_shown c.in_ok-beginning.beginning) =
-    ap (λ (shell : Shell). with_image image shell (board_of c.args.list.text.now) c.args.list.taking c.args.ask.now.name.now (option_bytes c.args.ask.now.text)) (sym c.shell-shell.ensures) ∙ c.in_ok-beginning.ensures in
-    let p = err_from_is_err_and c.from_residual-in_err-causes_begun.result c.from_residual-in_err-causes_begun.ensures.1 in
-    let answer : c.from_residual-in_err-causes_begun.result ≡ Err (rehearse_error c.in_err-causes_begun.field-0.0) = p.1 ∙ ap Err p.2 in
-    let P : Result Bool RehearsalError → Type 0 = λ r. IfErr r (λ e. RefusesOne given c.args.ask.now.check out out' e) in
-    subst P (sym answer) (refused-causes given c.args.ask.now.check (beginning_shown c.in_ok-beginning.beginning) _ out out' found refl c.in_err-causes_begun.field-0.0 c.in_err-causes_begun.ensures.err)
+    let found : beginning_of given ≡ Ok (beginning_shown c.in-Ok.beginning) =
+    ap (λ (shell : Shell). with_image image shell (board_of c.args.list.text.now) c.args.list.taking c.args.ask.now.name.now (option_bytes c.args.ask.now.text)) (sym c.shell-shell.ensures) ∙ c.in-Ok.ensures in
+    c.causes_told.ensures.ok given (found, refl)
 
-pub returns-clause-ok : goal.returns-clause-ok
-returns-clause-ok g c =
+pub returns-in-Ok-clause-err : goal.returns-in-Ok-clause-err
+returns-in-Ok-clause-err g c =
     let image = environment_in c.args.order c.args.first.now (option_copied c.args.second) in
     let given = causes_given c.args.order c.args.first.now (option_copied c.args.second) c.args.list.text.now c.args.list.taking c.args.ask.now in
-    let found : beginning_of given ≡ Ok (beginning_shown c.in_ok-beginning.beginning) =
-    ap (λ (shell : Shell). with_image image shell (board_of c.args.list.text.now) c.args.list.taking c.args.ask.now.name.now (option_bytes c.args.ask.now.text)) (sym c.shell-shell.ensures) ∙ c.in_ok-beginning.ensures in
-    causes-image given c.args.ask.now.check (beginning_shown c.in_ok-beginning.beginning) _ (g.O.Out.sink c.args.out.now) (g.O.Out.sink c.causes_begun.new.out) found refl c.in_ok-causes_begun.field-0 c.in_ok-causes_begun.ensures.ok
+    let found : beginning_of given ≡ Ok (beginning_shown c.in-Ok.beginning) =
+    ap (λ (shell : Shell). with_image image shell (board_of c.args.list.text.now) c.args.list.taking c.args.ask.now.name.now (option_bytes c.args.ask.now.text)) (sym c.shell-shell.ensures) ∙ c.in-Ok.ensures in
+    c.causes_told.ensures.err given (found, refl)

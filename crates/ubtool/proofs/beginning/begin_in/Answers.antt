@@ -1,0 +1,16 @@
+use Rattle.std.proofs.Common.{Err, Ok, Result, subst, sym}
+use Rattle.board_start.specs.Boards.{Board, Fault, board_of}
+use Rattle.text.specs.TextsShown.{option_bytes}
+use Rattle.ubtool.specs.Beginning.{Begins, with_board}
+use Rattle.ubtool.specs.declared.rehearsal_error.RehearsalError.{RehearsalError}
+use Rattle.ubtool.proofs.BeginningLemmas.{no_board}
+use Rattle.ubtool.proofs.beginning.begin_in.Goals as goal
+
+pub returns-in-Ok : goal.returns-in-Ok
+returns-in-Ok c =
+    subst (λ (b : Result Board Fault). Begins (Ok c.args.env) (with_board b c.args.list.taking c.args.env c.args.name.now (option_bytes c.args.text)) c.begin_on.result) (sym c.in-Ok.ensures) c.begin_on.ensures
+
+pub returns-in-Err : goal.returns-in-Err
+returns-in-Err c =
+    subst (λ (e : RehearsalError). Begins (Ok c.args.env) (with_board (board_of c.args.list.text.now) c.args.list.taking c.args.env c.args.name.now (option_bytes c.args.text)) (Err e)) (sym c.into.ensures)
+    (no_board (board_of c.args.list.text.now) c.args.env c.args.list.taking c.args.name.now (option_bytes c.args.text) c.in-Err.error c.in-Err.ensures)
