@@ -2,8 +2,8 @@
 ghost use Rattle.std.specs.Prelude.{◌≡◌, IfOk, find, map};
 ghost use Rattle.std.specs.Option.{option_map};
 ghost use Rattle.std.specs.Str.{bytes_eq};
-ghost use Rattle.tool_words.specs.Arguments.{app_of_row};
-ghost use Rattle.tool_words.specs.CommandLine.{base, first_named, ubtool_for};
+ghost use Rattle.tool_words.specs.Arguments.{app_of_row, shape_of_row};
+ghost use Rattle.tool_words.specs.CommandLine.{base, first_named, subcommands, ubtool_for};
 ghost use Rattle.tool_words.specs.Made.{IsMade};
 
 use crate::notes::UBTOOL_NOTES;
@@ -43,12 +43,31 @@ fn row_named<'a>(rows: &[Subcommand<'a>], name: &str) -> Option<Subcommand<'a>>
 }
 
 /// The row of the subcommand that the first of the words names.
-fn first_named<S: AsStr>(words: &[S]) -> Option<Subcommand<'static>>
+fn first_named<'a, S: AsStr>(rows: &[Subcommand<'a>], words: &[S]) -> Option<Subcommand<'a>>
+    requires { map app_of_row rows.now ≡ subcommands }
     ensures { option_map app_of_row result ≡ first_named (map S.text words.now) }
 {
     match words.first() {
-        Some(word) => row_named(&SUBCOMMANDS, word.as_str()),
+        Some(word) => row_named(rows, word.as_str()),
         None => None,
+    }
+}
+
+/// The program's command line for these words, with the rows of all subcommands.
+fn ubtool_of<'a, S: AsStr>(
+    alloc: Global,
+    rows: &[Subcommand<'a>],
+    words: &[S],
+    as_tool: bool,
+) -> Result<Command<'a>, AllocError>
+    requires apps { map app_of_row rows.now ≡ subcommands }
+    requires shapes { map shape_of_row rows.now ≡ map (λ sub. sub.top) subcommands }
+    ensures { IfOk result (IsMade (ubtool_for (map S.text words.now))) }
+{
+    let command = base(alloc)?;
+    match first_named(rows, words) {
+        Some(row) => with_subcommands(alloc, command, &[row], as_tool),
+        None => with_subcommands(alloc, command, rows, as_tool),
     }
 }
 
@@ -62,9 +81,5 @@ pub(crate) fn ubtool_for<'a, S: AsStr>(
 ) -> Result<Command<'a>, AllocError>
     ensures { IfOk result (IsMade (ubtool_for (map S.text words.now))) }
 {
-    let command = base(alloc)?;
-    match first_named(words) {
-        Some(row) => with_subcommands(alloc, command, &[row], as_tool),
-        None => with_subcommands(alloc, command, &SUBCOMMANDS, as_tool),
-    }
+    ubtool_of(alloc, &SUBCOMMANDS, words, as_tool)
 }
