@@ -64,14 +64,21 @@ impl Page {
     }
 }
 
-/// The records of a page, and how it finishes.
-fn listing<S: Store>(case: &Case, given: &Given<'_>, page: &Page) -> anyhow::Result<String> {
-    let mut runs = page.runs::<S>(given)?;
+// A function holds runs, and another one asks them: the end of the runs is gone through at each way out of the one that holds
+// them, and that takes long to prove.
+
+/// The records of runs, and how their page finishes.
+fn records<S: Store>(case: &Case, runs: &mut Runs<'_, S>, limit: u32) -> anyhow::Result<String> {
     let mut out = Over::new(Vec::new(case.alloc));
     let names = slices(case.alloc, &case.names)?;
-    let finish = list(&mut runs, &names, page.limit, &mut out)?;
+    let finish = list(runs, &names, limit, &mut out)?;
     let lines = text_of(case.alloc, &out.into_writer())?;
     Ok(format!(in case.alloc; "{lines}answer {finish:?}")?)
+}
+
+/// The records of a page, and how it finishes.
+fn listing<S: Store>(case: &Case, given: &Given<'_>, page: &Page) -> anyhow::Result<String> {
+    records(case, &mut page.runs::<S>(given)?, page.limit)
 }
 
 /// The word that was given last, that of the next run, and the steps that were begun then.
@@ -85,57 +92,80 @@ fn told_behind<S: Store>(alloc: Global, runs: &mut Runs<'_, S>) -> anyhow::Resul
     Ok(format!(in alloc; "given {given}, next {next}, work {work}")?)
 }
 
+/// How a page of runs finishes, the work after it, and the answers then.
+fn finished<S: Store>(alloc: Global, runs: &mut Runs<'_, S>, limit: u32) -> anyhow::Result<String> {
+    let finish = list(runs, &[], limit, &mut Over::new(Vec::new(alloc)))?;
+    let work = work_of(runs);
+    let told = told_behind(alloc, runs)?;
+    Ok(format!(in alloc; "{finish:?}, work {work}, {told}")?)
+}
+
 /// How a page finishes, the work after it, and the answers then.
 fn told_behind_page<S: Store>(given: &Given<'_>, page: &Page) -> anyhow::Result<String> {
-    let mut runs = page.runs::<S>(given)?;
-    let mut out = Over::new(Vec::new(given.alloc));
-    let finish = list(&mut runs, &[], page.limit, &mut out)?;
-    let work = work_of(&runs);
-    let told = told_behind(given.alloc, &mut runs)?;
-    Ok(format!(in given.alloc; "{finish:?}, work {work}, {told}")?)
+    finished(given.alloc, &mut page.runs::<S>(given)?, page.limit)
+}
+
+/// What a listing of runs answers that has this room, the bytes, and the answers then.
+fn broken_in<S: Store>(
+    alloc: Global,
+    runs: &mut Runs<'_, S>,
+    room: &mut [u8],
+) -> anyhow::Result<String> {
+    let answer = list(runs, &[], 0, &mut Over::new(&mut *room));
+    let bytes = shown(alloc, room)?;
+    let told = told_behind(alloc, runs)?;
+    Ok(format!(in alloc; "{answer:?}\n{bytes}\n{told}")?)
 }
 
 /// What a listing answers that has room for so many bytes, the bytes, and the answers then.
 fn broken<S: Store>(given: &Given<'_>, says: &str) -> anyhow::Result<String> {
-    let alloc = given.alloc;
     let size = number(says)?;
-    let mut runs = given.runs::<S>(None)?;
-    let mut room = vec![in alloc; 0u8; size as usize]?;
-    let mut out = Over::new(room.as_mut_slice());
-    let answer = list(&mut runs, &[], 0, &mut out);
-    let _ = out.into_writer();
-    let bytes = shown(alloc, &room)?;
-    let told = told_behind(alloc, &mut runs)?;
-    Ok(format!(in alloc; "{answer:?}\n{bytes}\n{told}")?)
+    let mut room = vec![in given.alloc; 0u8; size as usize]?;
+    broken_in(given.alloc, &mut given.runs::<S>(None)?, &mut room)
+}
+
+/// The words of runs, each with the work after it.
+fn worked<S: Store>(alloc: Global, runs: &mut Runs<'_, S>) -> anyhow::Result<String> {
+    let mut words = String::from_str(alloc, "runs")?;
+    for _ in 0..70_000u32 {
+        let Some(word) = next_word(alloc, runs)? else {
+            break;
+        };
+        let (word, work) = (text_of(alloc, &word)?, work_of(runs));
+        write!(words, " {word}:{work}")?;
+    }
+    Ok(words)
+}
+
+/// The work of runs so far, their words with the work after each, and that of all.
+fn works_of<S: Store>(alloc: Global, runs: &mut Runs<'_, S>) -> anyhow::Result<String> {
+    let begun = work_of(runs);
+    let words = worked(alloc, runs)?;
+    let work = work_of(runs);
+    Ok(format!(in alloc; "begun {begun}, {words}, work {work}")?)
 }
 
 /// The work after a start word, the words with the work after each, and that of all.
 fn works<S: Store>(given: &Given<'_>, page: &Page) -> anyhow::Result<String> {
-    let alloc = given.alloc;
-    let mut runs = page.runs::<S>(given)?;
-    let begun = work_of(&runs);
-    let mut words = String::from_str(alloc, "runs")?;
+    works_of(given.alloc, &mut page.runs::<S>(given)?)
+}
+
+/// The words of runs.
+fn words_of<S: Store>(alloc: Global, runs: &mut Runs<'_, S>) -> anyhow::Result<Vec<Vec<u8>>> {
+    let mut words = Vec::new(alloc);
     for _ in 0..70_000u32 {
-        let Some(word) = next_word(alloc, &mut runs)? else {
+        let Some(word) = next_word(alloc, runs)? else {
             break;
         };
-        let (word, work) = (text_of(alloc, &word)?, work_of(&runs));
-        write!(words, " {word}:{work}")?;
+        words.push(word)?;
     }
-    let work = work_of(&runs);
-    Ok(format!(in alloc; "begun {begun}, {words}, work {work}")?)
+    Ok(words)
 }
 
 /// The words of the runs, or of those after a word, and how many steps were begun.
 fn words<S: Store>(given: &Given<'_>, after: Option<&[u8]>) -> anyhow::Result<(Vec<Vec<u8>>, u64)> {
     let mut runs = given.runs::<S>(after)?;
-    let mut words = Vec::new(given.alloc);
-    for _ in 0..70_000u32 {
-        let Some(word) = next_word(given.alloc, &mut runs)? else {
-            break;
-        };
-        words.push(word)?;
-    }
+    let words = words_of(given.alloc, &mut runs)?;
     let work = work_of(&runs);
     Ok((words, work))
 }
@@ -170,13 +200,15 @@ fn onward<S: Store>(given: &Given<'_>) -> anyhow::Result<String> {
     Ok(format!(in alloc; "{text}\nthe runs go on behind each: {go_on}")?)
 }
 
-/// Where the whole listing goes on if so many bytes of it stand, a line for each place.
-fn resumed<S: Store>(case: &Case, given: &Given<'_>) -> anyhow::Result<String> {
-    let alloc = case.alloc;
-    let mut runs = given.runs::<S>(None)?;
-    let mut out = Over::new(Vec::new(alloc));
-    let _ = list(&mut runs, &slices(alloc, &case.names)?, 0, &mut out)?;
-    let listing = out.into_writer();
+/// All records of runs.
+fn listed<S: Store>(case: &Case, runs: &mut Runs<'_, S>) -> anyhow::Result<Vec<u8>> {
+    let mut out = Over::new(Vec::new(case.alloc));
+    let _ = list(runs, &slices(case.alloc, &case.names)?, 0, &mut out)?;
+    Ok(out.into_writer())
+}
+
+/// Where a listing goes on if so many bytes of it stand, a line for each place.
+fn places(alloc: Global, listing: &[u8]) -> anyhow::Result<String> {
     let mut lines = String::new(alloc);
     let mut last = usize::MAX;
     for size in 0..=listing.len() {
@@ -188,6 +220,12 @@ fn resumed<S: Store>(case: &Case, given: &Given<'_>) -> anyhow::Result<String> {
         last = length;
     }
     Ok(lines)
+}
+
+/// Where the whole listing goes on if so many bytes of it stand, a line for each place.
+fn resumed<S: Store>(case: &Case, given: &Given<'_>) -> anyhow::Result<String> {
+    let listing = listed(case, &mut given.runs::<S>(None)?)?;
+    places(case.alloc, &listing)
 }
 
 /// What an ending is called.
@@ -209,14 +247,18 @@ fn name_of(ending: Ending<'_>) -> &'static str {
     }
 }
 
-/// How the first run ends.
-fn end<S: Store>(given: &Given<'_>) -> anyhow::Result<String> {
-    let alloc = given.alloc;
-    let mut runs = given.runs::<S>(None)?;
+/// What the ending of the next run is called.
+fn end_of<S: Store>(runs: &mut Runs<'_, S>) -> anyhow::Result<&'static str> {
     match runs.next()? {
-        Some(view) => Ok(String::from_str(alloc, name_of(view.ending()))?),
+        Some(view) => Ok(name_of(view.ending())),
         None => anyhow::bail!("no run"),
     }
+}
+
+/// How the first run ends.
+fn end<S: Store>(given: &Given<'_>) -> anyhow::Result<String> {
+    let name = end_of(&mut given.runs::<S>(None)?)?;
+    Ok(String::from_str(given.alloc, name)?)
 }
 
 /// What kind of word each is.

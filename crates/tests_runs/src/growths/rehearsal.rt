@@ -199,11 +199,13 @@ fn list_both<O: Out>(alloc: Global, script: &Script, out: &mut O) {
 
 /// Writes the listing of a text that asks two device commands.
 pub(crate) fn run(rt: &HostRuntime) -> io::Result<()> {
-    let Some(script) = Script::new(rt.alloc(), 0, b"load a || load b; echo $?") else {
-        return println!(rt; "no memory to begin with");
-    };
-    list_both(rt.alloc(), &script, &mut Over::new(io::writer(rt)));
-    Ok(())
+    match Script::new(rt.alloc(), 0, b"load a || load b; echo $?") {
+        Some(script) => {
+            list_both(rt.alloc(), &script, &mut Over::new(io::writer(rt)));
+            Ok(())
+        }
+        None => println!(rt; "no memory to begin with"),
+    }
 }
 
 /// Counts the runs of a script over both stores.

@@ -9,13 +9,15 @@ use std::io;
 
 const NAMES: [&[u8]; 8] = [b"a", b"b", b"c", b"d", b"e", b"f", b"g", b"h"];
 
+/// The variables to begin with.
+const FIRST: [(&[u8], &[u8]); 4] = [(b"a", b"1"), (b"b", b"2"), (b"g", b"8"), (b"h", b"9")];
+
 /// Four variables.
 fn begin(alloc: Global) -> Result<Env, EnvError> {
     let mut env = Env::new(alloc);
-    env.set(b"a", b"1")?;
-    env.set(b"b", b"2")?;
-    env.set(b"g", b"8")?;
-    env.set(b"h", b"9")?;
+    for (name, value) in FIRST {
+        env.set(name, value)?;
+    }
     Ok(env)
 }
 
