@@ -1,15 +1,31 @@
-//! All rows: those that the libraries answer, and those of endings and scripts.
+//! All rows: those that the libraries answer, those of endings and scripts, and those of the programs.
 
 use crate::endings;
 use tests_callers::scripts::is_script;
 use tests_language::Case;
 use tests_rows::{Rows, subject_of, unescaped};
 use tests_runs::rehearsed;
+use tests_ubtool::Whole;
 
 /// What the rows of a paragraph have set.
 #[derive(Drop)]
-pub(crate) struct Whole {
-    pub(crate) case: Case,
+pub(crate) struct All<'a> {
+    case: Case,
+    programs: Whole<'a>,
+    /// Whether the row `programs` was there.
+    are_programs: bool,
+}
+
+impl<'a> All<'a> {
+    /// Nothing is set.
+    pub(crate) fn new(rt: &'a HostRuntime) -> anyhow::Result<All<'a>> {
+        let case = Case::new(rt.alloc())?;
+        Ok(All {
+            case,
+            programs: Whole::new(rt),
+            are_programs: false,
+        })
+    }
 }
 
 /// What a row speaks of.
@@ -37,17 +53,30 @@ fn script(case: &Case, says: &str) -> anyhow::Result<String> {
     Ok(format!(in case.alloc; "{answer:?}")?)
 }
 
-impl Rows for Whole {
+/// The answer to a row in front of `programs`.
+fn of_libraries(case: &mut Case, word: &str, says: &str) -> anyhow::Result<String> {
+    match subject_of(&SUBJECTS, word, Subject::Language) {
+        Subject::Language => case.answer(word, says),
+        Subject::Script => script(case, says),
+        Subject::Rehearsal => rehearsed(case, word, says),
+        Subject::Endings => endings::told(case, word, says),
+    }
+}
+
+impl Rows for All<'_> {
     fn forget(&mut self) -> anyhow::Result<()> {
-        self.case.forget()
+        self.case.forget()?;
+        self.programs.forget()
     }
 
     fn answer(&mut self, word: &str, says: &str) -> anyhow::Result<String> {
-        match subject_of(&SUBJECTS, word, Subject::Language) {
-            Subject::Language => self.case.answer(word, says),
-            Subject::Script => script(&self.case, says),
-            Subject::Rehearsal => rehearsed(&self.case, word, says),
-            Subject::Endings => endings::told(&self.case, word, says),
+        if self.are_programs {
+            return self.programs.answer(word, says);
         }
+        if word == "programs" {
+            self.are_programs = true;
+            return Ok(String::new(self.case.alloc));
+        }
+        of_libraries(&mut self.case, word, says)
     }
 }

@@ -1,5 +1,5 @@
 //! Rows of tests: lines of a text, each a word and what it says, and the transcript of a program that answers them. The
-//! programs `tests_libraries` and `tests_ubtool` read them.
+//! program `tests_libraries` reads them.
 #![tactic(auto)]
 
 mod answers;

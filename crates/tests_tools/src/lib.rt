@@ -1,5 +1,5 @@
 //! What rows ask of images, environments, files, outputs and command lines, and two jobs on images. The program
-//! `tests_ubtool` reads the rows, and its head says what each asks.
+//! `tests_libraries` reads the rows, and its head says what each asks.
 #![tactic(auto)]
 
 mod calls;

@@ -8,8 +8,17 @@ use tests_tools::{Calls, Case, Performed, answer_call, answer_sweep};
 
 /// What the rows of a paragraph have set.
 #[derive(Drop)]
-pub(crate) struct Whole<'a> {
-    pub(crate) case: Case<'a>,
+pub struct Whole<'a> {
+    case: Case<'a>,
+}
+
+impl<'a> Whole<'a> {
+    /// Nothing is set.
+    pub fn new(rt: &'a HostRuntime) -> Whole<'a> {
+        Whole {
+            case: Case::new(rt),
+        }
+    }
 }
 
 /// What a row speaks of.
