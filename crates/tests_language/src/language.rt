@@ -137,9 +137,13 @@ pub(crate) fn row_of(
     Ok(row)
 }
 
-/// A line of fields for each command of a text.
-fn over<V: Vars>(alloc: Global, word: &str, says: &str, vars: &V) -> anyhow::Result<String> {
-    let script = script_of(alloc, &unescaped(alloc, says)?)?;
+/// A line of fields for each command of a script.
+fn lines_over<V: Vars>(
+    alloc: Global,
+    word: &str,
+    script: &Script,
+    vars: &V,
+) -> anyhow::Result<String> {
     let mut lines = String::new(alloc);
     for list in &script.lists {
         let fields = fields_of_command(alloc, &list.first, vars)?;
@@ -147,6 +151,14 @@ fn over<V: Vars>(alloc: Global, word: &str, says: &str, vars: &V) -> anyhow::Res
         lines.push('\n')?;
     }
     Ok(lines)
+}
+
+/// A line of fields for each command of a text.
+fn over<V: Vars>(alloc: Global, word: &str, says: &str, vars: &V) -> anyhow::Result<String> {
+    let script = script_of(alloc, &unescaped(alloc, says)?)?;
+    let told = lines_over(alloc, word, &script, vars);
+    drop(script);
+    told
 }
 
 /// The same by the variables of a case, which are one or three.

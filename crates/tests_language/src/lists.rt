@@ -61,7 +61,8 @@ fn effect_of(alloc: Global, effect: Effect<'_>) -> Result<String, AllocError> {
 
 /// Whether a text is a device list.
 fn list(alloc: Global, says: &str) -> anyhow::Result<String> {
-    let _ = devices_of(alloc, &unescaped(alloc, says)?)?;
+    let devices = devices_of(alloc, &unescaped(alloc, says)?)?;
+    drop(devices);
     Ok(String::from_str(alloc, "a device list")?)
 }
 
@@ -88,8 +89,10 @@ pub(crate) fn listed(case: &Case, word: &str, says: &str) -> anyhow::Result<Stri
         return list(case.alloc, says);
     }
     let devices = devices_of(case.alloc, &case.devices)?;
-    match word {
+    let told = match word {
         "has" => has(case.alloc, &devices, says),
         _ => effect(case.alloc, &devices, says),
-    }
+    };
+    drop(devices);
+    told
 }

@@ -3,6 +3,7 @@
 use bootstore_copies::Plain;
 use bootstore_state::Store;
 use bootstore_trail::Trail;
+use envtools::Env;
 use output::Over;
 use rehearse_endings::{EndingsAsk, endings_env};
 use rehearse_runs::RehearseError;
@@ -10,13 +11,20 @@ use rehearse_terms::RunBounds;
 use tests_language::{Case, agreed, devices_of, env_of};
 use tests_rows::{first_word, number, slices, text_of};
 
+/// What a call answers, and its lines.
+type Told = (Result<(), RehearseError>, Vec<u8>);
+
+/// What is asked of the runs of a case in this environment.
+fn asked<S: Store>(case: &Case, env: &Env, ask: &EndingsAsk<'_>) -> anyhow::Result<Told> {
+    let devices = devices_of(case.alloc, &case.devices)?;
+    let mut out = Over::new(Vec::new(case.alloc));
+    let answer = endings_env::<S, _>(case.alloc, env, &devices, ask, &mut out);
+    drop(devices);
+    Ok((answer, out.into_writer()))
+}
+
 /// The endings of all runs of a case, or their flow, within so many device commands a run and so many states.
-fn call<S: Store>(
-    case: &Case,
-    devices: u32,
-    states: u32,
-    flow: bool,
-) -> anyhow::Result<(Result<(), RehearseError>, Vec<u8>)> {
+fn call<S: Store>(case: &Case, devices: u32, states: u32, flow: bool) -> anyhow::Result<Told> {
     let Some(bounds) = RunBounds::new(devices, 1_000) else {
         anyhow::bail!("no bounds");
     };
@@ -30,11 +38,10 @@ fn call<S: Store>(
         names: &names,
         flow,
     };
-    let mut out = Over::new(Vec::new(case.alloc));
     let env = env_of(case)?;
-    let devices = devices_of(case.alloc, &case.devices)?;
-    let answer = endings_env::<S, _>(case.alloc, &env, &devices, &ask, &mut out);
-    Ok((answer, out.into_writer()))
+    let told = asked::<S>(case, &env, &ask);
+    drop(env);
+    told
 }
 
 /// The endings of all runs, or the flow, and what the call answers, over one store.

@@ -64,8 +64,8 @@ impl Page {
     }
 }
 
-// A function holds runs, and another one asks them: the end of the runs is gone through at each way out of the one that holds
-// them, and that takes long to prove.
+// A function holds runs, another one asks them, and then they are dropped: where values end otherwise, their parts are gone
+// through at each way out, and that takes long to prove.
 
 /// The records of runs, and how their page finishes.
 fn records<S: Store>(case: &Case, runs: &mut Runs<'_, S>, limit: u32) -> anyhow::Result<String> {
@@ -78,7 +78,10 @@ fn records<S: Store>(case: &Case, runs: &mut Runs<'_, S>, limit: u32) -> anyhow:
 
 /// The records of a page, and how it finishes.
 fn listing<S: Store>(case: &Case, given: &Given<'_>, page: &Page) -> anyhow::Result<String> {
-    records(case, &mut page.runs::<S>(given)?, page.limit)
+    let mut runs = page.runs::<S>(given)?;
+    let told = records(case, &mut runs, page.limit);
+    drop(runs);
+    told
 }
 
 /// The word that was given last, that of the next run, and the steps that were begun then.
@@ -102,7 +105,10 @@ fn finished<S: Store>(alloc: Global, runs: &mut Runs<'_, S>, limit: u32) -> anyh
 
 /// How a page finishes, the work after it, and the answers then.
 fn told_behind_page<S: Store>(given: &Given<'_>, page: &Page) -> anyhow::Result<String> {
-    finished(given.alloc, &mut page.runs::<S>(given)?, page.limit)
+    let mut runs = page.runs::<S>(given)?;
+    let told = finished(given.alloc, &mut runs, page.limit);
+    drop(runs);
+    told
 }
 
 /// What a listing of runs answers that has this room, the bytes, and the answers then.
@@ -121,7 +127,10 @@ fn broken_in<S: Store>(
 fn broken<S: Store>(given: &Given<'_>, says: &str) -> anyhow::Result<String> {
     let size = number(says)?;
     let mut room = vec![in given.alloc; 0u8; size as usize]?;
-    broken_in(given.alloc, &mut given.runs::<S>(None)?, &mut room)
+    let mut runs = given.runs::<S>(None)?;
+    let told = broken_in(given.alloc, &mut runs, &mut room);
+    drop(runs);
+    told
 }
 
 /// The words of runs, each with the work after it.
@@ -147,7 +156,10 @@ fn works_of<S: Store>(alloc: Global, runs: &mut Runs<'_, S>) -> anyhow::Result<S
 
 /// The work after a start word, the words with the work after each, and that of all.
 fn works<S: Store>(given: &Given<'_>, page: &Page) -> anyhow::Result<String> {
-    works_of(given.alloc, &mut page.runs::<S>(given)?)
+    let mut runs = page.runs::<S>(given)?;
+    let told = works_of(given.alloc, &mut runs);
+    drop(runs);
+    told
 }
 
 /// The words of runs.
@@ -165,9 +177,10 @@ fn words_of<S: Store>(alloc: Global, runs: &mut Runs<'_, S>) -> anyhow::Result<V
 /// The words of the runs, or of those after a word, and how many steps were begun.
 fn words<S: Store>(given: &Given<'_>, after: Option<&[u8]>) -> anyhow::Result<(Vec<Vec<u8>>, u64)> {
     let mut runs = given.runs::<S>(after)?;
-    let words = words_of(given.alloc, &mut runs)?;
+    let words = words_of(given.alloc, &mut runs);
     let work = work_of(&runs);
-    Ok((words, work))
+    drop(runs);
+    Ok((words?, work))
 }
 
 /// How many runs there are, whether their words grow in dictionary order, and how many steps were begun.
@@ -183,6 +196,12 @@ fn grown<S: Store>(given: &Given<'_>) -> anyhow::Result<String> {
     Ok(format!(in given.alloc; "{runs} runs, their words grow: {do_grow}, {work} steps")?)
 }
 
+/// Whether after a word the runs go on with these.
+fn goes_on<S: Store>(given: &Given<'_>, word: &[u8], rest: &[Vec<u8>]) -> anyhow::Result<bool> {
+    let (behind, _) = words::<S>(given, Some(word))?;
+    Ok(behind.as_slice() == rest)
+}
+
 /// The words of the runs, and whether after each the runs go on with those that stand after it.
 fn onward<S: Store>(given: &Given<'_>) -> anyhow::Result<String> {
     let alloc = given.alloc;
@@ -192,8 +211,7 @@ fn onward<S: Store>(given: &Given<'_>) -> anyhow::Result<String> {
     let mut go_on = true;
     for word in &all {
         rest = rest.get(1..).unwrap_or(&[]);
-        let (behind, _) = words::<S>(given, Some(word))?;
-        go_on = go_on && behind.as_slice() == rest;
+        go_on = goes_on::<S>(given, word, rest)? && go_on;
         text.push(' ')?;
         text.push_str(text_of(alloc, word)?.as_str())?;
     }
@@ -224,8 +242,10 @@ fn places(alloc: Global, listing: &[u8]) -> anyhow::Result<String> {
 
 /// Where the whole listing goes on if so many bytes of it stand, a line for each place.
 fn resumed<S: Store>(case: &Case, given: &Given<'_>) -> anyhow::Result<String> {
-    let listing = listed(case, &mut given.runs::<S>(None)?)?;
-    places(case.alloc, &listing)
+    let mut runs = given.runs::<S>(None)?;
+    let listing = listed(case, &mut runs);
+    drop(runs);
+    places(case.alloc, &listing?)
 }
 
 /// What an ending is called.
@@ -257,8 +277,10 @@ fn end_of<S: Store>(runs: &mut Runs<'_, S>) -> anyhow::Result<&'static str> {
 
 /// How the first run ends.
 fn end<S: Store>(given: &Given<'_>) -> anyhow::Result<String> {
-    let name = end_of(&mut given.runs::<S>(None)?)?;
-    Ok(String::from_str(given.alloc, name)?)
+    let mut runs = given.runs::<S>(None)?;
+    let name = end_of(&mut runs);
+    drop(runs);
+    Ok(String::from_str(given.alloc, name?)?)
 }
 
 /// What kind of word each is.
@@ -308,7 +330,9 @@ fn told_of<S: Store>(
 /// The answer to a row over one store.
 fn told_over<S: Store>(case: &Case, word: &str, says: &str) -> anyhow::Result<String> {
     let given = given_of(case)?;
-    told_of::<S>(case, &given, word, says)
+    let told = told_of::<S>(case, &given, word, says);
+    drop(given);
+    told
 }
 
 /// The answer to a row of rehearsals, over both stores.

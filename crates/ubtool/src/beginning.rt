@@ -58,13 +58,18 @@ fn begin_on(
         (with_board (Ok (board_shown board)) taking env name.now (option_bytes text.entry)) result }
 {
     let Board { start, devices } = board;
-    match start.begin(taking.alternative, env, name, text) {
+    let begun = start.begin(taking.alternative, env, name, text);
+    drop(start);
+    match begun {
         Ok(Begun { env, text }) => Ok(Beginning {
             env,
             devices: taken(devices, taking.steady),
             text,
         }),
-        Err(error) => Err(error.into()),
+        Err(error) => {
+            drop(devices);
+            Err(error.into())
+        }
     }
 }
 

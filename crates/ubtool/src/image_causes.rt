@@ -77,7 +77,11 @@ fn causes_of_one<O: Out>(
 {
     let shell = ask.bounds.shell();
     match begin(alloc, first, second, order, shell, list, ask.name, ask.text) {
-        Ok(beginning) => causes_told(alloc, &beginning, ask, out),
+        Ok(beginning) => {
+            let told = causes_told(alloc, &beginning, ask, out);
+            drop(beginning);
+            told
+        }
         Err(error) => Err(error),
     }
 }

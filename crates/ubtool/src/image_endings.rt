@@ -81,7 +81,11 @@ fn endings_of_one<O: Out>(
 {
     let shell = ask.bounds.shell();
     match begin(alloc, first, second, order, shell, list, ask.name, ask.text) {
-        Ok(beginning) => endings_told(alloc, &beginning, ask, out),
+        Ok(beginning) => {
+            let told = endings_told(alloc, &beginning, ask, out);
+            drop(beginning);
+            told
+        }
         Err(error) => Err(error),
     }
 }

@@ -136,7 +136,11 @@ fn rehearse_in<O: Out>(
         (text_given ask.now) (asking_of ask.now)) (O.sink out.old) (O.sink out.new) e) }
 {
     match begin(alloc, first, second, order, shell, list, ask.name, ask.text) {
-        Ok(beginning) => rehearse_told(alloc, &beginning, ask, out),
+        Ok(beginning) => {
+            let told = rehearse_told(alloc, &beginning, ask, out);
+            drop(beginning);
+            told
+        }
         Err(error) => Err(error),
     }
 }

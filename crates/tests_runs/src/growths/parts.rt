@@ -96,7 +96,9 @@ fn writes_part(alloc: Global, files: &mut MemoryFiles) -> Result<bool, Trouble> 
 /// Whether `10` is the word of a run and `1` is too short for one.
 pub(crate) fn tries<S: Store>(alloc: Global, env: &Env) -> Result<bool, Trouble> {
     let devices = told_apart(Devices::parse(alloc, b"load"), DevicesError::Memory)?;
-    tries_with::<S>(alloc, env, &devices)
+    let told = tries_with::<S>(alloc, env, &devices);
+    drop(devices);
+    told
 }
 
 /// The same with a device list that was read.

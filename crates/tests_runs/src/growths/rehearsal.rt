@@ -145,7 +145,11 @@ fn list_once<S: Store, O: Out>(
     out: &mut O,
 ) -> Option<bool> {
     match runs_of::<S>(alloc, script, last.word()) {
-        Ok(mut runs) => write_runs(&mut runs, last, out),
+        Ok(mut runs) => {
+            let told = write_runs(&mut runs, last, out);
+            drop(runs);
+            told
+        }
         Err(RehearseError::Memory) => {
             write_all(out, b"refused\n").ok()?;
             Some(false)
@@ -168,9 +172,8 @@ fn list<S: Store, O: Out>(alloc: Global, script: &Script, out: &mut O) -> Option
     None
 }
 
-/// How many runs there are, and how many steps were begun for them.
-fn count<S: Store>(alloc: Global, script: &Script) -> Option<(u32, u64)> {
-    let mut runs = runs_of::<S>(alloc, script, None).ok()?;
+/// How many of these runs there are, and how many steps were begun for them.
+fn count_of<S: Store>(runs: &mut Runs<'_, S>) -> Option<(u32, u64)> {
     let mut found = 0u32;
     for _ in 0..1000u32 {
         match runs.next() {
@@ -180,6 +183,14 @@ fn count<S: Store>(alloc: Global, script: &Script) -> Option<(u32, u64)> {
         }
     }
     Some((found, runs.work()))
+}
+
+/// How many runs there are, and how many steps were begun for them.
+fn count<S: Store>(alloc: Global, script: &Script) -> Option<(u32, u64)> {
+    let mut runs = runs_of::<S>(alloc, script, None).ok()?;
+    let told = count_of(&mut runs);
+    drop(runs);
+    told
 }
 
 /// Says how many runs a script has over a store, and how many steps were begun for them.
@@ -202,6 +213,7 @@ pub(crate) fn run(rt: &HostRuntime) -> io::Result<()> {
     match Script::new(rt.alloc(), 0, b"load a || load b; echo $?") {
         Some(script) => {
             list_both(rt.alloc(), &script, &mut Over::new(io::writer(rt)));
+            drop(script);
             Ok(())
         }
         None => println!(rt; "no memory to begin with"),
@@ -221,7 +233,11 @@ pub(crate) fn run_long(rt: &HostRuntime) -> io::Result<()> {
         1000,
         b"load; load; load; load; load; load; load",
     ) {
-        Some(script) => count_both(rt, &script),
+        Some(script) => {
+            let told = count_both(rt, &script);
+            drop(script);
+            told
+        }
         None => println!(rt; "no memory to begin with"),
     }
 }

@@ -32,16 +32,25 @@ fn print_variables(rt: &impl Print, env: &Env) -> io::Result<()> {
     println!(rt; "")
 }
 
-/// Applies the script.
-pub(crate) fn run(rt: &HostRuntime) -> io::Result<()> {
-    let Ok(mut env) = begin(rt.alloc()) else {
-        return println!(rt; "no memory to begin with");
-    };
-    let applied = apply_script(&mut env, b"c 3\na\nd 4\nb 5\ne 6\nf 7");
+/// Applies the script to an environment.
+fn apply(rt: &HostRuntime, env: &mut Env) -> io::Result<()> {
+    let applied = apply_script(env, b"c 3\na\nd 4\nb 5\ne 6\nf 7");
     match told_apart(applied, ScriptError::Memory) {
         Ok(()) => print!(rt; "applied:")?,
         Err(Trouble::Memory) => print!(rt; "refused:")?,
         Err(Trouble::Other) => print!(rt; "refused for another cause:")?,
     }
-    print_variables(rt, &env)
+    print_variables(rt, env)
+}
+
+/// Applies the script.
+pub(crate) fn run(rt: &HostRuntime) -> io::Result<()> {
+    match begin(rt.alloc()) {
+        Ok(mut env) => {
+            let told = apply(rt, &mut env);
+            drop(env);
+            told
+        }
+        Err(_) => println!(rt; "no memory to begin with"),
+    }
 }

@@ -14,7 +14,7 @@ returns-in-Ok-clause-ok g c =
     let given = causes_given c.args.order c.args.first.now (option_copied c.args.second) c.args.list.text.now c.args.list.taking c.args.ask.now in
     let found : beginning_of given ≡ Ok (beginning_shown c.in-Ok.beginning) =
     ap (λ (shell : Shell). with_image image shell (board_of c.args.list.text.now) c.args.list.taking c.args.ask.now.name.now (option_bytes c.args.ask.now.text)) (sym c.shell-shell.ensures) ∙ c.in-Ok.ensures in
-    c.causes_told.ensures.ok given (found, refl)
+    c.causes_told-told.ensures.ok given (found, refl)
 
 pub returns-in-Ok-clause-err : goal.returns-in-Ok-clause-err
 returns-in-Ok-clause-err g c =
@@ -22,4 +22,4 @@ returns-in-Ok-clause-err g c =
     let given = causes_given c.args.order c.args.first.now (option_copied c.args.second) c.args.list.text.now c.args.list.taking c.args.ask.now in
     let found : beginning_of given ≡ Ok (beginning_shown c.in-Ok.beginning) =
     ap (λ (shell : Shell). with_image image shell (board_of c.args.list.text.now) c.args.list.taking c.args.ask.now.name.now (option_bytes c.args.ask.now.text)) (sym c.shell-shell.ensures) ∙ c.in-Ok.ensures in
-    c.causes_told.ensures.err given (found, refl)
+    c.causes_told-told.ensures.err given (found, refl)

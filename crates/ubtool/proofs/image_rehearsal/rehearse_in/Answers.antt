@@ -14,7 +14,7 @@ returns-in-Ok-clause-ok g c =
     let all = given c.args.order c.args.first.now (option_copied c.args.second) c.args.list.text.now c.args.list.taking (text_given c.args.ask.now) (asking_of c.args.ask.now) in
     let found : beginning_of all ≡ Ok (beginning_shown c.in-Ok.beginning) =
     ap (λ (shell : Shell). with_image image shell (board_of c.args.list.text.now) c.args.list.taking c.args.ask.now.name.now (text_given c.args.ask.now)) (sym c.requires.shell) ∙ c.in-Ok.ensures in
-    c.rehearse_told.ensures.ok all (found, refl)
+    c.rehearse_told-told.ensures.ok all (found, refl)
 
 pub returns-in-Ok-clause-err : goal.returns-in-Ok-clause-err
 returns-in-Ok-clause-err g c =
@@ -22,4 +22,4 @@ returns-in-Ok-clause-err g c =
     let all = given c.args.order c.args.first.now (option_copied c.args.second) c.args.list.text.now c.args.list.taking (text_given c.args.ask.now) (asking_of c.args.ask.now) in
     let found : beginning_of all ≡ Ok (beginning_shown c.in-Ok.beginning) =
     ap (λ (shell : Shell). with_image image shell (board_of c.args.list.text.now) c.args.list.taking c.args.ask.now.name.now (text_given c.args.ask.now)) (sym c.requires.shell) ∙ c.in-Ok.ensures in
-    c.rehearse_told.ensures.err all (found, refl)
+    c.rehearse_told-told.ensures.err all (found, refl)
