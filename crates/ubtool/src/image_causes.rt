@@ -1,6 +1,7 @@
 //! What has to fail for each ending of an image's variable or of a given text, from the bytes of the image to the lines.
-ghost use Rattle.std.specs.Prelude.{◌≡◌, ◌&&◌, IfOk, IfErr};
+ghost use Rattle.std.specs.Prelude.{◌≡◌, ◌&&◌, IfOk, IfErr, Ok};
 ghost use Rattle.std.specs.Option.{option_copied};
+ghost use Rattle.board_start.specs.Start.{start_of};
 ghost use Rattle.ubtool.specs.Beginning.{StartsWith};
 ghost use Rattle.ubtool.specs.Given.{Given};
 ghost use Rattle.ubtool.specs.CausesOfImages.{AreAllCauses, AreCausesOf, LacksCauses, RefusesCauses, RefusesOne, RefusesTurn, TellsCauses, TellsOne, causes_given, runs_by};
@@ -11,6 +12,7 @@ ghost use Rattle.text.specs.TextsShown.{option_items};
 use crate::beginning::{Beginning, DeviceText, begin};
 use crate::in_turn::{add_headed, named, start_of, turns_told};
 use crate::rehearsal_error::RehearsalError;
+use board_start::Start;
 use bootstore_trail::Trail;
 use envimage::ByteOrder;
 use output::{Out, Over, write_all};
@@ -117,6 +119,40 @@ fn both(first: bool, second: bool) -> bool
     first && second
 }
 
+/// The lines of so many alternatives of a list that says this of the start, and whether all is well. Errors:
+/// those of the first that is refused; `Memory`.
+fn lines_by_start(
+    alloc: Global,
+    first: &[u8],
+    second: Option<&[u8]>,
+    order: ByteOrder,
+    list: DeviceText<'_>,
+    ask: &CausesAsk<'_>,
+    start: &Start,
+    count: u32,
+) -> Result<(Vec<u8>, bool), RehearsalError>
+    requires { start_of list.text.now ≡ Ok start.now }
+    ensures ok { IfOk result (λ all. AreAllCauses
+        (causes_given order first.now (option_copied second.entry) list.entry.text.now list.entry.taking ask.now)
+        ask.now.check count (all.0.items, all.1)) }
+    ensures err { IfErr result (λ e. RefusesTurn
+        (causes_given order first.now (option_copied second.entry) list.entry.text.now list.entry.taking ask.now)
+        ask.now.check count e) }
+{
+    let mut text = Vec::new(alloc);
+    let mut fine = true;
+    for place in 0..count {
+        let list = named(list, place + 1);
+        let (lines, well) = match lines_of_one(alloc, first, second, order, list, ask) {
+            Ok(part) => part,
+            Err(error) => return Err(error),
+        };
+        add_headed(&mut text, start, place, &lines)?;
+        fine = both(fine, well);
+    }
+    Ok((text, fine))
+}
+
 /// The lines of so many alternatives, and whether all is well. Errors: those of the first that is
 /// refused; `Memory`.
 fn lines_in_turn(
@@ -136,18 +172,9 @@ fn lines_in_turn(
         ask.now.check count e) }
 {
     let start = start_of(alloc, list)?;
-    let mut text = Vec::new(alloc);
-    let mut fine = true;
-    for place in 0..count {
-        let list = named(list, place + 1);
-        let (lines, well) = match lines_of_one(alloc, first, second, order, list, ask) {
-            Ok(part) => part,
-            Err(error) => return Err(error),
-        };
-        add_headed(&mut text, &start, place, &lines)?;
-        fine = both(fine, well);
-    }
-    Ok((text, fine))
+    let told = lines_by_start(alloc, first, second, order, list, ask, &start, count);
+    drop(start);
+    told
 }
 
 /// Writes what has to fail for each ending of a variable of an image, or of the current copy of a

@@ -1,7 +1,8 @@
 //! How all runs of an image's variable or of a given text end, from the bytes of the image to the lines.
-ghost use Rattle.std.specs.Prelude.{◌≡◌, IfOk, IfErr};
+ghost use Rattle.std.specs.Prelude.{◌≡◌, IfOk, IfErr, Ok};
 ghost use Rattle.std.specs.Option.{option_copied};
 ghost use Rattle.ubtool.specs.EndingsOfImages.{AreAllLines, AreLinesOf, LacksLines, RefusesEndings, RefusesOne, RefusesTurn, TellsEndings, TellsOne, endings_given, runs_by};
+ghost use Rattle.board_start.specs.Start.{start_of};
 ghost use Rattle.ubtool.specs.Beginning.{StartsWith};
 ghost use Rattle.ubtool.specs.Given.{Given};
 ghost use Rattle.rehearse_endings.specs.TellingEndings as below;
@@ -11,6 +12,7 @@ ghost use Rattle.text.specs.TextsShown.{option_items};
 use crate::beginning::{Beginning, DeviceText, begin};
 use crate::in_turn::{add_headed, named, start_of, turns_told};
 use crate::rehearsal_error::RehearsalError;
+use board_start::Start;
 use bootstore_trail::Trail;
 use envimage::ByteOrder;
 use output::{Out, Over, write_all};
@@ -112,6 +114,38 @@ fn lines_of_one(
     }
 }
 
+/// The lines of so many alternatives of a list that says this of the start. Errors: those of the first that is
+/// refused; `Memory`.
+fn lines_by_start(
+    alloc: Global,
+    first: &[u8],
+    second: Option<&[u8]>,
+    order: ByteOrder,
+    list: DeviceText<'_>,
+    ask: &EndingsAsk<'_>,
+    start: &Start,
+    count: u32,
+) -> Result<Vec<u8>, RehearsalError>
+    requires { start_of list.text.now ≡ Ok start.now }
+    ensures ok { IfOk result (λ v. AreAllLines
+        (endings_given order first.now (option_copied second.entry) list.entry.text.now list.entry.taking ask.now)
+        ask.now.flow ask.now.states count v.items) }
+    ensures err { IfErr result (λ e. RefusesTurn
+        (endings_given order first.now (option_copied second.entry) list.entry.text.now list.entry.taking ask.now)
+        ask.now.flow ask.now.states ask.now.work count e) }
+{
+    let mut text = Vec::new(alloc);
+    for place in 0..count {
+        let list = named(list, place + 1);
+        let lines = match lines_of_one(alloc, first, second, order, list, ask) {
+            Ok(lines) => lines,
+            Err(error) => return Err(error),
+        };
+        add_headed(&mut text, start, place, &lines)?;
+    }
+    Ok(text)
+}
+
 /// The lines of so many alternatives. Errors: those of the first that is refused; `Memory`.
 fn lines_in_turn(
     alloc: Global,
@@ -130,16 +164,9 @@ fn lines_in_turn(
         ask.now.flow ask.now.states ask.now.work count e) }
 {
     let start = start_of(alloc, list)?;
-    let mut text = Vec::new(alloc);
-    for place in 0..count {
-        let list = named(list, place + 1);
-        let lines = match lines_of_one(alloc, first, second, order, list, ask) {
-            Ok(lines) => lines,
-            Err(error) => return Err(error),
-        };
-        add_headed(&mut text, &start, place, &lines)?;
-    }
-    Ok(text)
+    let told = lines_by_start(alloc, first, second, order, list, ask, &start, count);
+    drop(start);
+    told
 }
 
 /// Writes how all runs of a variable of an image, or of the current copy of a pair, end, or those of

@@ -2,7 +2,7 @@ use Rattle.std.proofs.Common.{◌≡◌, List}
 use Rattle.std.specs.List.{list_all}
 use Rattle.std.specs.Option.{option_copied}
 use Rattle.ubtool.specs.CausesOfImages.{AreInOrder, Part, causes_given}
-use Rattle.ubtool.proofs.image_causes.lines_in_turn.Given as goal
+use Rattle.ubtool.proofs.image_causes.lines_by_start.Given as goal
 
 -- the lines of the alternatives so far, and whether all is well with them
 abbrev pub invariant-loop-place : goal.invariant-loop-place

@@ -7,12 +7,12 @@ use Rattle.ubtool.specs.Given.{Given}
 use Rattle.ubtool.specs.Turns.{headed, named}
 use Rattle.ubtool.proofs.TurnLemmas.{none_yet, one_more, one-start}
 use Rattle.ubtool.proofs.EndingsTurnLemmas.{turn-refused}
-use Rattle.ubtool.proofs.image_endings.lines_in_turn.Goals as goal
+use Rattle.ubtool.proofs.image_endings.lines_by_start.Goals as goal
 
 pub loop-place-init : goal.loop-place-init
 loop-place-init c =
     let g : Given = endings_given c.args.order c.args.first.now (option_copied c.args.second) c.args.list.text.now c.args.list.taking c.args.ask.now in
-    let none : AreInOrder g c.args.ask.now.flow c.args.ask.now.states 0 [] [] = none_yet (AreLinesOf c.args.ask.now.flow c.args.ask.now.states) (λ (part : Text). part) g c.in_ok-start.start c.in_ok-start.ensures in
+    let none : AreInOrder g c.args.ask.now.flow c.args.ask.now.states 0 [] [] = none_yet (AreLinesOf c.args.ask.now.flow c.args.ask.now.states) (λ (part : Text). part) g c.args.start.now c.requires in
     ([], subst (λ (t : Text). AreInOrder g c.args.ask.now.flow c.args.ask.now.states 0 [] t) (sym c.new-text.ensures.items) none)
 
 pub returns-in-Err-clause-err : goal.returns-in-Err-clause-err
@@ -35,7 +35,7 @@ loop-place-preserved c =
     let so_far : AreInOrder g c.args.ask.now.flow c.args.ask.now.states c.loop-place.place parts c.loop-place.text.items = c.loop-place.invariant.1 in
     let is = subst (λ (h : Given). AreLinesOf c.args.ask.now.flow c.args.ask.now.states h part) same c.in-Ok.ensures.ok in
     let one = one_more (AreLinesOf c.args.ask.now.flow c.args.ask.now.states) (λ (part : Text). part) g c.loop-place.place parts c.loop-place.text.items part so_far is in
-    let start = one-start c.args.list.text.now so_far.start c.in_ok-start.start so_far.start_is c.in_ok-start.ensures in
+    let start = one-start c.args.list.text.now so_far.start c.args.start.now so_far.start_is c.requires in
     let added : c.add_headed.new.text.items ≡ c.loop-place.text.items ++ headed so_far.start c.loop-place.place part =
     c.in_ok-add_headed.ensures.ok ∙ (λ i. c.loop-place.text.items ++ headed (sym start i) c.loop-place.place (c.deref.ensures.value i)) in
     (parts ++ part ∷ [], subst (λ (t : Text). AreInOrder g c.args.ask.now.flow c.args.ask.now.states (c.loop-place.place + 1) (parts ++ part ∷ []) t) (sym added) one)

@@ -2,7 +2,7 @@ use Rattle.std.proofs.Common.{List}
 use Rattle.std.specs.Option.{option_copied}
 use Rattle.rehearse_terms.specs.State.{Text}
 use Rattle.ubtool.specs.EndingsOfImages.{AreInOrder, endings_given}
-use Rattle.ubtool.proofs.image_endings.lines_in_turn.Given as goal
+use Rattle.ubtool.proofs.image_endings.lines_by_start.Given as goal
 
 -- the lines of the alternatives so far
 abbrev pub invariant-loop-place : goal.invariant-loop-place
