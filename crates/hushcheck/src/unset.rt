@@ -117,6 +117,27 @@ fn either(first: bool, second: bool) -> bool
     first || second
 }
 
+/// Writes which variables that the texts read are not known, each at the first word that reads it; they are known
+/// then. Returns whether there is one.
+fn write_new_reads<O: Out>(
+    alloc: Global,
+    known: &mut Names,
+    used: &[Used<'_>],
+    out: &mut O,
+) -> Result<bool, CheckError>
+    ensures lines { Writes result (O.sink out.old) (O.sink out.new)
+        (spec.unset_lines known.old (all_used used.now)) }
+    ensures any { IfOk result (λ any. any ≡ spec.has_unset known.old (all_used used.now)) }
+{
+    let mut any = false;
+    for text in used {
+        let found = search(alloc, known, &text.reads)?;
+        write_found(alloc, &text.name, text.text, &found, out)?;
+        any = either(any, !found.is_empty());
+    }
+    Ok(any)
+}
+
 /// Writes which variables that the texts read are not known, each at the first word that reads it. Returns
 /// whether there is one.
 pub(crate) fn write_unset_reads<O: Out>(
@@ -130,11 +151,7 @@ pub(crate) fn write_unset_reads<O: Out>(
     ensures any { IfOk result (λ any. any ≡ spec.has_unset known (all_used used.now)) }
 {
     let mut known = known;
-    let mut any = false;
-    for text in used {
-        let found = search(alloc, &mut known, &text.reads)?;
-        write_found(alloc, &text.name, text.text, &found, out)?;
-        any = either(any, !found.is_empty());
-    }
-    Ok(any)
+    let told = write_new_reads(alloc, &mut known, used, out);
+    drop(known);
+    told
 }

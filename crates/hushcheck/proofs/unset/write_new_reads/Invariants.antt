@@ -3,7 +3,7 @@ use Rattle.output.specs.Sink.{Wrote}
 use Rattle.hushcheck.specs.Names.{Text}
 use Rattle.hushcheck.specs.UsedShown.{all_used}
 use Rattle.hushcheck.proofs.UnsetLemmas.{IsSo}
-use Rattle.hushcheck.proofs.unset.write_unset_reads.Given as goal
+use Rattle.hushcheck.proofs.unset.write_new_reads.Given as goal
 
 -- the lines of the texts so far were written
 abbrev pub invariant-loop-text : goal.invariant-loop-text
