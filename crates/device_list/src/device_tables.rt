@@ -176,7 +176,10 @@ impl DeviceTables {
         }
         let mut devices = DeviceTables::new(alloc);
         for (number, line) in Lines::new(text) {
-            devices.add_line(number, line)?;
+            if let Err(fault) = devices.add_line(number, line) {
+                drop(devices);
+                return Err(fault);
+            }
         }
         Ok(devices)
     }
@@ -298,6 +301,22 @@ impl DeviceTables {
         }
     }
 
+    /// Adds a name that the tables have at these places. Errors: memory ran out.
+    fn add_name(
+        &self,
+        names: &mut IndexMap<Vec<u8>, Places>,
+        name: &[u8],
+        places: Places,
+    ) -> Result<(), AllocError>
+        requires placed { IsPlaced self.now name.now places }
+        requires names { ArePlaced self.now names.old.entries }
+        ensures { OnOk result (ArePlaced self.now names.new.entries) }
+    {
+        let name = Vec::from_slice(self.alloc, name)?;
+        names.insert(name, places)?;
+        Ok(())
+    }
+
     /// Each name of the tables, and where they have it. Errors: memory ran out.
     pub fn names(&self) -> Result<IndexMap<Vec<u8>, Places>, AllocError>
         ensures { IfOk result (λ names. ArePlaced self.now names.entries) }
@@ -306,8 +325,10 @@ impl DeviceTables {
         let listed = self.commands.keys().chain(self.subs.keys());
         for name in listed.chain(self.calls.keys()) {
             let places = self.places_of(name);
-            let name = Vec::from_slice(self.alloc, name)?;
-            names.insert(name, places)?;
+            if let Err(error) = self.add_name(&mut names, name, places) {
+                drop(names);
+                return Err(error);
+            }
         }
         Ok(names)
     }
