@@ -75,6 +75,13 @@ impl Names {
         Ok(self.names.insert(name)?)
     }
 
+    /// Adds a copy of a name after the others, if it is new. Errors: memory ran out.
+    fn add_copy(&mut self, alloc: Global, name: &[u8]) -> Result<(), AllocError>
+        ensures { OnOk result (self.new ≡ with_name self.old name.now) }
+    {
+        self.add(Vec::from_slice(alloc, name)?)
+    }
+
     /// Adds copies of names. Errors: memory ran out.
     pub(crate) fn add_all(&mut self, alloc: Global, more: &[Vec<u8>]) -> Result<(), AllocError>
         ensures { OnOk result (self.new ≡ with_names self.old (names_shown more.now)) }
@@ -90,10 +97,13 @@ impl Names {
 pub(crate) fn names_of(alloc: Global, env: &Env) -> Result<Names, AllocError>
     ensures { IfOk result (λ names. names ≡ once (map (λ p. p.0) env.now)) }
 {
-    let mut names = Names::new(alloc);
     let pairs = env.pairs()?;
+    let mut names = Names::new(alloc);
     for pair in &pairs {
-        names.add(Vec::from_slice(alloc, pair.0)?)?;
+        if let Err(error) = names.add_copy(alloc, pair.0) {
+            drop(names);
+            return Err(error);
+        }
     }
     Ok(names)
 }
@@ -104,7 +114,10 @@ pub(crate) fn asked_names(alloc: Global, asked: &[&[u8]]) -> Result<Names, Alloc
 {
     let mut names = Names::new(alloc);
     for name in asked {
-        names.add(Vec::from_slice(alloc, name)?)?;
+        if let Err(error) = names.add_copy(alloc, name) {
+            drop(names);
+            return Err(error);
+        }
     }
     Ok(names)
 }
