@@ -7,8 +7,8 @@ use Rattle.hushlang.specs.Tree.{Word, Piece}
 use Rattle.hushlang.specs.Expansion.{Parameters, atoms_of_piece, atoms, all_bytes, joined, fields_of_word, fields}
 use Rattle.hushlang.specs.KnownFields.{is_constant, is_constant_word, are_constant}
 use Rattle.hushlang.proofs.ExpandLemmas.{all_bytes_kept, all_bytes-append}
-use Rattle.hushlang_parts.specs.Pieces.{is_something}
-use Rattle.hushlang_parts.proofs.WordLemmas.{one_field}
+use Rattle.hushlang_uboot.specs.Pieces.{is_something}
+use Rattle.hushlang_uboot.proofs.WordLemmas.{one_field}
 use Rattle.hushlang_modern.specs.ModernFields.{expanded, modern_fields_of_word, modern_fields}
 use Rattle.hushlang_modern.specs.ModernFieldsShown.{field_of_constant}
 use Rattle.hushlang_modern.specs.ModernWords.{bytes_of_piece, is_lasting}

@@ -3,12 +3,12 @@ use Rattle.std.proofs.Common.{◌≡◌, subst, ℕ, Bool, true, false, ◌&&◌
 use Rattle.hushlang.specs.Tree as tree
 use Rattle.hushlang.specs.Tree.{Script, Command, IsProper, IsProperCommand}
 use Rattle.hushlang.specs.declared.tree.Op.{Op}
-use Rattle.hushlang_parts.specs.Nests as nests
-use Rattle.hushlang_parts.specs.declared.part.Part.{Part}
-use Rattle.hushlang_parts.specs.declared.part.Part.TheVariants as p
-use Rattle.hushlang_parts.specs.declared.reserved.Reserved.{Reserved}
-use Rattle.hushlang_parts.proofs.NestLemmas as nesting
-use Rattle.hushlang_parts.proofs.NestLemmas.{IsNest, IsGone}
+use Rattle.hushlang_uboot.specs.Nests as nests
+use Rattle.hushlang_uboot.specs.declared.part.Part.{Part}
+use Rattle.hushlang_uboot.specs.declared.part.Part.TheVariants as p
+use Rattle.hushlang_uboot.specs.declared.reserved.Reserved.{Reserved}
+use Rattle.hushlang_uboot.proofs.NestLemmas as nesting
+use Rattle.hushlang_uboot.proofs.NestLemmas.{IsNest, IsGone}
 use Rattle.hushlang_modern.specs.ModernTokens.{FoundWord, Token, Word, NewLine, Semicolon, Ampersand, Bar, Joins, Opening, Closing, FoundTokens, modern_tokens}
 use Rattle.hushlang_modern.specs.ModernWords.{word_of, is_sure, reserved_in, reserved_first, is_sign, is_exclamation, name_in, is_strange, is_assignment, value_of, is_hazard}
 use Rattle.hushlang_modern.specs.ModernTrees.{ModernText, Read, Unread, Building, nothing_built, part_in, Step, Goes, Stops, has_values, has_words, has_begun, has_command, command_of, without_words, command_ended, opened, is_given, is_unfollowed, gone_to, goes_on, part_read, reserved_read, with_word, with_assignment, doomed, body_ended, reserved_in_for, stray_word, header_word, word_in_for, tree_or_doom, word_begun, command_begun, plain_word, runs_surely, marked_word, unmarked_word, first_word, command_word, named, word_at, all_ended, list_separated, words_ended, end_at, joined_by, group_begun, ends_group, is_behind_brace, is_refused, token_read, tree_ended, read_token, read_tokens, text_in, text_of_step, text_of_tokens, modern_text}

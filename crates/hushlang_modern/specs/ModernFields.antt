@@ -9,7 +9,7 @@ use Rattle.hushlang.specs.Tree as tree
 use Rattle.hushlang.specs.Tree.{Word, Piece}
 use Rattle.hushlang.specs.Expansion.{Parameters, value_of, separates, fields_of_word}
 use Rattle.hushlang.specs.KnownFields.{is_constant_word}
-use Rattle.hushlang_parts.specs.ReadBytes.{has_bytes}
+use Rattle.hushlang_uboot.specs.ReadBytes.{has_bytes}
 use Rattle.hushlang_modern.specs.ModernTokens.{guarded}
 use Rattle.hushlang_modern.specs.ModernWords.{without_guards}
 

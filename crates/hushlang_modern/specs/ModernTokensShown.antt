@@ -1,7 +1,7 @@
 -- What the code's tokens, and the text that it reads, say.
 use Rattle.std.specs.Prelude.{ℕ, List, [], ◌∷◌, map}
 use Rattle.hushlang.specs.TreesShown as view
-use Rattle.hushlang_parts.specs.GatheredShown.{gathered}
+use Rattle.hushlang_uboot.specs.GatheredShown.{gathered}
 use Rattle.hushlang_modern.specs.ModernTokens as says
 use Rattle.hushlang_modern.specs.declared.modern_tokens.FoundWord.{FoundWord}
 use Rattle.hushlang_modern.specs.declared.modern_tokens.FoundTokens.{FoundTokens}

@@ -1,7 +1,7 @@
 -- What the code's tree on the way, and what becomes of a text, say.
 use Rattle.std.specs.Prelude.{map, Option, Some, None}
 use Rattle.hushlang.specs.TreesShown as view
-use Rattle.hushlang_parts.specs.NestsShown as nests
+use Rattle.hushlang_uboot.specs.NestsShown as nests
 use Rattle.hushlang_modern.specs.ModernTokensShown as tokens
 use Rattle.hushlang_modern.specs.ModernTrees as says
 use Rattle.hushlang_modern.specs.declared.stop.Stop.{Stop}

@@ -7,12 +7,12 @@ use Rattle.hushlang.specs.Tree as tree
 use Rattle.hushlang.specs.Tree.{Piece}
 use Rattle.hushlang.specs.WordPieces.{in_piece}
 use Rattle.hushlang.specs.KnownFields.{is_constant_word}
-use Rattle.hushlang_parts.specs.ReadBytes.{has_bytes, unescaped}
-use Rattle.hushlang_parts.specs.Pieces.{is_mark}
-use Rattle.hushlang_parts.specs.Nests.{reserved_among}
-use Rattle.hushlang_parts.specs.Pieces.{only_bytes}
-use Rattle.hushlang_parts.specs.declared.reserved.Reserved.{Reserved}
-use Rattle.hushlang_parts.specs.declared.reserved.Reserved.TheVariants as r
+use Rattle.hushlang_uboot.specs.ReadBytes.{has_bytes, unescaped}
+use Rattle.hushlang_uboot.specs.Pieces.{is_mark}
+use Rattle.hushlang_uboot.specs.Nests.{reserved_among}
+use Rattle.hushlang_uboot.specs.Pieces.{only_bytes}
+use Rattle.hushlang_uboot.specs.declared.reserved.Reserved.{Reserved}
+use Rattle.hushlang_uboot.specs.declared.reserved.Reserved.TheVariants as r
 use Rattle.hushlang_modern.specs.ModernTokens.{FoundWord, is_wild, is_name}
 
 -- ---- patterns

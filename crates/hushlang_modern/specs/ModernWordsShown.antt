@@ -2,7 +2,7 @@
 use Rattle.std.specs.Prelude.{◌≡◌, ℕ, false, List, ◌++◌, map, drop, Option, Some, None}
 use Rattle.std.specs.Borrow.{Bor}
 use Rattle.hushlang.specs.WordPieces.{in_piece}
-use Rattle.hushlang_parts.specs.ReadBytes.{unescaped}
+use Rattle.hushlang_uboot.specs.ReadBytes.{unescaped}
 use Rattle.hushlang_modern.specs.ModernTokens.{FoundWord}
 use Rattle.hushlang_modern.specs.ModernWords as says
 

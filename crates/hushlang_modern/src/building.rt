@@ -15,7 +15,7 @@ use crate::modern_text::ModernText;
 use crate::modern_tokens::{FoundWord, Token};
 use crate::stop::Stop;
 use hushlang::{Command, Op, Word};
-use hushlang_parts::{Gone, Nest, Part, Reserved, begins, call_of, is_header};
+use hushlang_uboot::{Gone, Nest, Part, Reserved, begins, call_of, is_header};
 use std::alloc::{AllocError, Global};
 use std::mem;
 

@@ -4,7 +4,7 @@ ghost use Rattle.std.specs.List.{list_all};
 ghost use Rattle.hushlang.specs.ByteClasses as classes;
 ghost use Rattle.hushlang_modern.specs.ModernTokens as says;
 
-use hushlang_parts::is_between;
+use hushlang_uboot::is_between;
 
 /// Whether a byte is one that is not followed.
 pub(crate) fn is_foreign(byte: u8) -> bool

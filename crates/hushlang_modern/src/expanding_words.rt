@@ -11,7 +11,7 @@ use crate::byte_classes::is_guarded;
 use crate::found_words::{bytes_of, have_lasting};
 use crate::word_bytes::without_guards;
 use hushlang::{Piece, Vars, Word};
-use hushlang_parts::are_constant_pieces;
+use hushlang_uboot::are_constant_pieces;
 use itoa::Buffer;
 use std::alloc::{AllocError, Global};
 use std::mem;
@@ -226,7 +226,7 @@ fn expanded<V: Vars>(alloc: Global, word: &Word, vars: &V) -> Result<Vec<Vec<u8>
 }
 
 /// The field of a word that nothing can change, if it has one.
-#[tactic(auto, using(hushlang_parts::proofs::WordLemmas::any_of_map))]
+#[tactic(auto, using(hushlang_uboot::proofs::WordLemmas::any_of_map))]
 fn constant_field(alloc: Global, word: &Word) -> Result<Vec<Vec<u8>>, AllocError>
     ensures { IfOk result (λ found. map (λ field. field.items) found.items
         ≡ shown.field_of_constant (view.word word.now)) }

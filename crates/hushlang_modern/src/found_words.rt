@@ -13,7 +13,7 @@ use crate::byte_classes::{is_name, is_name_byte};
 use crate::modern_tokens::FoundWord;
 use crate::word_bytes::without_guards;
 use hushlang::{Piece, Word};
-use hushlang_parts::{
+use hushlang_uboot::{
     Reserved, are_constant_pieces, have_quotes, only_bytes, reserved_bytes, unescaped,
     without_first,
 };
@@ -37,7 +37,7 @@ pub(crate) fn have_lasting(pieces: &[Piece]) -> bool
 }
 
 /// Whether a word is a field, whatever the variables are.
-#[tactic(auto, using(hushlang_parts::proofs::WordLemmas::any_of_map))]
+#[tactic(auto, using(hushlang_uboot::proofs::WordLemmas::any_of_map))]
 pub(crate) fn is_sure(word: &FoundWord) -> bool
     ensures { result ≡ says.is_sure (shown.word word.now) }
 {
@@ -205,7 +205,7 @@ pub(crate) fn value_of(alloc: Global, word: FoundWord) -> Result<(Vec<u8>, Word)
 }
 
 /// Quotes, if there are any among pieces.
-#[tactic(auto, using(hushlang_parts::proofs::WordLemmas::any_of_map))]
+#[tactic(auto, using(hushlang_uboot::proofs::WordLemmas::any_of_map))]
 fn mark_of(alloc: Global, pieces: &[Piece]) -> Result<Vec<Piece>, AllocError>
     ensures { IfOk result (λ made. map view.piece made.items ≡ says.mark_of (map view.piece pieces.now)) }
 {
@@ -238,7 +238,7 @@ fn settled(alloc: Global, pieces: &[Piece]) -> Result<Vec<Piece>, AllocError>
 }
 
 /// A word of a command. Errors: memory ran out.
-#[tactic(auto, using(hushlang_parts::proofs::WordLemmas::all_of_pieces))]
+#[tactic(auto, using(hushlang_uboot::proofs::WordLemmas::all_of_pieces))]
 fn word_of(alloc: Global, word: FoundWord) -> Result<Word, AllocError>
     ensures { IfOk result (λ made. view.word made ≡ says.word_of (shown.word word)) }
 {

@@ -8,7 +8,7 @@ use crate::modern_tokens::operators::single;
 use crate::modern_tokens::variables::stop_in_brace;
 use crate::stop::Stop;
 use hushlang::{Op, Piece};
-use hushlang_parts::Gathered;
+use hushlang_uboot::Gathered;
 use std::alloc::{AllocError, Global};
 use std::mem;
 

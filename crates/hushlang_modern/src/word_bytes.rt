@@ -3,7 +3,7 @@ ghost use Rattle.std.specs.Prelude.{◌≡◌, false, IfOk};
 ghost use Rattle.hushlang_modern.specs.ModernWords as says;
 
 use crate::byte_classes::is_wild;
-use hushlang_parts::unescaped;
+use hushlang_uboot::unescaped;
 use std::alloc::{AllocError, Global};
 
 /// Whether a byte acts in a pattern.

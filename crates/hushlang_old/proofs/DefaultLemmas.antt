@@ -3,7 +3,7 @@ use Rattle.std.proofs.Common.{◌≡◌, ◌∙◌, refl, sym, ap, ℕ, true, fa
 use Rattle.std.specs.List.{prefix_len}
 use Rattle.std.proofs.lemmas.Bool.{true≢false}
 use Rattle.std.proofs.lemmas.List.{take-append-drop}
-use Rattle.hushlang_parts.specs.ReadBytes.{has_bytes}
+use Rattle.hushlang_uboot.specs.ReadBytes.{has_bytes}
 use Rattle.hushlang_old.specs.Defaults.{is_no_colon, variable_of, behind_variable, has_more}
 
 some_bytes : (byte : ℕ) (bytes : List ℕ) → has_bytes (byte ∷ bytes) ≡ true

@@ -3,17 +3,17 @@ use Rattle.std.proofs.Common.{◌≡◌, refl, subst, ℕ, Bool, true, false, �
 use Rattle.hushlang.specs.Tree.{Script, IsProper, IsProperCommand}
 use Rattle.hushlang.specs.declared.tree.Op.{Op}
 use Rattle.hushlang.specs.declared.tree.Op.TheVariants.{And}
-use Rattle.hushlang_parts.specs.Nests as nests
-use Rattle.hushlang_parts.specs.Nests.{is_in}
+use Rattle.hushlang_uboot.specs.Nests as nests
+use Rattle.hushlang_uboot.specs.Nests.{is_in}
 use Rattle.hushlang_old.specs.OldTokens.{FoundWord, Token, Word, Ends, Joins, Breaks, old_tokens}
 use Rattle.hushlang_old.specs.OldTrees.{Building, nothing_built, is_open, part_in, drops_number, command_of, command_ended, joined_by, opened, needs_command, gone_to, goes_on, is_idle, with_idle, is_given, part_read, reserved_read, spoil, body_begun, with_misname, no_assignment, misname_in, misnamed, nest_at_do, header_read, first_of_for, word_of_for, first_behind, word_behind, word_at_in, without_name, with_word, is_void, is_assignment, changes_shell, command_begun, reserved_in, first_word, is_constant_word, is_constant_with, begun_behind, further_word, command_word, name_in, named, word_at, word_of, list_separated, end_at, has_command, joined_in, read_token, read_tokens, tree_in, tree_behind, tree_of_tokens, is_fault, have_fault, tokens_have_fault, old_tree_of, has_fault}
-use Rattle.hushlang_parts.specs.declared.part.Part.{Part}
-use Rattle.hushlang_parts.specs.declared.part.Part.TheVariants as p
-use Rattle.hushlang_parts.specs.declared.reserved.Reserved.{Reserved}
-use Rattle.hushlang_parts.specs.declared.reserved.Reserved.TheVariants as r
-use Rattle.hushlang_parts.specs.ReadBytes.{has_bytes}
-use Rattle.hushlang_parts.proofs.NestLemmas as nesting
-use Rattle.hushlang_parts.proofs.NestLemmas.{IsNest, IsGone}
+use Rattle.hushlang_uboot.specs.declared.part.Part.{Part}
+use Rattle.hushlang_uboot.specs.declared.part.Part.TheVariants as p
+use Rattle.hushlang_uboot.specs.declared.reserved.Reserved.{Reserved}
+use Rattle.hushlang_uboot.specs.declared.reserved.Reserved.TheVariants as r
+use Rattle.hushlang_uboot.specs.ReadBytes.{has_bytes}
+use Rattle.hushlang_uboot.proofs.NestLemmas as nesting
+use Rattle.hushlang_uboot.proofs.NestLemmas.{IsNest, IsGone}
 
 -- ---- what holds on the way
 

@@ -4,7 +4,7 @@ use Rattle.std.specs.Prelude.{ℕ, ◌==◌, Bool, true, false, not, List, [], �
 use Rattle.std.specs.List.{prefix_len}
 use Rattle.text.specs.Bytes as ascii
 use Rattle.hushlang.specs.Expansion.{Parameters, value_of}
-use Rattle.hushlang_parts.specs.ReadBytes.{has_bytes}
+use Rattle.hushlang_uboot.specs.ReadBytes.{has_bytes}
 
 abbrev pub is_no_colon : ℕ → Bool
 is_no_colon byte = not (byte == ascii.colon)

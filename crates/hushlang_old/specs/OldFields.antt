@@ -9,8 +9,8 @@ use Rattle.text.specs.Bytes as ascii
 use Rattle.hushlang.specs.Tree.{Word}
 use Rattle.hushlang.specs.Expansion.{Parameters, joined, fields}
 use Rattle.hushlang.specs.KnownFields.{is_constant_word, are_constant}
-use Rattle.hushlang_parts.specs.Pieces.{is_mark}
-use Rattle.hushlang_parts.specs.ReadBytes.{has_bytes, is_newline, is_space_or_tab, unescaped}
+use Rattle.hushlang_uboot.specs.Pieces.{is_mark}
+use Rattle.hushlang_uboot.specs.ReadBytes.{has_bytes, is_newline, is_space_or_tab, unescaped}
 use Rattle.hushlang_old.specs.Defaults.{looked_up}
 
 -- ---- the values in a word (`insert_var_value`)

@@ -9,9 +9,9 @@ use Rattle.hushlang.specs.Tree as tree
 use Rattle.hushlang.specs.Tree.{Piece}
 use Rattle.hushlang.specs.declared.tree.Op.{Op}
 use Rattle.hushlang.specs.declared.tree.Op.TheVariants.{And, Or}
-use Rattle.hushlang_parts.specs.Gathered as gathered
-use Rattle.hushlang_parts.specs.Gathered.{Gathered}
-use Rattle.hushlang_parts.specs.ReadBytes.{has_bytes, is_newline, is_space_or_tab, sign_of}
+use Rattle.hushlang_uboot.specs.Gathered as gathered
+use Rattle.hushlang_uboot.specs.Gathered.{Gathered}
+use Rattle.hushlang_uboot.specs.ReadBytes.{has_bytes, is_newline, is_space_or_tab, sign_of}
 use Rattle.hushlang_old.specs.Defaults.{sets_variable}
 
 -- a word: its pieces, none of which is quotes; whether it has quotes; whether it has a backslash, which keeps it from being

@@ -3,7 +3,7 @@ use Rattle.std.specs.Prelude.{ℕ, List, map}
 use Rattle.std.specs.declared.alloc.Global.{Global}
 use Rattle.std.specs.declared.vec.Vec.{Vec}
 use Rattle.hushlang.specs.TreesShown as view
-use Rattle.hushlang_parts.specs.GatheredShown.{gathered}
+use Rattle.hushlang_uboot.specs.GatheredShown.{gathered}
 use Rattle.hushlang_old.specs.OldTokens as says
 use Rattle.hushlang_old.specs.declared.old_tokens.FoundWord.{FoundWord}
 use Rattle.hushlang_old.specs.declared.old_tokens.Token.{Token}

@@ -15,16 +15,16 @@ use Rattle.hushlang.specs.KnownFields.{is_constant, known_fields}
 use Rattle.hushlang.specs.declared.tree.Op.{Op}
 use Rattle.hushlang.specs.declared.tree.Op.TheVariants.{And}
 use Rattle.commands.specs.UBootExit.{ends_text}
-use Rattle.hushlang_parts.specs.Nests as nests
-use Rattle.hushlang_parts.specs.Nests.{Nest, word_of_if, word_of_loop, reserved_bytes, reserved_among, is_in, is_do}
-use Rattle.hushlang_parts.specs.Pieces.{only_bytes}
-use Rattle.hushlang_parts.specs.ReadBytes.{has_bytes}
+use Rattle.hushlang_uboot.specs.Nests as nests
+use Rattle.hushlang_uboot.specs.Nests.{Nest, word_of_if, word_of_loop, reserved_bytes, reserved_among, is_in, is_do}
+use Rattle.hushlang_uboot.specs.Pieces.{only_bytes}
+use Rattle.hushlang_uboot.specs.ReadBytes.{has_bytes}
 use Rattle.hushlang_old.specs.Defaults.{behind_variable}
 use Rattle.hushlang_old.specs.OldTokens.{FoundWord, Token, Word, Ends, Joins, Breaks, is_letter, is_name_byte, read, read_open, old_tokens}
-use Rattle.hushlang_parts.specs.declared.part.Part.{Part}
-use Rattle.hushlang_parts.specs.declared.part.Part.TheVariants as p
-use Rattle.hushlang_parts.specs.declared.reserved.Reserved.{Reserved}
-use Rattle.hushlang_parts.specs.declared.reserved.Reserved.TheVariants as r
+use Rattle.hushlang_uboot.specs.declared.part.Part.{Part}
+use Rattle.hushlang_uboot.specs.declared.part.Part.TheVariants as p
+use Rattle.hushlang_uboot.specs.declared.reserved.Reserved.{Reserved}
+use Rattle.hushlang_uboot.specs.declared.reserved.Reserved.TheVariants as r
 
 -- ---- what a word says
 

@@ -2,7 +2,7 @@
 use Rattle.std.specs.Prelude.{◌≡◌, ℕ, Bool, true, false, List, [], ◌++◌, map, drop, Option, Some, None}
 use Rattle.std.specs.Borrow.{Bor}
 use Rattle.hushlang.specs.WordPieces.{in_piece}
-use Rattle.hushlang_parts.specs.NestsShown as nests
+use Rattle.hushlang_uboot.specs.NestsShown as nests
 use Rattle.hushlang_old.specs.OldTokensShown as tokens
 use Rattle.hushlang_old.specs.OldTokens as words
 use Rattle.hushlang_old.specs.OldTrees as says

@@ -13,7 +13,7 @@ use crate::found_words::{
 use crate::old_tokens::{FoundWord, Token};
 use crate::plain_exit::simple_call;
 use hushlang::{Command, Op, Script};
-use hushlang_parts::{Gone, Nest, Part, Reserved, begins, is_do, is_header, is_in};
+use hushlang_uboot::{Gone, Nest, Part, Reserved, begins, is_do, is_header, is_in};
 use std::alloc::{AllocError, Global};
 use std::mem;
 

@@ -4,15 +4,15 @@ ghost use Rattle.std.specs.List.{list_any, list_all};
 ghost use Rattle.hushlang.specs.Expansion as expansion;
 ghost use Rattle.hushlang.specs.KnownFields as known;
 ghost use Rattle.hushlang.specs.TreesShown as view;
-ghost use Rattle.hushlang_parts.specs.Pieces as says;
+ghost use Rattle.hushlang_uboot.specs.Pieces as says;
 
 use crate::word_bytes::joined;
 use hushlang::{Piece, Vars, Word};
-use hushlang_parts::are_constant_pieces;
+use hushlang_uboot::are_constant_pieces;
 use std::alloc::{AllocError, Global};
 
 /// Whether no variable and no status can change a word.
-#[tactic(auto, using(hushlang_parts::proofs::WordLemmas::all_of_pieces))]
+#[tactic(auto, using(hushlang_uboot::proofs::WordLemmas::all_of_pieces))]
 pub(crate) fn is_constant_word(word: &Word) -> bool
     ensures { result ≡ known.is_constant_word (view.word word.now) }
 {

@@ -10,13 +10,13 @@ ghost use Rattle.hushlang_old.specs.OldTreesShown.{IsCutAtEquals};
 
 use crate::old_tokens::{FoundWord, is_letter, is_name_byte};
 use hushlang::{Command, Piece, Word};
-use hushlang_parts::{
+use hushlang_uboot::{
     Reserved, are_constant_pieces, call_of, only_bytes, reserved_bytes, without_first,
 };
 use std::alloc::{AllocError, Global};
 
 /// Whether no variable and no status can change a word.
-#[tactic(auto, using(hushlang_parts::proofs::WordLemmas::all_of_pieces))]
+#[tactic(auto, using(hushlang_uboot::proofs::WordLemmas::all_of_pieces))]
 pub(crate) fn is_constant_word(word: &FoundWord) -> bool
     ensures { result ≡ says.is_constant_word (shown.word word.now) }
 {

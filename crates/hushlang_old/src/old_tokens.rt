@@ -7,7 +7,7 @@ ghost use Rattle.hushlang_old.specs.OldTokensShown as shown;
 
 use crate::defaults::sets_variable;
 use hushlang::{Op, Piece};
-use hushlang_parts::{Gathered, is_between, sign_of};
+use hushlang_uboot::{Gathered, is_between, sign_of};
 use std::alloc::{AllocError, Global};
 use std::mem;
 

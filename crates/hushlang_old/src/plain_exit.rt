@@ -6,7 +6,7 @@ ghost use Rattle.hushlang_old.specs.OldTrees as says;
 
 use commands::ends_text;
 use hushlang::{Call, Piece, Word};
-use hushlang_parts::call_of;
+use hushlang_uboot::call_of;
 use std::alloc::{AllocError, Global};
 
 /// Whether a call is an `exit` with a number, and no variable is in its words.

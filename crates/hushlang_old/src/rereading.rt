@@ -3,7 +3,7 @@ ghost use Rattle.std.specs.Prelude.{◌≡◌, [], map, unwrap_or, IfOk, OnOk};
 ghost use Rattle.hushlang_old.specs.OldFields as says;
 ghost use Rattle.hushlang_old.specs.OldFieldsShown as shown;
 
-use hushlang_parts::unescaped;
+use hushlang_uboot::unescaped;
 use std::alloc::{AllocError, Global};
 
 /// What the next byte is.

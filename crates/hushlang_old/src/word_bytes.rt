@@ -5,12 +5,12 @@ ghost use Rattle.hushlang.specs.Expansion as expansion;
 ghost use Rattle.hushlang.specs.TreesShown as view;
 ghost use Rattle.hushlang_old.specs.Defaults as defaults;
 ghost use Rattle.hushlang_old.specs.OldFields as says;
-ghost use Rattle.hushlang_parts.specs.ReadBytes.{is_newline};
+ghost use Rattle.hushlang_uboot.specs.ReadBytes.{is_newline};
 
 use crate::constant::is_constant_word;
 use crate::defaults::{behind_variable, variable_of, with_default};
 use hushlang::{Piece, Vars, Word};
-use hushlang_parts::have_quotes;
+use hushlang_uboot::have_quotes;
 use itoa::Buffer;
 use std::alloc::{AllocError, Global};
 

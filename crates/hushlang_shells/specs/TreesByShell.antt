@@ -4,7 +4,7 @@ use Rattle.std.specs.List.{list_any}
 use Rattle.hushlang.specs.Tree as tree
 use Rattle.hushlang.specs.Tree.{Script}
 use Rattle.hushlang.specs.Trees.{tree_of}
-use Rattle.hushlang_parts.specs.ReadBytes.{is_newline}
+use Rattle.hushlang_uboot.specs.ReadBytes.{is_newline}
 use Rattle.hushlang_old.specs.OldTrees.{old_tree_of, has_fault, lacks_end}
 use Rattle.hushlang_modern.specs.ModernTrees as modern
 use Rattle.hushlang_modern.specs.ModernTrees.{ModernText, modern_text}

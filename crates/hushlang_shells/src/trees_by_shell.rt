@@ -3,7 +3,7 @@ ghost use Rattle.std.specs.Prelude.{◌≡◌, IfOk, not};
 ghost use Rattle.std.specs.List.{list_any};
 ghost use Rattle.hushlang.specs.Trees.{tree_of};
 ghost use Rattle.hushlang_modern.specs.ModernTrees.{modern_text};
-ghost use Rattle.hushlang_parts.specs.ReadBytes.{is_newline};
+ghost use Rattle.hushlang_uboot.specs.ReadBytes.{is_newline};
 ghost use Rattle.hushlang_shells.specs.TextsShown as shown;
 ghost use Rattle.hushlang_shells.specs.TreesByShell as says;
 

@@ -7,7 +7,7 @@ use crate::byte_classes::{is_name, is_parenthesis};
 use crate::modern_tokens::{Place, TextReading, Token};
 use crate::stop::Stop;
 use hushlang::Op;
-use hushlang_parts::{Gathered, sign_of};
+use hushlang_uboot::{Gathered, sign_of};
 use std::alloc::AllocError;
 
 /// How many groups may be in one another.

@@ -3,7 +3,7 @@ use Rattle.std.proofs.Math.ListN.{drop_of_length-le}
 use Rattle.std.proofs.lemmas.List.{map-append}
 use Rattle.hushlang.specs.TreesShown as view
 use Rattle.hushlang.proofs.ExpandLemmas.{drop_next}
-use Rattle.hushlang_parts.proofs.WordLemmas.{flat_next, flat_done}
+use Rattle.hushlang_uboot.proofs.WordLemmas.{flat_next, flat_done}
 use Rattle.hushlang_modern.specs.ModernFields.{modern_fields_of_word, modern_fields}
 use Rattle.hushlang_modern.proofs.expanding_words.modern_fields.Goals as goal
 

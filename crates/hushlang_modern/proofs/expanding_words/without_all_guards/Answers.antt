@@ -3,7 +3,7 @@ use Rattle.std.specs.declared.alloc.Global.{Global}
 use Rattle.std.specs.declared.vec.Vec.{Vec}
 use Rattle.std.specs.Vec.{vec_len}
 use Rattle.std.specs.Vec.Iter.{into_iter_items, into_iter_len}
-use Rattle.hushlang_parts.proofs.LoopLemmas.{made_next, made_all, none_left}
+use Rattle.hushlang_uboot.proofs.LoopLemmas.{made_next, made_all, none_left}
 use Rattle.hushlang_modern.specs.ModernWords.{without_guards}
 use Rattle.hushlang_modern.proofs.expanding_words.without_all_guards.Goals as goal
 

@@ -2,7 +2,7 @@ use Rattle.std.proofs.Common.{◌≡◌, ◌∙◌, sym, ap, subst, map, IfOk}
 use Rattle.std.specs.List.{list_all}
 use Rattle.hushlang.specs.KnownFields.{is_constant}
 use Rattle.hushlang.specs.TreesShown as view
-use Rattle.hushlang_parts.proofs.WordLemmas.{all_of_pieces}
+use Rattle.hushlang_uboot.proofs.WordLemmas.{all_of_pieces}
 use Rattle.hushlang_modern.proofs.FieldLemmas.{constant_word, variable_word}
 use Rattle.hushlang_modern.proofs.expanding_words.word_fields.Goals as goal
 

@@ -2,7 +2,7 @@ use Rattle.std.proofs.Common.{ap, map, arith}
 use Rattle.std.proofs.Math.ListN.{drop_of_length-le}
 use Rattle.hushlang.specs.TreesShown as view
 use Rattle.hushlang.proofs.ExpandLemmas.{drop_next}
-use Rattle.hushlang_parts.proofs.WordLemmas.{flat_next, flat_done}
+use Rattle.hushlang_uboot.proofs.WordLemmas.{flat_next, flat_done}
 use Rattle.hushlang_modern.specs.ModernWords.{bytes_of_piece}
 use Rattle.hushlang_modern.proofs.found_words.bytes_of.Goals as goal
 

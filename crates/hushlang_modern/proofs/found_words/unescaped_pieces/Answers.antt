@@ -3,7 +3,7 @@ use Rattle.std.specs.Vec.{vec_len}
 use Rattle.std.specs.Vec.Iter.{into_iter_items, into_iter_len}
 use Rattle.hushlang.specs.TreesShown as view
 use Rattle.hushlang_modern.specs.ModernWords as says
-use Rattle.hushlang_parts.proofs.LoopLemmas.{made_next, made_all, none_left}
+use Rattle.hushlang_uboot.proofs.LoopLemmas.{made_next, made_all, none_left}
 use Rattle.hushlang_modern.proofs.found_words.unescaped_pieces.Goals as goal
 
 pub loop-piece-init : goal.loop-piece-init

@@ -4,7 +4,7 @@ use Rattle.std.specs.Vec.Iter.{into_iter_items, into_iter_len}
 use Rattle.hushlang.specs.TreesShown as view
 use Rattle.hushlang_modern.specs.ModernTokensShown as shown
 use Rattle.hushlang_modern.specs.ModernWords as says
-use Rattle.hushlang_parts.proofs.LoopLemmas.{made_next, made_all, none_left}
+use Rattle.hushlang_uboot.proofs.LoopLemmas.{made_next, made_all, none_left}
 use Rattle.hushlang_modern.proofs.found_words.words_of.Goals as goal
 
 pub loop-word-init : goal.loop-word-init

@@ -5,8 +5,8 @@ use Rattle.std.proofs.Math.ListN.{drop_of_length-le}
 use Rattle.hushlang.specs.Expansion.{fields_of_word, fields, joined}
 use Rattle.hushlang.specs.TreesShown as view
 use Rattle.hushlang.proofs.ExpandLemmas.{drop_next}
-use Rattle.hushlang_parts.specs.Pieces.{is_something}
-use Rattle.hushlang_parts.proofs.WordLemmas.{flat_next, flat_done, one_field, constant_first, any_of_map, whole_field}
+use Rattle.hushlang_uboot.specs.Pieces.{is_something}
+use Rattle.hushlang_uboot.proofs.WordLemmas.{flat_next, flat_done, one_field, constant_first, any_of_map, whole_field}
 use Rattle.hushlang_old.proofs.constant.constant_fields.Goals.{then-has_something+in_ok-joined+in_ok-push, else-has_something}
 use Rattle.hushlang_old.specs.Defaults.{looked_up}
 use Rattle.hushlang_old.proofs.OldFieldLemmas.{constant_joined}

@@ -1,7 +1,7 @@
 use Rattle.std.proofs.Common.{◌≡◌, ◌∙◌, sym, ap, subst, map, [], unwrap_or, IfOk}
 use Rattle.hushlang.specs.TreesShown as view
 use Rattle.hushlang_old.specs.OldFields.{reread}
-use Rattle.hushlang_parts.proofs.WordLemmas.{all_of_words}
+use Rattle.hushlang_uboot.proofs.WordLemmas.{all_of_words}
 use Rattle.hushlang_old.proofs.OldFieldLemmas.{constant_words, reread_words}
 use Rattle.hushlang_old.proofs.old_words.old_fields.Goals as goal
 

@@ -3,7 +3,7 @@ use Rattle.std.proofs.Math.ListN.{drop_of_length-le}
 use Rattle.hushlang.specs.TreesShown as view
 use Rattle.hushlang.proofs.ExpandLemmas.{drop_next}
 use Rattle.hushlang_old.specs.OldFields.{turns_in, turns_of_word, old_turns}
-use Rattle.hushlang_parts.proofs.WordLemmas.{flat_next, flat_done}
+use Rattle.hushlang_uboot.proofs.WordLemmas.{flat_next, flat_done}
 use Rattle.hushlang_old.proofs.old_words.old_turns.Goals as goal
 
 pub loop-word-preserved : goal.loop-word-preserved

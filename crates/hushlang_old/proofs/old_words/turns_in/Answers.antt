@@ -4,7 +4,7 @@ use borrow.Author.Tests.{tests}
 use Rattle.std.proofs.lemmas.Iterator.Consumers.{map_from_collect, YieldsList-from_filter}
 use Rattle.std.proofs.lemmas.Iterator.Splits.{YieldsList-from_slice_split}
 use Rattle.hushlang_old.specs.OldFields.{is_space}
-use Rattle.hushlang_parts.specs.ReadBytes.{has_bytes}
+use Rattle.hushlang_uboot.specs.ReadBytes.{has_bytes}
 use Rattle.hushlang_old.proofs.old_words.turns_in.Goals as goal
 
 pub returns : goal.returns

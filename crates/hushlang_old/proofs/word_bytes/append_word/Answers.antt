@@ -2,8 +2,8 @@ use Rattle.std.proofs.Common.{◌≡◌, ◌∙◌, sym, ap, ℕ, List, [], ◌�
 use Rattle.std.specs.List.{list_any}
 use Rattle.hushlang.specs.TreesShown as view
 use Rattle.hushlang_old.specs.OldFields.{has_quotes, inserted, word_text}
-use Rattle.hushlang_parts.specs.Pieces.{is_mark}
-use Rattle.hushlang_parts.proofs.WordLemmas.{any_of_map}
+use Rattle.hushlang_uboot.specs.Pieces.{is_mark}
+use Rattle.hushlang_uboot.proofs.WordLemmas.{any_of_map}
 use Rattle.hushlang_old.proofs.word_bytes.append_word.Goals as goal
 
 pub returns-then-not-have_quotes : goal.returns-then-not-have_quotes

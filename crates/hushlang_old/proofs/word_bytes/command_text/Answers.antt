@@ -4,8 +4,8 @@ use Rattle.std.proofs.Math.ListN.{drop_of_length-le}
 use Rattle.hushlang.specs.TreesShown as view
 use Rattle.hushlang.proofs.ExpandLemmas.{drop_next}
 use Rattle.hushlang_old.specs.OldFields.{word_text, with_end, command_text}
-use Rattle.hushlang_parts.specs.ReadBytes.{is_newline}
-use Rattle.hushlang_parts.proofs.WordLemmas.{flat_next, flat_done}
+use Rattle.hushlang_uboot.specs.ReadBytes.{is_newline}
+use Rattle.hushlang_uboot.proofs.WordLemmas.{flat_next, flat_done}
 use Rattle.hushlang_old.proofs.word_bytes.command_text.Goals.{then-has_newline+in_ok-push, else-has_newline}
 use Rattle.hushlang_old.proofs.word_bytes.command_text.Goals as goal
 

@@ -1,8 +1,8 @@
 //! What has been read of a word.
 ghost use Rattle.std.specs.Prelude.{◌≡◌, map, IfOk, OnOk};
 ghost use Rattle.hushlang.specs.TreesShown as view;
-ghost use Rattle.hushlang_parts.specs.Gathered as says;
-ghost use Rattle.hushlang_parts.specs.GatheredShown as shown;
+ghost use Rattle.hushlang_uboot.specs.Gathered as says;
+ghost use Rattle.hushlang_uboot.specs.GatheredShown as shown;
 
 use hushlang::Piece;
 use std::alloc::{AllocError, Global};

@@ -1,8 +1,8 @@
 //! Blocks on the way, and the compound commands that are open.
 ghost use Rattle.std.specs.Prelude.{◌≡◌, ◌∷◌, [], map, length, IfOk, OnOk};
 ghost use Rattle.hushlang.specs.TreesShown as view;
-ghost use Rattle.hushlang_parts.specs.Nests as says;
-ghost use Rattle.hushlang_parts.specs.NestsShown as shown;
+ghost use Rattle.hushlang_uboot.specs.Nests as says;
+ghost use Rattle.hushlang_uboot.specs.NestsShown as shown;
 
 use crate::calls::call_of;
 use crate::part::Part;

@@ -2,16 +2,16 @@
 use Rattle.std.specs.Prelude.{◌≡◌, List, [], ◌∷◌, ◌++◌, map, reverse, option_map, Option, Some, None}
 use Rattle.hushlang.specs.Tree as tree
 use Rattle.hushlang.specs.TreesShown as view
-use Rattle.hushlang_parts.specs.Nests as says
-use Rattle.hushlang_parts.specs.declared.open_commands.Block.{Block}
-use Rattle.hushlang_parts.specs.declared.open_commands.Compound.{Compound}
-use Rattle.hushlang_parts.specs.declared.open_commands.Compound.TheVariants as code
-use Rattle.hushlang_parts.specs.declared.open_commands.Opens.{Opens}
-use Rattle.hushlang_parts.specs.declared.next_part.Next.{Next}
-use Rattle.hushlang_parts.specs.declared.next_part.Next.TheVariants as next_code
-use Rattle.hushlang_parts.specs.declared.nest.Nest.{Nest}
-use Rattle.hushlang_parts.specs.declared.nest.Gone.{Gone}
-use Rattle.hushlang_parts.specs.declared.nest.Gone.TheVariants as gone_code
+use Rattle.hushlang_uboot.specs.Nests as says
+use Rattle.hushlang_uboot.specs.declared.open_commands.Block.{Block}
+use Rattle.hushlang_uboot.specs.declared.open_commands.Compound.{Compound}
+use Rattle.hushlang_uboot.specs.declared.open_commands.Compound.TheVariants as code
+use Rattle.hushlang_uboot.specs.declared.open_commands.Opens.{Opens}
+use Rattle.hushlang_uboot.specs.declared.next_part.Next.{Next}
+use Rattle.hushlang_uboot.specs.declared.next_part.Next.TheVariants as next_code
+use Rattle.hushlang_uboot.specs.declared.nest.Nest.{Nest}
+use Rattle.hushlang_uboot.specs.declared.nest.Gone.{Gone}
+use Rattle.hushlang_uboot.specs.declared.nest.Gone.TheVariants as gone_code
 
 abbrev pub block : Block → says.Block
 block b = record {

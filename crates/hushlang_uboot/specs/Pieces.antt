@@ -3,7 +3,7 @@
 use Rattle.std.specs.Prelude.{ℕ, Bool, true, false, List, [], ◌∷◌, Option, Some, None}
 use Rattle.hushlang.specs.Tree as tree
 use Rattle.hushlang.specs.Tree.{Piece}
-use Rattle.hushlang_parts.specs.ReadBytes.{has_bytes}
+use Rattle.hushlang_uboot.specs.ReadBytes.{has_bytes}
 
 -- a piece that is quotes
 abbrev pub is_mark : Piece → Bool

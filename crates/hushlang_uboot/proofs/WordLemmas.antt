@@ -10,8 +10,8 @@ use Rattle.hushlang.specs.declared.tree.Word.{Word as Code}
 use Rattle.hushlang.specs.declared.tree.Piece.{Piece as CodePiece}
 use Rattle.hushlang.specs.Expansion.{Atom, Kept, Separator, Mark, Parameters, atoms_of_piece, atoms, onto_first, cut, is_field, kept_bytes, fields_of_word, all_bytes, joined}
 use Rattle.hushlang.specs.KnownFields.{is_constant, is_constant_word, are_constant}
-use Rattle.hushlang_parts.specs.Pieces.{is_something}
-use Rattle.hushlang_parts.specs.ReadBytes.{has_bytes}
+use Rattle.hushlang_uboot.specs.Pieces.{is_something}
+use Rattle.hushlang_uboot.specs.ReadBytes.{has_bytes}
 
 -- ---- a test of all or any
 

@@ -1,6 +1,6 @@
 //! The reserved words of U-Boot's shells.
 ghost use Rattle.std.specs.Prelude.{◌≡◌};
-ghost use Rattle.hushlang_parts.specs.Nests as says;
+ghost use Rattle.hushlang_uboot.specs.Nests as says;
 
 /// The words that the shells reserve at the beginning of a command.
 #[derive(Clone, Copy)]

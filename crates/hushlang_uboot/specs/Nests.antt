@@ -7,10 +7,10 @@ use Rattle.hushlang.specs.TreesShown.{runs, joins, arms as all_arms}
 use Rattle.hushlang.specs.Grammar.{max_nesting}
 use Rattle.hushlang.specs.declared.tree.Op.{Op}
 use Rattle.hushlang.specs.declared.tree.Op.TheVariants.{And}
-use Rattle.hushlang_parts.specs.declared.part.Part.{Part}
-use Rattle.hushlang_parts.specs.declared.part.Part.TheVariants as p
-use Rattle.hushlang_parts.specs.declared.reserved.Reserved.{Reserved}
-use Rattle.hushlang_parts.specs.declared.reserved.Reserved.TheVariants as r
+use Rattle.hushlang_uboot.specs.declared.part.Part.{Part}
+use Rattle.hushlang_uboot.specs.declared.part.Part.TheVariants as p
+use Rattle.hushlang_uboot.specs.declared.reserved.Reserved.{Reserved}
+use Rattle.hushlang_uboot.specs.declared.reserved.Reserved.TheVariants as r
 
 -- ---- reserved words
 

@@ -4,8 +4,8 @@ use Rattle.hushlang.specs.Tree as tree
 use Rattle.hushlang.specs.TreesShown as view
 use Rattle.hushlang.specs.declared.tree.Op.{Op}
 use Rattle.hushlang.proofs.ViewLemmas.{list_of}
-use Rattle.hushlang_parts.specs.Nests as says
-use Rattle.hushlang_parts.proofs.open_commands.Block.push_list.Goals as goal
+use Rattle.hushlang_uboot.specs.Nests as says
+use Rattle.hushlang_uboot.proofs.open_commands.Block.push_list.Goals as goal
 
 pub returns : goal.returns
 returns c =

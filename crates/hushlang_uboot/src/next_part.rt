@@ -1,8 +1,8 @@
 //! What a reserved word does with the innermost compound command.
 ghost use Rattle.std.specs.Prelude.{◌≡◌, ◌++◌, ◌∷◌, [], map, IfOk};
 ghost use Rattle.hushlang.specs.TreesShown as view;
-ghost use Rattle.hushlang_parts.specs.Nests as says;
-ghost use Rattle.hushlang_parts.specs.NestsShown as shown;
+ghost use Rattle.hushlang_uboot.specs.Nests as says;
+ghost use Rattle.hushlang_uboot.specs.NestsShown as shown;
 
 use crate::open_commands::{Arms, Compound, empty_body};
 use crate::reserved::Reserved;

@@ -1,8 +1,8 @@
 //! The block on the way and the compound commands that are open, as U-Boot's shells nest them.
 ghost use Rattle.std.specs.Prelude.{◌≡◌, option_map, IfOk, OnOk};
 ghost use Rattle.hushlang.specs.TreesShown as view;
-ghost use Rattle.hushlang_parts.specs.Nests as says;
-ghost use Rattle.hushlang_parts.specs.NestsShown as shown;
+ghost use Rattle.hushlang_uboot.specs.Nests as says;
+ghost use Rattle.hushlang_uboot.specs.NestsShown as shown;
 
 use crate::calls::call_of;
 use crate::next_part::{Next, next_part};

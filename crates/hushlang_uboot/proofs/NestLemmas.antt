@@ -4,9 +4,9 @@ use Rattle.hushlang.specs.Tree as tree
 use Rattle.hushlang.specs.Tree.{Script, AndOr, Command, IsProper, IsProperList, IsProperJoined, IsProperCommand, HasArm, AreProperArms, HoldsCommand}
 use Rattle.hushlang.specs.TreesShown.{runs, joins, arms}
 use Rattle.hushlang.specs.declared.tree.Op.{Op}
-use Rattle.hushlang_parts.specs.Nests.{Block, with_command, list_ended, body_of, Compound, Condition, Arm, Else, Test, Body, Name, In, Words, Do, Each, Group, Next, Enters, Closes, Strays, next_part, name_read, words_read, idle, unmet, Nest, nothing_open, command_added, operator_read, list_closed, begun, Gone, Entered, Closed, Astray, gone_to, goes_among, goes_on, turned, named, worded, given, group_of, script_in}
-use Rattle.hushlang_parts.specs.declared.reserved.Reserved.{Reserved}
-use Rattle.hushlang_parts.specs.declared.reserved.Reserved.TheVariants as r
+use Rattle.hushlang_uboot.specs.Nests.{Block, with_command, list_ended, body_of, Compound, Condition, Arm, Else, Test, Body, Name, In, Words, Do, Each, Group, Next, Enters, Closes, Strays, next_part, name_read, words_read, idle, unmet, Nest, nothing_open, command_added, operator_read, list_closed, begun, Gone, Entered, Closed, Astray, gone_to, goes_among, goes_on, turned, named, worded, given, group_of, script_in}
+use Rattle.hushlang_uboot.specs.declared.reserved.Reserved.{Reserved}
+use Rattle.hushlang_uboot.specs.declared.reserved.Reserved.TheVariants as r
 
 -- ---- what holds on the way
 

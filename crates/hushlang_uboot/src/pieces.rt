@@ -4,7 +4,7 @@ ghost use Rattle.std.specs.List.{list_any, list_all};
 ghost use Rattle.text.specs.TextsShown.{option_bytes};
 ghost use Rattle.hushlang.specs.KnownFields as known;
 ghost use Rattle.hushlang.specs.TreesShown as view;
-ghost use Rattle.hushlang_parts.specs.Pieces as says;
+ghost use Rattle.hushlang_uboot.specs.Pieces as says;
 
 use hushlang::Piece;
 

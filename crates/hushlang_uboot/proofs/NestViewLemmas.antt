@@ -10,10 +10,10 @@ use Rattle.hushlang.specs.declared.tree.Command.{If}
 use Rattle.hushlang.specs.declared.tree.Script.{Script}
 use Rattle.hushlang.proofs.ViewLemmas.{command_if}
 use Rattle.std.proofs.lemmas.List.{map-append, reverse-append}
-use Rattle.hushlang_parts.specs.Nests as says
-use Rattle.hushlang_parts.specs.NestsShown.{opened}
-use Rattle.hushlang_parts.specs.declared.open_commands.Block.{Block}
-use Rattle.hushlang_parts.specs.declared.open_commands.Compound.{Compound}
+use Rattle.hushlang_uboot.specs.Nests as says
+use Rattle.hushlang_uboot.specs.NestsShown.{opened}
+use Rattle.hushlang_uboot.specs.declared.open_commands.Block.{Block}
+use Rattle.hushlang_uboot.specs.declared.open_commands.Compound.{Compound}
 
 pub pushed : (stack : List (Compound × Block)) (top : Compound × Block) → reverse (map opened (stack ++ top ∷ [])) ≡ opened top ∷ reverse (map opened stack)
 pushed stack top = ap reverse (map-append opened stack (top ∷ [])) ∙ reverse-append (map opened stack) (opened top ∷ [])

@@ -1,6 +1,6 @@
 //! The part of a compound command that a text is in.
 ghost use Rattle.std.specs.Prelude.{◌≡◌};
-ghost use Rattle.hushlang_parts.specs.Nests as says;
+ghost use Rattle.hushlang_uboot.specs.Nests as says;
 
 /// The part of the innermost compound command that a text is in.
 #[derive(Clone, Copy)]

@@ -2,7 +2,7 @@
 use Rattle.std.specs.Prelude.{ℕ, Bool, true, false, ◌||◌, List, [], ◌∷◌, ◌++◌}
 use Rattle.hushlang.specs.Tree.{Piece}
 use Rattle.hushlang.specs.WordPieces.{in_piece}
-use Rattle.hushlang_parts.specs.ReadBytes.{has_bytes}
+use Rattle.hushlang_uboot.specs.ReadBytes.{has_bytes}
 
 -- the pieces that are whole, and the bytes behind them
 pub record Gathered : Type 0 where

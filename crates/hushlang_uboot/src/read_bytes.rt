@@ -1,7 +1,7 @@
 //! What U-Boot's shells see in bytes, and the bytes of an operator.
 ghost use Rattle.std.specs.Prelude.{◌≡◌, false, IfOk};
 ghost use Rattle.hushlang.specs.ByteClasses as classes;
-ghost use Rattle.hushlang_parts.specs.ReadBytes as says;
+ghost use Rattle.hushlang_uboot.specs.ReadBytes as says;
 
 use hushlang::Op;
 use std::alloc::{AllocError, Global};
