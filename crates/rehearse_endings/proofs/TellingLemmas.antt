@@ -3,7 +3,7 @@ use Rattle.std.proofs.Common.{Option, refl}
 use Rattle.output.specs.Sink.{Sink}
 use Rattle.rehearse_rules.specs.Runs.{Task}
 use Rattle.rehearse_rules.specs.declared.rehearse_error.RehearseError.{RehearseError}
-use Rattle.rehearse_rules.specs.declared.rehearse_error.RehearseError.TheVariants.{DeviceList, NoSuchVariable, NotARun, States, Steps, Write, Memory, Failed}
+use Rattle.rehearse_rules.specs.declared.rehearse_error.RehearseError.TheVariants.{DeviceList, NoSuchVariable, NotARun, States, Steps, Bytes, Write, Memory, Failed}
 use Rattle.rehearse_endings.specs.TellingEndings.{IsUntold, names_of, RefusesEndings}
 use Rattle.rehearse_endings.specs.declared.telling.EndingsAsk.{EndingsAsk}
 
@@ -13,6 +13,7 @@ untold found ask s NoSuchVariable h = (h, refl)
 untold found ask s NotARun h = h
 untold found ask s States h = (h, refl)
 untold found ask s Steps h = (h, refl)
+untold found ask s Bytes h = h
 untold found ask s Write h = absurd h
 untold found ask s Memory h = refl
 untold found ask s Failed h = h

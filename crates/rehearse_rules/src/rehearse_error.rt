@@ -24,6 +24,9 @@ pub enum RehearseError {
     /// More steps are begun than the endings may take.
     #[error("more steps than allowed")]
     Steps,
+    /// More bytes are kept than the endings may hold.
+    #[error("more memory than allowed")]
+    Bytes,
     /// The output failed.
     #[error("output failed")]
     Write,

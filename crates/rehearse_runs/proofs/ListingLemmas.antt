@@ -23,7 +23,7 @@ use Rattle.std.proofs.lemmas.Bool.{lt-leb, le-leb}
 use Rattle.rehearse_runs.specs.Giving.{ShowsRun, GivesWord, GivesNone, GivesUp, Gives}
 use Rattle.rehearse_runs.specs.Giving as giving
 use Rattle.rehearse_rules.specs.declared.rehearse_error.RehearseError.{RehearseError}
-use Rattle.rehearse_rules.specs.declared.rehearse_error.RehearseError.TheVariants.{DeviceList, NoSuchVariable, NotARun, States, Steps, Write, Memory, Failed}
+use Rattle.rehearse_rules.specs.declared.rehearse_error.RehearseError.TheVariants.{DeviceList, NoSuchVariable, NotARun, States, Steps, Bytes, Write, Memory, Failed}
 use Rattle.rehearse_runs.specs.declared.listing.Finish.{Finish}
 use Rattle.rehearse_runs.specs.declared.listing.Finish.TheVariants.{Done, More}
 use Rattle.rehearse_runs.specs.ListingRuns.{Breaks, Lists, left_out, finish_at, finish_of, IsLeft, Takes, Recorded, WroteRecords, FailsInListing, BreaksInListing, reached, lowered}
@@ -186,6 +186,7 @@ refused page new NoSuchVariable h r = absurd h
 refused page new NotARun h r = absurd h
 refused page new States h r = absurd h
 refused page new Steps h r = absurd h
+refused page new Bytes h r = absurd h
 refused page new Write h r = absurd h
 refused page new Memory h r = lacked r h
 refused page new Failed h r = let t = h.failed in let s = r.still in absurd cc

@@ -38,6 +38,7 @@ not_begun image answer IsSo told listed starts memory (refused.Rehearsal rehears
 not_begun image answer IsSo told listed starts memory (refused.Rehearsal rehearsal.NotARun) h = absurd h
 not_begun image answer IsSo told listed starts memory (refused.Rehearsal rehearsal.States) h = absurd h
 not_begun image answer IsSo told listed starts memory (refused.Rehearsal rehearsal.Steps) h = absurd h
+not_begun image answer IsSo told listed starts memory (refused.Rehearsal rehearsal.Bytes) h = absurd h
 not_begun image answer IsSo told listed starts memory (refused.Rehearsal rehearsal.Write) h = absurd h
 not_begun image answer IsSo told listed starts memory (refused.Rehearsal rehearsal.Memory) h = absurd h
 not_begun image answer IsSo told listed starts memory (refused.Rehearsal rehearsal.Failed) h = absurd h

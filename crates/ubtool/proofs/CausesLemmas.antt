@@ -44,6 +44,7 @@ module _ (order : ByteOrder) (inputs : InputsShown) (what : CausesAsk) (out out'
   causes-refused (refused.Rehearsal rehearsal.Failed) h = absurd (never (given_by order (copies sources.images) sources.device_list.items inputs.taking (script_of sources) (runs_asked what)) what.check out out' rehearsal.Failed (λ g no. no) h)
   causes-refused (refused.Rehearsal rehearsal.States) h = absurd (never (given_by order (copies sources.images) sources.device_list.items inputs.taking (script_of sources) (runs_asked what)) what.check out out' rehearsal.States (λ g no. no) h)
   causes-refused (refused.Rehearsal rehearsal.Steps) h = absurd (never (given_by order (copies sources.images) sources.device_list.items inputs.taking (script_of sources) (runs_asked what)) what.check out out' rehearsal.Steps (λ g no. no) h)
+  causes-refused (refused.Rehearsal rehearsal.Bytes) h = absurd (never (given_by order (copies sources.images) sources.device_list.items inputs.taking (script_of sources) (runs_asked what)) what.check out out' rehearsal.Bytes (λ g no. no) h)
   causes-refused (refused.Start error) h = from-files (λ g. RefusesCauses g what.check out out' (refused.Start error)) h
   causes-refused refused.Write h = from-files (λ g. RefusesCauses g what.check out out' refused.Write) h
   causes-refused refused.Memory h = (only-read inputs sources x z read, h)
@@ -68,6 +69,7 @@ leaves-refused g what out out' (refused.Rehearsal rehearsal.Memory) h = rehearsa
 leaves-refused g what out out' (refused.Rehearsal rehearsal.Failed) h = rehearsal-untouched g what.check out out' rehearsal.Failed h
 leaves-refused g what out out' (refused.Rehearsal rehearsal.States) h = rehearsal-untouched g what.check out out' rehearsal.States h
 leaves-refused g what out out' (refused.Rehearsal rehearsal.Steps) h = rehearsal-untouched g what.check out out' rehearsal.Steps h
+leaves-refused g what out out' (refused.Rehearsal rehearsal.Bytes) h = rehearsal-untouched g what.check out out' rehearsal.Bytes h
 leaves-refused g what out out' (refused.Rehearsal rehearsal.NoSuchVariable) h = rehearsal-untouched g what.check out out' rehearsal.NoSuchVariable h
 leaves-refused g what out out' (refused.Start error) h = start-untouched g what.check out out' error h
 leaves-refused g what out out' refused.Write h = broken-counted g what.check out out' h

@@ -41,6 +41,7 @@ module _ (order : ByteOrder) (inputs : InputsShown) (what : EndingsAsk) (out out
   tells-refused (refused.Rehearsal rehearsal.Failed) h = absurd (never (given_by order (copies sources.images) sources.device_list.items inputs.taking (script_of sources) (all_asked what)) what.flow what.states what.work out out' rehearsal.Failed (λ g no. no) h)
   tells-refused (refused.Rehearsal rehearsal.States) h = from-files (λ g. RefusesEndings g what.flow what.states what.work out out' (refused.Rehearsal rehearsal.States)) h
   tells-refused (refused.Rehearsal rehearsal.Steps) h = from-files (λ g. RefusesEndings g what.flow what.states what.work out out' (refused.Rehearsal rehearsal.Steps)) h
+  tells-refused (refused.Rehearsal rehearsal.Bytes) h = absurd (never (given_by order (copies sources.images) sources.device_list.items inputs.taking (script_of sources) (all_asked what)) what.flow what.states what.work out out' rehearsal.Bytes (λ g no. no) h)
   tells-refused (refused.Start error) h = from-files (λ g. RefusesEndings g what.flow what.states what.work out out' (refused.Start error)) h
   tells-refused refused.Write h = from-files (λ g. RefusesEndings g what.flow what.states what.work out out' refused.Write) h
   tells-refused refused.Memory h = (only-read inputs sources x z read, h)
@@ -62,6 +63,7 @@ leaves-refused g what out out' (refused.Rehearsal (rehearsal.DeviceList error)) 
 leaves-refused g what out out' (refused.Rehearsal rehearsal.NoSuchVariable) h = rehearsal-untouched g what.flow what.states what.work out out' rehearsal.NoSuchVariable h
 leaves-refused g what out out' (refused.Rehearsal rehearsal.NotARun) h = rehearsal-untouched g what.flow what.states what.work out out' rehearsal.NotARun h
 leaves-refused g what out out' (refused.Rehearsal rehearsal.Steps) h = rehearsal-untouched g what.flow what.states what.work out out' rehearsal.Steps h
+leaves-refused g what out out' (refused.Rehearsal rehearsal.Bytes) h = rehearsal-untouched g what.flow what.states what.work out out' rehearsal.Bytes h
 leaves-refused g what out out' (refused.Rehearsal rehearsal.Write) h = rehearsal-untouched g what.flow what.states what.work out out' rehearsal.Write h
 leaves-refused g what out out' (refused.Rehearsal rehearsal.Memory) h = rehearsal-untouched g what.flow what.states what.work out out' rehearsal.Memory h
 leaves-refused g what out out' (refused.Rehearsal rehearsal.Failed) h = rehearsal-untouched g what.flow what.states what.work out out' rehearsal.Failed h
