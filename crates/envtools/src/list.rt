@@ -1,33 +1,18 @@
 //! The variables of an image's data as a list of slices: for one change, and for printing all.
-ghost use Rattle.std.specs.Prelude.{◌≡◌, ◌↔◌, None, IfOk, OnOk, OnErr, IsTrue, true, List, ℕ, length, map, slice_get};
+ghost use Rattle.std.specs.Prelude.{◌≡◌, None, IfOk, OnOk, OnErr, true, List, ℕ, length, map, slice_get};
 ghost use Rattle.std.specs.Option.{option_map};
 ghost use Rattle.envimage.specs.Data.{data_fault, pairs_of};
 ghost use Rattle.envimage.specs.Entries.{pair_at};
 ghost use Rattle.envtools.specs.Environment.{HasDistinctNames, IsEnvironment, env_of, dropped, put, has_value, changed_to, is_name, is_value};
-ghost use Rattle.envtools.specs.Listed.{Ascend, IsPlaceOf};
+ghost use Rattle.envtools.specs.Listed.{IsPlaceOf};
 
+use crate::distinct::are_distinct;
 use crate::view::{EnvView, Variables};
 use envimage::entries;
 use std::alloc::{AllocError, Global};
 use std::marker::Model;
 
-/// Whether the names of data ascend in byte order. Then no name stands there twice. Takes no
-/// memory.
-pub(crate) fn is_ascending(body: &[u8]) -> bool
-    requires { data_fault body.now ≡ None }
-    ensures { IsTrue result ↔ Ascend (pairs_of body.now) }
-{
-    let mut last: &[u8] = &[];
-    for (name, _value) in entries(body) {
-        if !last.cmp(&name).is_lt() {
-            return false;
-        }
-        last = name;
-    }
-    true
-}
-
-/// The variables of data whose names ascend.
+/// The variables of data as they stand there.
 fn in_order(alloc: Global, body: &[u8]) -> Result<Vec<(&[u8], &[u8])>, AllocError>
     requires fault { data_fault body.now ≡ None }
     ensures { IfOk result (λ pairs. map pair_at pairs.items ≡ pairs_of body.now) }
@@ -70,12 +55,12 @@ impl<'a> Model for VariableList<'a> {
 
 impl<'a> VariableList<'a> {
     /// The variables of data without a fault: each name once, in its first place, with its last
-    /// value. No table of names is made if they ascend. Errors: memory ran out.
+    /// value. No table of names is made if none is found twice. Errors: memory ran out.
     pub fn from_checked(alloc: Global, body: &'a [u8]) -> Result<Self, AllocError>
         requires { data_fault body.now ≡ None }
         ensures { IfOk result (λ list. list ≡ env_of (pairs_of body.now)) }
     {
-        let pairs = if is_ascending(body) {
+        let pairs = if are_distinct(alloc, body)? {
             in_order(alloc, body)?
         } else {
             listed(alloc, &EnvView::over(alloc, body)?)?

@@ -1,8 +1,10 @@
 //! A script of changes, applied line by line.
-ghost use Rattle.std.specs.Prelude.{◌≡◌, IfOk};
+ghost use Rattle.std.specs.Prelude.{◌≡◌, true, List, IfOk, OnOk, OnErr};
 ghost use Rattle.std.specs.List.{position};
 ghost use Rattle.std.specs.Option.{option_map};
 ghost use Rattle.text.specs.Words.{is_space, cut_front, cut_behind};
+ghost use Rattle.envimage.specs.Data.{Pair};
+ghost use Rattle.envtools.specs.Environment.{changed_to, is_name, is_value};
 ghost use Rattle.envtools.specs.Scripting.{is_return, ends_name, name_and_value, line_change, AppliesLine, AppliesScript};
 
 use crate::draft::Draft;
@@ -92,9 +94,43 @@ fn line_change(line: &[u8]) -> Option<(&[u8], &[u8])>
     Some(name_and_value(text))
 }
 
+/// Variables that take one change after another.
+trait Changing<'a> {
+    /// The variables in order.
+    ghost pairs: { Self → List Pair };
+
+    /// Gives a name a value, as `Env::change` does with one word. An error changes nothing.
+    fn change(&mut self, name: &'a [u8], value: &'a [u8]) -> Result<(), AllocError>
+        requires name { is_name name.now ≡ true }
+        requires value { is_value value.now ≡ true }
+        ensures ok { OnOk result (pairs self.new ≡ changed_to (pairs self.old) name.now value.now) }
+        ensures err { OnErr result (pairs self.new ≡ pairs self.old) };
+}
+
+impl<'a> Changing<'a> for VariableList<'a> {
+    ghost pairs = { λ list. list };
+
+    fn change(&mut self, name: &'a [u8], value: &'a [u8]) -> Result<(), AllocError> {
+        self.change_to(name, value)
+    }
+}
+
+impl<'a> Changing<'a> for Draft<'a> {
+    ghost pairs = { λ draft. draft };
+
+    fn change(&mut self, name: &'a [u8], value: &'a [u8]) -> Result<(), AllocError> {
+        Draft::change(self, name, value)
+    }
+}
+
 /// Makes the change of one line. An error changes nothing.
-fn apply_line<'a>(draft: &mut Draft<'a>, number: usize, line: &'a [u8]) -> Result<(), ScriptError>
-    ensures { AppliesLine draft.old number (line_change line.now) draft.new result }
+fn apply_line<'a, C: Changing<'a>>(
+    variables: &mut C,
+    number: usize,
+    line: &'a [u8],
+) -> Result<(), ScriptError>
+    ensures { AppliesLine (C.pairs variables.old) number (line_change line.now)
+        (C.pairs variables.new) result }
 {
     let Some((name, value)) = line_change(line) else {
         return Ok(());
@@ -105,22 +141,36 @@ fn apply_line<'a>(draft: &mut Draft<'a>, number: usize, line: &'a [u8]) -> Resul
     if !is_value(value) {
         return Err(ScriptError::BadValue(number));
     }
-    draft.change(name, value)?;
+    variables.change(name, value)?;
     Ok(())
 }
 
 /// Makes the changes of a script's lines, up to the first refused one.
-fn apply_lines<'a>(draft: &mut Draft<'a>, text: &'a [u8]) -> Result<(), ScriptError>
-    ensures { AppliesScript draft.old text.now draft.new result }
+fn apply_lines<'a, C: Changing<'a>>(variables: &mut C, text: &'a [u8]) -> Result<(), ScriptError>
+    ensures { AppliesScript (C.pairs variables.old) text.now (C.pairs variables.new) result }
 {
     for (number, line) in Lines::new(text) {
-        apply_line(draft, number, line)?;
+        apply_line(variables, number, line)?;
     }
     Ok(())
 }
 
+/// The most lines of a script whose names are looked for in the list itself.
+const FEW: usize = 16;
+
+/// Whether a script has few lines.
+fn has_few_lines(text: &[u8]) -> bool {
+    for (number, _line) in Lines::new(text) {
+        if number > FEW {
+            return false;
+        }
+    }
+    true
+}
+
 /// Makes the changes of a script in a list of variables, as `apply_script` makes them in an
-/// environment. No name and no value is copied.
+/// environment. No name and no value is copied. A tree of all names is made only for more than 16
+/// lines.
 #[tactic(auto, using(crate::proofs::ScriptLemmas::untouched))]
 pub fn apply_script_to_list<'a>(
     alloc: Global,
@@ -129,6 +179,9 @@ pub fn apply_script_to_list<'a>(
 ) -> Result<(), ScriptError>
     ensures { AppliesScript list.old text.now list.new result }
 {
+    if has_few_lines(text) {
+        return apply_lines(list, text);
+    }
     let mut draft = Draft::of(alloc, list)?;
     let applied = apply_lines(&mut draft, text);
     list.replace(draft.pairs(alloc)?);

@@ -3,16 +3,16 @@ use Rattle.envimage.specs.Data.{Pair, pairs_of}
 use Rattle.envimage.specs.Entries.{pair_at}
 use Rattle.envimage.proofs.FaultLemmas.{faultless_is_data}
 use Rattle.envtools.specs.Environment.{IsEnvironment}
-use Rattle.envtools.proofs.ListLemmas.{ascend-distinct, env_of-distinct, env_of-environment}
-use Rattle.envtools.proofs.list.VariableList.from_checked.Goals.{then-is_ascending+in_ok-pairs, else-is_ascending+in_ok-over+in_ok-pairs-2}
+use Rattle.envtools.proofs.ListLemmas.{env_of-distinct, env_of-environment}
+use Rattle.envtools.proofs.list.VariableList.from_checked.Goals.{then-branch+in_ok-pairs, else-branch+in_ok-over+in_ok-pairs-2}
 use Rattle.envtools.proofs.list.VariableList.from_checked.Goals as goal
 
 pub returns : goal.returns
-returns c = elim c.if-is_ascending.branch [
-  | then-is_ascending+in_ok-pairs w ↦
+returns c = elim c.if-branch.branch [
+  | then-branch+in_ok-pairs w ↦
       ap (λ pairs. map pair_at pairs.items) w.pairs-is ∙ w.in_ok-pairs.ensures
-      ∙ sym (env_of-distinct (pairs_of c.args.body.now) (ascend-distinct [] (pairs_of c.args.body.now) (c.is_ascending.ensures.0 w.if-is_ascending.true)))
-  | else-is_ascending+in_ok-over+in_ok-pairs-2 w ↦
+      ∙ sym (env_of-distinct (pairs_of c.args.body.now) (c.in_ok-are_distinct.ensures w.if-branch.true))
+  | else-branch+in_ok-over+in_ok-pairs-2 w ↦
       ap (λ pairs. map pair_at pairs.items) w.pairs-is ∙ (w.in_ok-pairs-2.ensures ∙ w.in_ok-over.ensures)
 ]
 
