@@ -1,6 +1,6 @@
 -- The variables that hold in a draft.
 use Rattle.std.proofs.Common.{◌≡◌, ◌≢◌, ◌<◌, ◌≤◌, ◌+◌, ℕ, zero, suc, eqb, length, take, arith, Bool, true, false, cond, inl, inr, ◌⊎◌, List, [], ◌∷◌, ◌++◌, Option, None, Some, refl, sym, ap, ap₂, map, subst, ◌∙◌, add-one}
-use Rattle.std.specs.Prelude.{slice_get}
+use Rattle.std.specs.Prelude.{slice_get, slice_set as set}
 use Rattle.std.proofs.lemmas.Bool.{false≢true, cases_Bool}
 use Rattle.std.proofs.lemmas.List.{append-nil}
 use Rattle.std.specs.Option.{option_eq}
@@ -15,12 +15,12 @@ use Rattle.std.specs.declared.cmp.Ordering.{Ordering}
 use Rattle.std.specs.declared.cmp.Ordering.TheVariants.{Less, Equal, Greater}
 use Rattle.std.specs.Cmp.Lexicographic.{slice_cmp}
 use Rattle.std.proofs.lemmas.Map.Text.{is_eq-slice_cmp}
-use Rattle.std.proofs.lemmas.List.{length-map, map-append}
+use Rattle.std.proofs.lemmas.List.{length-map, map-append, map-set}
 use Rattle.envimage.specs.Entries.{pair_at}
 use Rattle.envimage.specs.Data.{Pair, IsVariable}
-use Rattle.envtools.specs.Environment.{value_of, dropped, put, same, HasDistinctNames, IsEnvironment}
+use Rattle.envtools.specs.Environment.{value_of, dropped, put, assigned, same, HasDistinctNames, IsEnvironment}
 use Rattle.envtools.specs.Drafting.{place_in, place_of, is_place, held, IsMoved, IsNamed, IsDraft}
-use Rattle.envtools.proofs.EnvLemmas.{IsEnvironment-dropped, IsEnvironment-put}
+use Rattle.envtools.proofs.EnvLemmas.{IsEnvironment-assigned, IsEnvironment-dropped, IsEnvironment-put}
 use Rattle.envtools.proofs.EnvOf.{all-at, take-next}
 
 abbrev Slice : Type 0
@@ -186,6 +186,47 @@ IsDraft-put f g log name value moved v d = record {
         subst (λ i. IsNamed n (slice_get (log ++ (name, value) ∷ []) i)) last (named-last n log (name, value) (nat_list_eq_equiv.symm n name ∙ this))
     by n at e (inr other) = named-push n log (name, value) at (d.placed n at (sym (kept-place f g name (Some (length log)) moved n other) ∙ e))
 
+-- ---- a variable gets another value in its place
+
+placed-name : (f : List ℕ → Option ℕ) (name : List ℕ) (i : ℕ) (q : Pair) → f name ≡ Some i → same name q.0 ≡ true → f q.0 ≡ Some i
+placed-name f name i q placed this = ap f (sym ((bytes_decides name q.0).0 this)) ∙ placed
+
+held-set : (f : List ℕ → Option ℕ) (name value : List ℕ) (i : ℕ) → f name ≡ Some i
+    → (at k : ℕ) (ps : List Pair) → i ≡ at + k → IsNamed name (slice_get ps k) → held f at (set ps k (name, value)) ≡ assigned (held f at ps) name value
+held-set f name value i placed at k [] e this = absurd this
+held-set f name value i placed at zero (p ∷ ps) e this =
+    let here : i ≡ at = omega arith in
+    let one : name ≡ p.0 = (bytes_decides name p.0).0 this in
+    let is : is_place (f name) at ≡ true = ap (λ o. is_place o at) placed ∙ (ap (λ j. eqb j at) here ∙ there at) in
+    let was : is_place (f p.0) at ≡ true = ap (λ n. is_place (f n) at) (sym one) ∙ is in
+    rw (is, was, this) (ap (λ n. (n, value) ∷ held f (suc at) ps) one)
+held-set f name value i placed at (suc k) (p ∷ ps) e this =
+    let rest = held-set f name value i placed (suc at) k ps (omega arith) this in
+    elim (cases_Bool (is_place (f p.0) at)) [
+      | inl holds ↦
+          let other : same name p.0 ≡ false = apart-from f name p.0 i at placed (not-there i at (omega arith)) holds in
+          rw (holds, other) (ap (λ t. p ∷ t) rest)
+      | inr stale ↦ rw stale rest
+    ]
+
+named-set : (n name value : List ℕ) (log : List Pair) (i at : ℕ) → IsNamed name (slice_get log i) → IsNamed n (slice_get log at) → IsNamed n (slice_get (set log i (name, value)) at)
+named-set n name value [] i at this h = h
+named-set n name value (p ∷ ps) zero zero this h = ap (same n) ((bytes_decides name p.0).0 this) ∙ h
+named-set n name value (p ∷ ps) zero (suc at) this h = h
+named-set n name value (p ∷ ps) (suc i) zero this h = h
+named-set n name value (p ∷ ps) (suc i) (suc at) this h = named-set n name value ps i at this h
+
+module _ (f : List ℕ → Option ℕ) (items : List (Slice × Slice)) (name value : Slice) (i : ℕ) (d : IsDraft f (map pair_at items)) (placed : f name.now ≡ Some i) where
+  pub assigned-written : held f 0 (map pair_at (set items i (name, value))) ≡ assigned (held f 0 (map pair_at items)) name.now value.now
+  assigned-written = ap (held f 0) (map-set pair_at items i (name, value)) ∙ held-set f name.now value.now i placed 0 i (map pair_at items) (omega arith) (d.placed name.now i placed)
+
+  pub IsDraft-assigned : IsVariable (name.now, value.now) → IsDraft f (map pair_at (set items i (name, value)))
+  IsDraft-assigned v = record {
+    placed = λ n at e. subst (λ (log : List Pair). IsNamed n (slice_get log at)) (sym (map-set pair_at items i (name, value)))
+        (named-set n name.now value.now (map pair_at items) i at (d.placed name.now i placed) (d.placed n at e));
+    sound = subst (λ ps. IsEnvironment ps) (sym assigned-written) (IsEnvironment-assigned (held f 0 (map pair_at items)) name.now value.now v d.sound);
+  }
+
 pub place-there : (f : List ℕ → Option ℕ) (items : List (Slice × Slice)) (name : List ℕ) (i : ℕ) → IsDraft f (map pair_at items) → f name ≡ Some i → i < length items
 place-there f items name i d placed =
     let within = named-below name (map pair_at items) i (d.placed name i placed) in
@@ -239,6 +280,15 @@ value-some f name i p placed this at (suc k) (q ∷ qs) e found =
     elim (cases_Bool (is_place (f q.0) at)) [
       | inl held ↦ rw (held, apart-from f name q.0 i at placed (not-there i at (omega arith)) held) rest
       | inr stale ↦ rw stale rest
+    ]
+
+-- a name that is not there goes last
+pub assigned-absent : (ps : List Pair) (name value : List ℕ) → value_of ps name ≡ None → assigned ps name value ≡ put ps name value
+assigned-absent [] name value none = refl
+assigned-absent (p ∷ ps) name value none =
+    elim (cases_Bool (same name p.0)) [
+      | inl found ↦ let some : Some p.1 ≡ None = rw found at none in cc
+      | inr other ↦ let rest : value_of ps name ≡ None = rw other at none in rw other (ap (λ t. p ∷ t) (assigned-absent ps name value rest))
     ]
 
 -- what is written at the place of a name

@@ -1,12 +1,13 @@
 //! The variables of a list while a script changes them.
-ghost use Rattle.std.specs.Prelude.{◌≡◌, [], map, true, OnOk, OnErr, IfOk};
+ghost use Rattle.std.specs.Prelude.{◌≡◌, [], map, true, None, OnOk, OnErr, IfOk};
 ghost use Rattle.std.specs.Option.{option_copied};
-ghost use Rattle.envimage.specs.Data.{IsVariable};
+ghost use Rattle.envimage.specs.Data.{IsVariable, data_fault, pairs_of};
 ghost use Rattle.envimage.specs.Entries.{pair_at};
-ghost use Rattle.envtools.specs.Environment.{IsEnvironment, value_of, dropped, put, has_value, changed_to, is_name, is_value};
+ghost use Rattle.envtools.specs.Environment.{IsEnvironment, env_of, value_of, dropped, put, assigned, has_value, changed_to, is_name, is_value};
 ghost use Rattle.envtools.specs.Drafting.{place_of, held, IsMoved, IsDraft};
 
 use crate::list::VariableList;
+use envimage::entries;
 use std::alloc::{AllocError, Global};
 use std::collections::BTreeMap;
 use std::marker::Model;
@@ -61,8 +62,21 @@ impl<'a> Draft<'a> {
         Ok(draft)
     }
 
+    /// A draft of the variables of data without a fault: each name once, in its first place, with its
+    /// last value. Errors: memory ran out.
+    pub(crate) fn of_data(alloc: Global, body: &'a [u8]) -> Result<Self, AllocError>
+        requires { data_fault body.now ≡ None }
+        ensures { IfOk result (λ draft. draft ≡ env_of (pairs_of body.now)) }
+    {
+        let mut draft = Draft::new(alloc);
+        for (name, value) in entries(body) {
+            draft.assign(name, value)?;
+        }
+        Ok(draft)
+    }
+
     /// The value of a variable.
-    fn get(&self, name: &[u8]) -> Option<&[u8]>
+    pub(crate) fn get(&self, name: &[u8]) -> Option<&[u8]>
         ensures { option_copied result ≡ value_of self.now name.now }
     {
         let place = place_of(&self.places, name)?;
@@ -99,6 +113,19 @@ impl<'a> Draft<'a> {
         let last = self.written.len();
         move_to(&mut self.places, name, Some(last))?;
         self.written.push((name, value)).unwrap();
+        Ok(())
+    }
+
+    /// Gives a name a value. A name that is set keeps its place. An error changes nothing.
+    fn assign(&mut self, name: &'a [u8], value: &'a [u8]) -> Result<(), AllocError>
+        requires { IsVariable (name.now, value.now) }
+        ensures ok { OnOk result (self.new ≡ assigned self.old name.now value.now) }
+        ensures err { OnErr result (self.new ≡ self.old) }
+    {
+        let Some(place) = place_of(&self.places, name) else {
+            return self.put(name, value);
+        };
+        self.written[place] = (name, value);
         Ok(())
     }
 

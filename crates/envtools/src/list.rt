@@ -7,7 +7,7 @@ ghost use Rattle.envtools.specs.Environment.{HasDistinctNames, IsEnvironment, en
 ghost use Rattle.envtools.specs.Listed.{IsPlaceOf};
 
 use crate::distinct::are_distinct;
-use crate::view::{EnvView, Variables};
+use crate::draft::Draft;
 use envimage::entries;
 use std::alloc::{AllocError, Global};
 use std::marker::Model;
@@ -20,17 +20,6 @@ fn in_order(alloc: Global, body: &[u8]) -> Result<Vec<(&[u8], &[u8])>, AllocErro
     let mut pairs = Vec::new(alloc);
     for pair in entries(body) {
         pairs.push(pair)?;
-    }
-    Ok(pairs)
-}
-
-/// The variables of a table, in order.
-fn listed<'a>(alloc: Global, table: &EnvView<'a>) -> Result<Vec<(&'a [u8], &'a [u8])>, AllocError>
-    ensures { IfOk result (λ pairs. map pair_at pairs.items ≡ table.now) }
-{
-    let mut pairs = Vec::new(alloc);
-    for at in 0..table.len() {
-        pairs.push(table.slices(at).unwrap())?;
     }
     Ok(pairs)
 }
@@ -63,7 +52,7 @@ impl<'a> VariableList<'a> {
         let pairs = if are_distinct(alloc, body)? {
             in_order(alloc, body)?
         } else {
-            listed(alloc, &EnvView::over(alloc, body)?)?
+            Draft::of_data(alloc, body)?.pairs(alloc)?
         };
         Ok(VariableList { pairs })
     }

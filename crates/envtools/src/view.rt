@@ -1,14 +1,13 @@
-//! The variables of an image's data, read in place.
-ghost use Rattle.std.specs.Prelude.{◌≡◌, List, None, false, length, map, is_some, IfOk, slice_get};
+//! Variables that are looked up by name, or gone through in order.
+ghost use Rattle.std.specs.Prelude.{◌≡◌, List, false, length, is_some, slice_get};
 ghost use Rattle.std.specs.Option.{option_map, option_copied};
 ghost use Rattle.envimage.specs.Data.{Pair, data_fault, pairs_of};
 ghost use Rattle.envtools.specs.Environment.{value_of, env_of};
 
+use crate::draft::Draft;
 use crate::env::Env;
+use crate::list::VariableList;
 use envimage::entries;
-use indexmap::IndexMap;
-use std::alloc::{AllocError, Global};
-use std::marker::Model;
 
 /// Variables that can be looked up by name.
 pub(crate) trait Lookup {
@@ -20,16 +19,18 @@ pub(crate) trait Lookup {
         ensures { option_copied result ≡ value_of (pairs self.now) name.now };
 }
 
-/// Variables in order.
-pub(crate) trait Variables: Lookup {
+/// Variables that can be gone through in order.
+pub(crate) trait Variables {
+    /// The variables in order.
+    ghost pairs: { Self → List Pair };
+
     /// How many variables there are.
     fn len(&self) -> usize
-        ensures { result ≡ length (Self.pairs self.now) };
+        ensures { result ≡ length (pairs self.now) };
 
     /// The variable at a place.
     fn pair(&self, at: usize) -> Option<(&[u8], &[u8])>
-        ensures { option_map (λ p. (p.0.now, p.1.now)) result
-            ≡ slice_get (Self.pairs self.now) at };
+        ensures { option_map (λ p. (p.0.now, p.1.now)) result ≡ slice_get (pairs self.now) at };
 }
 
 impl Lookup for Env {
@@ -41,6 +42,8 @@ impl Lookup for Env {
 }
 
 impl Variables for Env {
+    ghost pairs = { λ env. env };
+
     fn len(&self) -> usize {
         Env::len(self)
     }
@@ -71,58 +74,22 @@ impl Lookup for Body<'_> {
     }
 }
 
-/// The variables of an image's data, each name once. Names and values are slices of the data.
-#[derive(Drop)]
-pub(crate) struct EnvView<'a> {
-    variables: IndexMap<&'a [u8], &'a [u8]>,
-}
-
-impl<'a> Model for EnvView<'a> {
-    ghost use Rattle.std.specs.Prelude.{List, ℕ, map};
-
-    ghost Value = { List (List ℕ × List ℕ) };
-
-    ghost view = { λ e. map (λ p. (p.0.now, p.1.now)) e.variables.entries };
-}
-
-impl<'a> EnvView<'a> {
-    /// The variables of data without a fault: each name once, in its first place, with its last
-    /// value. Errors: memory ran out.
-    pub(crate) fn over(alloc: Global, body: &'a [u8]) -> Result<Self, AllocError>
-        requires { data_fault body.now ≡ None }
-        ensures { IfOk result (λ env. env ≡ env_of (pairs_of body.now)) }
-    {
-        let mut variables = IndexMap::new(alloc);
-        for (name, value) in entries(body) {
-            variables.insert(name, value)?;
-        }
-        Ok(EnvView { variables })
-    }
-
-    /// The variable at a place.
-    pub(crate) fn slices(&self, at: usize) -> Option<(&'a [u8], &'a [u8])>
-        ensures { option_map (λ p. (p.0.now, p.1.now)) result ≡ slice_get self.now at }
-    {
-        let (name, value) = self.variables.get_index(at)?;
-        Some((*name, *value))
-    }
-}
-
-impl Lookup for EnvView<'_> {
-    ghost pairs = { λ env. env };
+impl Lookup for Draft<'_> {
+    ghost pairs = { λ draft. draft };
 
     fn get(&self, name: &[u8]) -> Option<&[u8]> {
-        let value = self.variables.get(name)?;
-        Some(*value)
+        Draft::get(self, name)
     }
 }
 
-impl Variables for EnvView<'_> {
+impl Variables for VariableList<'_> {
+    ghost pairs = { λ list. list };
+
     fn len(&self) -> usize {
-        self.variables.len()
+        VariableList::len(self)
     }
 
     fn pair(&self, at: usize) -> Option<(&[u8], &[u8])> {
-        self.slices(at)
+        VariableList::pair(self, at)
     }
 }

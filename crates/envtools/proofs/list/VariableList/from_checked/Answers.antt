@@ -4,7 +4,7 @@ use Rattle.envimage.specs.Entries.{pair_at}
 use Rattle.envimage.proofs.FaultLemmas.{faultless_is_data}
 use Rattle.envtools.specs.Environment.{IsEnvironment}
 use Rattle.envtools.proofs.ListLemmas.{env_of-distinct, env_of-environment}
-use Rattle.envtools.proofs.list.VariableList.from_checked.Goals.{then-branch+in_ok-pairs, else-branch+in_ok-over+in_ok-pairs-2}
+use Rattle.envtools.proofs.list.VariableList.from_checked.Goals.{then-branch+in_ok-pairs, else-branch+in_ok-of_data+in_ok-pairs-2}
 use Rattle.envtools.proofs.list.VariableList.from_checked.Goals as goal
 
 pub returns : goal.returns
@@ -12,8 +12,8 @@ returns c = elim c.if-branch.branch [
   | then-branch+in_ok-pairs w ↦
       ap (λ pairs. map pair_at pairs.items) w.pairs-is ∙ w.in_ok-pairs.ensures
       ∙ sym (env_of-distinct (pairs_of c.args.body.now) (c.in_ok-are_distinct.ensures w.if-branch.true))
-  | else-branch+in_ok-over+in_ok-pairs-2 w ↦
-      ap (λ pairs. map pair_at pairs.items) w.pairs-is ∙ (w.in_ok-pairs-2.ensures ∙ w.in_ok-over.ensures)
+  | else-branch+in_ok-of_data+in_ok-pairs-2 w ↦
+      ap (λ pairs. map pair_at pairs.items) w.pairs-is ∙ (w.in_ok-pairs-2.ensures.pairs ∙ w.in_ok-of_data.ensures)
 ]
 
 pub invariant_of-result : goal.invariant_of-result
