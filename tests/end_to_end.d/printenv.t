@@ -141,3 +141,26 @@ a wrong checksum, changed
 the image with a wrong checksum
   $ hex bad
   3b 06 98 45 61 3d 31 00 01
+
+names that do not ascend are printed as they stand
+  $ printf 'c=1\na=2\nb=3\n' | lines_image order
+  $ ubtool printenv -c order.config
+  c=1
+  a=2
+  b=3
+
+and one that is there twice, in its first place with its last value
+  $ printf 'c=1\na=2\nc=3\nb=4\n' | lines_image twice
+  $ ubtool printenv -c twice.config
+  c=3
+  a=2
+  b=4
+
+also if it is one of many that are asked for
+  $ ubtool printenv -c twice.config b c a z c
+  b=4
+  c=3
+  a=2
+  c=3
+  ! ## Error: "z" not defined
+  [1]

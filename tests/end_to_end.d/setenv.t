@@ -354,3 +354,25 @@ too large on the way alone
   $ ubtool setenv -c s.config -s changes
   $ ubtool printenv -c s.config
   a=0
+
+a script of more than 16 lines
+  $ printf 'c=1\na=2\nb=3\n' >text && ubtool image --size 4096 -o long text && cp long short
+  $ places long >long.config && places short >short.config
+  $ { seq 9 | sed 's/.*/v& &/' && printf 'a\nc 1\nb 5\n' && seq -f 'v%g' 2 8 && echo a 7; } >changes
+  $ ubtool setenv -c long.config -s changes
+  $ ubtool printenv -c long.config
+  c=1
+  v1=1
+  v9=9
+  b=5
+  a=7
+
+and the same lines, ten at a time
+  $ split -l 10 changes few.
+  $ for part in few.*; do ubtool setenv -c short.config -s "$part"; done
+  $ ubtool printenv -c short.config
+  c=1
+  v1=1
+  v9=9
+  b=5
+  a=7

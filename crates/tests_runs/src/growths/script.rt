@@ -1,5 +1,5 @@
-//! Applies a script of six lines to an environment of four variables, and prints whether memory was refused and the
-//! variables that are left.
+//! Applies a script of six changes to an environment of four variables, and prints whether memory was refused and the
+//! variables that are left. It has eleven lines more, since for up to 16 lines no tree of the names is made.
 
 use crate::growths::bytes::print_pair;
 use crate::growths::trouble::{Trouble, told_apart};
@@ -34,7 +34,10 @@ fn print_variables(rt: &impl Print, env: &Env) -> io::Result<()> {
 
 /// Applies the script to an environment.
 fn apply(rt: &HostRuntime, env: &mut Env) -> io::Result<()> {
-    let applied = apply_script(env, b"c 3\na\nd 4\nb 5\ne 6\nf 7");
+    let applied = apply_script(
+        env,
+        b"#\n#\n#\n#\n#\n#\n#\n#\n#\n#\n#\nc 3\na\nd 4\nb 5\ne 6\nf 7",
+    );
     match told_apart(applied, ScriptError::Memory) {
         Ok(()) => print!(rt; "applied:")?,
         Err(Trouble::Memory) => print!(rt; "refused:")?,
