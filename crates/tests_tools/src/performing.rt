@@ -69,6 +69,14 @@ fn perform<C: Calls>(
     Ok(done)
 }
 
+/// What a call answered and wrote.
+fn told(alloc: Global, done: &Performed) -> Result<String, AllocError> {
+    let out = done.out.line(alloc, "out")?;
+    let err = done.err.line(alloc, "err")?;
+    let answer = done.answer.as_str();
+    format!(in alloc; "{answer}\n{out}{err}")
+}
+
 /// What a call answers and writes, with an output and an error output of some modes.
 pub fn answer_call<C: Calls>(
     alloc: Global,
@@ -78,10 +86,7 @@ pub fn answer_call<C: Calls>(
     says: &str,
 ) -> anyhow::Result<String> {
     let done = perform(alloc, calls, modes, word, says)?;
-    let out = done.out.line(alloc, "out")?;
-    let err = done.err.line(alloc, "err")?;
-    let answer = done.answer.as_str();
-    Ok(format!(in alloc; "{answer}\n{out}{err}")?)
+    Ok(told(alloc, &done)?)
 }
 
 /// Whether a call was cut off by one failure, with a front of the whole, and in the last write: of an output of which one
@@ -171,6 +176,23 @@ impl Sweep {
         Ok(has_failed)
     }
 
+    /// Makes the call with an output of a kind that fails further and further on, until it does not.
+    fn run<C: Calls>(
+        &mut self,
+        calls: &mut C,
+        kind: &str,
+        word: &str,
+        says: &str,
+    ) -> anyhow::Result<()> {
+        for count in 0..1_000_000usize {
+            let mode = Mode::of(kind, count)?;
+            if !self.next(calls, (mode, count), word, says)? {
+                break;
+            }
+        }
+        Ok(())
+    }
+
     /// Whether each write, or each number of bytes, was one at which a call was cut off.
     fn are_all_cut(&self) -> bool {
         let places = if self.of_err {
@@ -212,11 +234,6 @@ pub fn answer_sweep<C: Calls>(
         cuts: 0,
         told: String::new(alloc),
     };
-    for count in 0..1_000_000usize {
-        let mode = Mode::of(kind, count)?;
-        if !sweep.next(calls, (mode, count), word, says)? {
-            break;
-        }
-    }
+    sweep.run(calls, kind, word, says)?;
     Ok(sweep.line()?)
 }
