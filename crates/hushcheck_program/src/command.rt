@@ -28,14 +28,14 @@ variable that is not in the environment and that neither a text sets nor, as
 the device list says, a command. A warning changes the status only with
 --strict.
 
-With -d there is such a place, and 'the device list lacks COMMAND', for each
-command that a text calls by a plain name and that is neither built in nor in
-the device list.
+With -d, each command that a text calls by a plain name is reported too, as
+'the device list lacks COMMAND', if it is neither built in nor in the device
+list.
 
 The status is 0 if all texts are well-formed, each NAME is set and the device
-list lacks no command; 1 if that is not so, or with --strict if there is a
-warning; 2 if the words are wrong; 3 if a file, the image, the device list or
-the output is refused, or memory ran out.
+list lacks no command; 1 if one of these does not hold, or with --strict if
+there is a warning; 2 if the words are wrong; 3 if a file, the image, the
+device list or the output is refused, or memory ran out.
 
 Examples:
   hushcheck

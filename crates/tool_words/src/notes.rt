@@ -16,7 +16,7 @@ Examples:
   ubtool image --size 0x4000 -o env.img env.txt
   ubtool < env.img
 
-'ubtool help printenv' and its like tell more.
+'ubtool help COMMAND' tells more of a command.
 ";
 
 pub(crate) const PRINTENV_NOTES: &str = "\
@@ -158,16 +158,17 @@ all runs:
   succeeds WORDS
   all COUNT states STATES
 
-COUNT runs end so. The first WORD is that of the first of them, the second that
-of the first of those with the fewest FAILURES. An answer that a steady command
-gives again is not counted again. ENDING is the last line of their records, as
-rehearse lists them. Runs that leave another value of a NAME of the call are
-another ending, and each NAME has a line var or unset, in the order of the call;
-with --flow a NAME has no effect. The lines fails are the commands that fail in
-the run of the second WORD, in its order, one for each failure; succeeds is for
-a success that counts, since a failure is expected. With --steady they are facts
-of the board, each once. A state is where a device command asks, with what is
-read from there before it is set; each is gone through once.
+COUNT runs end this way. The first WORD names the first of them. FAILURES is
+the least number of failures among them, and the second WORD names the first
+run with so many. An answer that a steady command gives again is not counted
+again. ENDING is the last line of their records, as rehearse lists them. Runs
+that leave another value of a NAME of the call are another ending, and each
+NAME has a line var or unset, in the order of the call; with --flow a NAME has
+no effect. The lines fails are the commands that fail in the run of the second
+WORD, in its order, one for each failure; succeeds is for a success that
+counts, since a failure is expected. With --steady they are facts of the board,
+each once. A state is where a device command asks, with what is read from there
+before it is set; each is gone through once.
 
 With --flow a line for each state and for each way to end is written instead.
 Numbers count from 1, where a run begins, and a word leads from line to line:
