@@ -41,7 +41,7 @@ use Rattle.rehearse_endings.specs.declared.table.Table.{Table}
 
 -- ---- lists
 
-all_and : {A : Type 0} (P : A → Type 0) (xs ys : List A) → AllByRecursion P xs → AllByRecursion P ys → AllByRecursion P (xs ++ ys)
+pub all_and : {A : Type 0} (P : A → Type 0) (xs ys : List A) → AllByRecursion P xs → AllByRecursion P ys → AllByRecursion P (xs ++ ys)
 all_and P [] ys h k = k
 all_and P (x ∷ xs) ys h k = (h.0, all_and P xs ys h.1 k)
 
@@ -164,6 +164,17 @@ unlike_more : (limits : Limits) (searched : List Searched) (s : Searched) → No
 unlike_more limits [] s h k = (tt, tt)
 unlike_more limits (x ∷ searched) s h k = (all_and (λ other. IsUnlike limits x other.asked) searched (s ∷ []) h.0 (k.0, tt), unlike_more limits searched s h.1 k.1)
 
+-- the state that was entered last was searched to its end
+pub searched_last : (names : List Text) (task : Task) (begun : List Asked) (searched : List Searched) (s : Searched) → AreApart names task searched (s.asked ∷ begun) → IsSearchedIn names task s → AreApart names task (searched ++ s ∷ []) begun
+searched_last names task begun searched s apart here = record {
+  found = all_and (IsSearchedIn names task) searched (s ∷ []) apart.found (here, tt);
+  met = apart.met.1;
+  unlike = unlike_more task.limits searched s apart.unlike apart.anew.0;
+  anew = both_of (λ t. AllByRecursion (λ x. IsUnlike task.limits x t) searched) (λ t. ComesBefore t.0 s.asked.0) (λ t. AllByRecursion (λ x. IsUnlike task.limits x t) (searched ++ s ∷ [])) begun
+      (λ t before comes. all_and (λ x. IsUnlike task.limits x t) searched (s ∷ []) before (inr comes, tt)) apart.anew.1 apart.one_run.0;
+  one_run = apart.one_run.1;
+}
+
 pub gone_through : (names : List Text) (task : Task) (p : OutcomeWord) (m : Moment) (begun : List Asked) (old new : Table) (made : Flow) (node_words : List Text) (won lost : ℕ) (key_list : List Key) (devices : ℕ) (sum_nodes : List SumNode) (whole : rt.Summary) (shown : Summary)
     → HasEntered names task ((p, m) ∷ begun) old → nodes_shown made.nodes ≡ nodes_shown old.flow.nodes ++ flow.Asks node_words won lost ∷ []
     → IsKeptAt old.entries.items new.entries.items m key_list devices whole → new.flow ≡ made → new.visited ≡ old.visited
@@ -173,14 +184,7 @@ gone_through names task p m begun old new made node_words won lost key_list devi
   record {
     kept_as = subst (AreKeptAs searched) (sym kept.kept.1) (kept_more has.0 old.entries.items s e has.1.kept_as kept_as);
     many = let a = has.1.many in let b = length-append has.0 (s ∷ []) in omega arith;
-    apart = record {
-      found = all_and (IsSearchedIn names task) has.0 (s ∷ []) has.1.apart.found (here, tt);
-      met = has.1.apart.met.1;
-      unlike = unlike_more task.limits has.0 s has.1.apart.unlike has.1.apart.anew.0;
-      anew = both_of (λ t. AllByRecursion (λ x. IsUnlike task.limits x t) has.0) (λ t. ComesBefore t.0 p) (λ t. AllByRecursion (λ x. IsUnlike task.limits x t) searched) begun
-          (λ t before comes. all_and (λ x. IsUnlike task.limits x t) has.0 (s ∷ []) before (inr comes, tt)) has.1.apart.anew.1 has.1.apart.one_run.0;
-      one_run = has.1.apart.one_run.1;
-    };
+    apart = searched_last names task begun has.0 s has.1.apart here;
     asks =
         let a = ap (λ (x : Flow). asks_in (nodes_shown x.nodes)) flows in
         let b = ap asks_in nodes in

@@ -416,6 +416,7 @@ searched_behind names task stop r here done last before after f is returns h =
       begun = omega (arith, a, begun, begun_last);
       room = h.room;
       most = h.most;
+      held = h.held;
       noted = h.noted;
       entered = λ p begun at by entered. h.entered p begun (subst (λ (m : Moment). StoppedAt task p stop m) (sym present) at) by entered;
     }

@@ -7,13 +7,13 @@ use Rattle.rehearse_rules.specs.declared.rehearse_error.RehearseError.TheVariant
 use Rattle.rehearse_endings.specs.TellingEndings.{IsUntold, names_of, RefusesEndings}
 use Rattle.rehearse_endings.specs.declared.telling.EndingsAsk.{EndingsAsk}
 
-pub untold : (found : Option Task) (ask : EndingsAsk) (s : Sink) (e : RehearseError) → IsUntold (names_of ask) ask.states ask.work found e → RefusesEndings found ask s s e
+pub untold : (found : Option Task) (ask : EndingsAsk) (s : Sink) (e : RehearseError) → IsUntold (names_of ask) ask.states ask.work ask.memory found e → RefusesEndings found ask s s e
 untold found ask s (DeviceList fault) h = h
 untold found ask s NoSuchVariable h = (h, refl)
 untold found ask s NotARun h = h
 untold found ask s States h = (h, refl)
 untold found ask s Steps h = (h, refl)
-untold found ask s Bytes h = h
+untold found ask s Bytes h = (h, refl)
 untold found ask s Write h = absurd h
 untold found ask s Memory h = refl
 untold found ask s Failed h = h

@@ -12,6 +12,7 @@ use Rattle.rehearse_states.specs.Drawing.{HasMore, nodes_shown}
 use Rattle.rehearse_states.specs.Summaries.{Summary}
 use Rattle.rehearse_states.specs.SumNodes.{HasMoreSums, IsSummary, sums_shown}
 use Rattle.rehearse_endings.specs.Searching.{SummedFrom, seen_from, AreEntries}
+use Rattle.rehearse_endings.specs.Held.{most_held}
 use Rattle.rehearse_endings.specs.Indexed.{AreNoted}
 use Rattle.rehearse_endings.specs.States.{Asked, ComesBy, HasEntered}
 use Rattle.rehearse_reports.specs.Following.{AreEnoughAtStop}
@@ -38,5 +39,6 @@ pub record IsSearched (names : List Text) (task : Task) (stop : Stop) (old new :
   pub begun : new.begun + 2 * before.visited * most_steps ≤ old.begun + 2 * after.visited * most_steps
   pub room : after.visited ≤ after.most
   pub most : after.most ≡ before.most
+  pub held : most_held after ≡ most_held before
   pub noted : AreNoted after
   pub entered : (p : OutcomeWord) (begun : List Asked) → StoppedAt task p stop old.present → ComesBy p begun → HasEntered names task begun before → HasEntered names task begun after

@@ -9,10 +9,11 @@ use Rattle.rehearse_states.specs.Endings.{endings}
 use Rattle.rehearse_states.specs.Drawing.{asks_in}
 use Rattle.rehearse_states.specs.Flow.{Node, IsFlow, flow_text}
 use Rattle.rehearse_states.specs.EndingLines.{endings_text, failing}
+use Rattle.rehearse_endings.specs.Held.{ComesToBytes}
 use Rattle.rehearse_endings.specs.States.{ComesToStates, ComesToSteps, HasStates}
 use Rattle.rehearse_endings.specs.declared.telling.EndingsAsk.{EndingsAsk}
 use Rattle.rehearse_rules.specs.declared.rehearse_error.RehearseError.{RehearseError}
-use Rattle.rehearse_rules.specs.declared.rehearse_error.RehearseError.TheVariants.{NoSuchVariable, States, Steps, Write, Memory}
+use Rattle.rehearse_rules.specs.declared.rehearse_error.RehearseError.TheVariants.{NoSuchVariable, States, Steps, Bytes, Write, Memory}
 
 -- the variables whose values are asked for
 abbrev pub names_of : EndingsAsk → List Text
@@ -45,13 +46,18 @@ HasMoreStates names most found = (task : Task) × (found ≡ Some task) × Comes
 abbrev pub HasMoreSteps : (names : List Text) → (work : ℕ) → Option Task → Type 0
 HasMoreSteps names work found = (task : Task) × (found ≡ Some task) × ComesToSteps names task work
 
+-- the runs of the task come to states, no two of them alike, that count more bytes than allowed
+abbrev pub HasMoreBytes : (names : List Text) → (bytes : ℕ) → Option Task → Type 0
+HasMoreBytes names bytes found = (task : Task) × (found ≡ Some task) × ComesToBytes names task bytes
+
 -- why there are no lines
-abbrev pub IsUntold : (names : List Text) → (most work : ℕ) → Option Task → RehearseError → Type 0
-IsUntold names most work found NoSuchVariable = found ≡ None
-IsUntold names most work found States = HasMoreStates names most found
-IsUntold names most work found Steps = HasMoreSteps names work found
-IsUntold names most work found Memory = Unit {0}
-IsUntold names most work found _ = ⊥
+abbrev pub IsUntold : (names : List Text) → (most work bytes : ℕ) → Option Task → RehearseError → Type 0
+IsUntold names most work bytes found NoSuchVariable = found ≡ None
+IsUntold names most work bytes found States = HasMoreStates names most found
+IsUntold names most work bytes found Steps = HasMoreSteps names work found
+IsUntold names most work bytes found Bytes = HasMoreBytes names bytes found
+IsUntold names most work bytes found Memory = Unit {0}
+IsUntold names most work bytes found _ = ⊥
 
 -- the lines were written
 abbrev pub TellsEndings : (found : Option Task) → EndingsAsk → (old new : Sink) → Type 0
@@ -67,6 +73,7 @@ abbrev pub RefusesEndings : (found : Option Task) → EndingsAsk → (old new : 
 RefusesEndings found ask old new NoSuchVariable = (found ≡ None) × (new ≡ old)
 RefusesEndings found ask old new States = HasMoreStates (names_of ask) ask.states found × (new ≡ old)
 RefusesEndings found ask old new Steps = HasMoreSteps (names_of ask) ask.work found × (new ≡ old)
+RefusesEndings found ask old new Bytes = HasMoreBytes (names_of ask) ask.memory found × (new ≡ old)
 RefusesEndings found ask old new Write = BreaksOff found ask old new
 RefusesEndings found ask old new Memory = new ≡ old
 RefusesEndings found ask old new _ = ⊥

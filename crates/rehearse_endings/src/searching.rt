@@ -14,12 +14,13 @@ ghost use Rattle.rehearse_reports.specs.Following.{IsReportedFor};
 ghost use Rattle.rehearse_reports.specs.ReportsShown.{accesses_shown, keys_shown};
 ghost use Rattle.rehearse_states.specs.Flow.{IsFlow};
 ghost use Rattle.rehearse_states.specs.Drawing.{asks_in, nodes_shown};
+ghost use Rattle.rehearse_endings.specs.Held.{ComesToBytes, HasNoRoom, HoldsStates, most_held};
 ghost use Rattle.rehearse_endings.specs.Searching.{IsReached, AreEntries, IsKeptAt};
 ghost use Rattle.rehearse_endings.specs.Indexed.{AreNoted};
 ghost use Rattle.rehearse_endings.specs.States.{Asked, ComesBy, ComesToStates, ComesToSteps, HasEntered, HasStates};
 ghost use Rattle.rehearse_states.specs.PlaceNumbers.{place_number};
 ghost use Rattle.rehearse_endings.specs.Searched.{IsSearched, IsSpent};
-ghost use Rattle.rehearse_endings.specs.declared.sum_error.SumError.TheVariants.{Memory, States, Steps};
+ghost use Rattle.rehearse_endings.specs.declared.sum_error.SumError.TheVariants.{Bytes, States, Steps};
 
 use crate::keys::{keys_at_end, keys_of_both};
 use crate::sum_error::SumError;
@@ -53,7 +54,7 @@ fn logged<S: Store>(store: &S) -> u32
 }
 
 /// Keeps the summary of a state in which a device command asked, with the values of keys that are enough
-/// for it. Returns these keys. Errors: `Memory`.
+/// for it. Returns these keys. Errors: `Memory`; `Bytes`, only if that has no room.
 fn keep<S: Store>(
     alloc: Global,
     store: &S,
@@ -64,11 +65,14 @@ fn keep<S: Store>(
     summary: Summary,
 ) -> Result<Vec<Key>, SumError>
     requires { hash ≡ place_number (S.record_of store.now).present.frames }
-    ensures err { IfErr result (λ e. e ≡ Memory) }
+    ensures err { IfErr result (λ e. (e ≢ States) × (e ≢ Steps)) }
+    ensures full { IfErr result
+        (λ e. e ≡ Bytes → HasNoRoom table.old.room (S.record_of store.now).present (keys_shown keys.items)) }
     ensures keys { IfOk result (λ kept. keys_shown kept.items ≡ keys_shown keys.items) }
     ensures kept { OnOk result (IsKeptAt table.old.entries.items table.new.entries.items
         (S.record_of store.now).present (keys_shown keys.items) devices summary) }
     ensures noted { OnOk result (AreNoted table.old → AreNoted table.new) }
+    ensures held { OnOk result (most_held table.new ≡ most_held table.old) }
     ensures flow { table.new.flow ≡ table.old.flow }
     ensures sums { table.new.sums ≡ table.old.sums }
     ensures visited { table.new.visited ≡ table.old.visited }
@@ -114,7 +118,7 @@ fn resumed<S: Store>(
         (outcome_when success) (S.record_of store.old).present stop
         (S.record_of store.new).present (accesses_shown reported.new)) }
     ensures worked { OnOk result ((S.record_of store.new).begun ≤ most_work) }
-    ensures err { IfErr result (λ e. e ≢ States) }
+    ensures err { IfErr result (λ e. (e ≢ States) × (e ≢ Bytes)) }
     ensures spent { IfErr result (λ e. e ≡ Steps → most_work < (S.record_of store.new).begun) }
     ensures soon { IfErr result
         (λ e. e ≡ Steps → (S.record_of store.new).begun ≤ (S.record_of store.old).begun + most_steps) }
@@ -136,14 +140,14 @@ fn begin_text<S: Store>(rehearsal: &Rehearsal<'_>, store: &mut S) -> Result<Stop
         ((S.record_of store.new).begun ≡ (S.record_of store.old).begun +
         (S.record_of store.new).present.steps) }
     ensures within { OnOk result ((S.record_of store.new).present.steps ≤ most_steps) }
-    ensures err { IfErr result (λ e. (e ≢ States) × (e ≢ Steps)) }
+    ensures err { IfErr result (λ e. (e ≢ States) × (e ≢ Steps) × (e ≢ Bytes)) }
 {
     let stopped = begin(rehearsal, store)?;
     Ok(stopped.stop())
 }
 
 /// What is to come of a text that has stopped: the summary, and keys that are enough for it. States that
-/// are in the table are not searched again. Errors: `Memory`, `States`, `Steps`.
+/// are in the table are not searched again. Errors: `Memory`, `States`, `Steps`, `Bytes`.
 fn summed<S: Store>(
     rehearsal: &Rehearsal<'_>,
     store: &mut S,
@@ -175,6 +179,10 @@ fn summed<S: Store>(
         → StoppedAt (task_in rehearsal.now) p stop (S.record_of store.old).present → ComesBy p begun
         → HasEntered (map (λ n. n.now) names.now) (task_in rehearsal.now) begun table.old
         → IfErr result (λ e. e ≡ Steps → ComesToSteps (map (λ n. n.now) names.now) (task_in rehearsal.now) most_work) }
+    ensures large { (p : OutcomeWord) (begun : List Asked)
+        → StoppedAt (task_in rehearsal.now) p stop (S.record_of store.old).present → ComesBy p begun
+        → HasEntered (map (λ n. n.now) names.now) (task_in rehearsal.now) begun table.old
+        → IfErr result (λ e. e ≡ Bytes → ComesToBytes (map (λ n. n.now) names.now) (task_in rehearsal.now) (most_held table.old)) }
 {
     let devices = logged(store);
     match stop {
@@ -268,13 +276,16 @@ fn summed<S: Store>(
 /// and searches each once, so at most two stretches of steps start at a state. Returns `States` if
 /// the runs come to more states than allowed, no two of them alike: at the same place, with the same at the keys
 /// that were found to be enough, and with room for the same runs. Returns `Steps` behind the first stretch with which
-/// more steps were begun than allowed, in all stretches together. Errors: `Memory`, `States`, `Steps`.
+/// more steps were begun than allowed, in all stretches together. Returns `Bytes` if the states that were searched
+/// count more bytes than allowed, each by its frames and what is known at its keys.
+/// Errors: `Memory`, `States`, `Steps`, `Bytes`.
 pub fn sum_endings<S: Store>(
     rehearsal: &Rehearsal<'_>,
     store: &mut S,
     names: &[&[u8]],
     most_states: u32,
     most_work: u32,
+    most_bytes: u64,
 ) -> Result<Endings, SumError>
     requires begun { (S.record_of store.old).begun ≡ 0 }
     requires bound { (task_in rehearsal.now).limits.device_bound < 2 ^ 32 }
@@ -295,12 +306,16 @@ pub fn sum_endings<S: Store>(
     ensures soon { IfErr result (λ e. e ≡ Steps → (S.record_of store.new).begun ≤ most_work + most_steps) }
     ensures costly { IfErr result (λ e. e ≡ Steps
         → ComesToSteps (map (λ n. n.now) names.now) (task_in rehearsal.now) most_work) }
+    ensures held { IfOk result
+        (λ e. HoldsStates (map (λ n. n.now) names.now) (task_in rehearsal.now) e.states most_bytes) }
+    ensures large { IfErr result (λ e. e ≡ Bytes
+        → ComesToBytes (map (λ n. n.now) names.now) (task_in rehearsal.now) most_bytes) }
 {
     let stop = begin_text(rehearsal, store)?;
     if is_spent(store, most_work) {
         return Err(SumError::Steps);
     }
-    let mut table = Table::new(rehearsal.alloc, most_states);
+    let mut table = Table::new(rehearsal.alloc, most_states, most_bytes);
     let future = summed(rehearsal, store, &mut table, names, most_work, 0, stop)?;
     let states = table.visited;
     let rows = rows_of(rehearsal.alloc, &table.sums, future.summary.sum)?;

@@ -18,6 +18,9 @@ pub enum SumError {
     /// More steps are begun than allowed.
     #[error("more steps than allowed")]
     Steps,
+    /// The states that are kept count more bytes than allowed.
+    #[error("more memory than allowed")]
+    Bytes,
 }
 
 impl From<StoreError> for SumError {

@@ -8,6 +8,7 @@ ghost use Rattle.rehearse_states.specs.PlaceNumbers.{place_number};
 ghost use Rattle.rehearse_states.specs.Endings.{Row};
 ghost use Rattle.rehearse_states.specs.RowsShown.{summary_with};
 ghost use Rattle.rehearse_states.specs.SumNodes.{sums_shown};
+ghost use Rattle.rehearse_endings.specs.Held.{most_held, size_of};
 ghost use Rattle.rehearse_endings.specs.Searching.{AreEntries, IsFound, IsKept};
 ghost use Rattle.rehearse_endings.specs.Indexed.{AllOf, AreNoted, BeginWith, Fits, FitsNot, HasMoreWays, IsNumberBehind, KnowsNext, Leads, NoneBy, NoneFits, NoneFrom, NotesOne, TakesOne, WayIsNoted, known_in, noted, ways};
 ghost use Rattle.rehearse_reports.specs.Known.{AllHold, key_of, keys_of};
@@ -15,6 +16,7 @@ ghost use Rattle.rehearse_reports.specs.ReportsShown.{keys_shown};
 ghost use Rattle.rehearse_states.specs.Drawing.{nodes_shown};
 ghost use Rattle.rehearse_endings.specs.declared.sum_error.SumError.TheVariants.{Memory};
 
+use crate::held::behind_state;
 use crate::numbers::{have_one_key, mix_known};
 use crate::sum_error::SumError;
 use bootstore_state::{Frame, Store, StoreError};
@@ -45,7 +47,7 @@ pub struct Entry {
     pub summary: Summary,
 }
 
-/// The states that were searched, and how many more may be entered.
+/// The states that were searched, how many may be entered, and how many more bytes may be held.
 #[derive(Drop)]
 pub(crate) struct Table {
     /// The states whose runs are all counted.
@@ -67,18 +69,21 @@ pub(crate) struct Table {
     pub(crate) visited: u32,
     /// How many states may be entered.
     pub(crate) most: u32,
+    /// How many more bytes the entries may count.
+    pub(crate) room: u64,
 }
 
 impl Table {
     ghost use Rattle.std.specs.Prelude.{◌+◌, Err};
-    ghost use Rattle.rehearse_endings.specs.declared.sum_error.SumError.TheVariants.{States};
+    ghost use Rattle.rehearse_endings.specs.declared.sum_error.SumError.TheVariants.{Bytes, States, Steps};
 
     /// A table without entries. Takes no memory.
-    pub(crate) fn new(alloc: Global, most: u32) -> Table
+    pub(crate) fn new(alloc: Global, most: u32, room: u64) -> Table
         ensures entries { result.entries.items ≡ [] }
         ensures flow { result.flow.nodes.items ≡ [] }
         ensures visited { result.visited ≡ 0 }
         ensures most { result.most ≡ most }
+        ensures held { most_held result ≡ room }
         ensures noted { AreNoted result }
     {
         Table {
@@ -91,6 +96,7 @@ impl Table {
             sums: Vec::new(alloc),
             visited: 0,
             most,
+            room,
         }
     }
 
@@ -101,6 +107,7 @@ impl Table {
         ensures flow { self.new.flow ≡ self.old.flow }
         ensures sums { self.new.sums ≡ self.old.sums }
         ensures most { self.new.most ≡ self.old.most }
+        ensures held { most_held self.new ≡ most_held self.old }
         ensures visited { OnOk result (self.new.visited ≡ self.old.visited + 1) }
         ensures within { OnOk result (self.new.visited ≤ self.new.most) }
         ensures err { IfErr result (λ e. e ≡ States) }
@@ -313,8 +320,8 @@ impl Table {
         }
     }
 
-    /// Keeps the summary of a state in which a device command asked, whose place has this number. Errors:
-    /// `Memory`.
+    /// Keeps the summary of a state in which a device command asked, whose place has this number. Errors: `Bytes`,
+    /// exactly if the state has no room, and then nothing changes; `Memory`.
     pub(crate) fn keep(
         &mut self,
         alloc: Global,
@@ -326,16 +333,22 @@ impl Table {
         summary: Summary,
     ) -> Result<(), SumError>
         requires { place ≡ place_number (reverse frames.items) }
-        ensures err { IfErr result (λ e. e ≡ Memory) }
+        ensures err { IfErr result (λ e. (e ≢ States) × (e ≢ Steps)) }
+        ensures full { IfErr result (λ e. e ≡ Bytes → self.old.room < size_of frames.items known.items) }
+        ensures limit { self.old.room < size_of frames.items known.items → (result ≡ Err Bytes) × (self.new ≡ self.old) }
         ensures kept { OnOk result
             (IsKept self.old.entries.items self.new.entries.items frames.items known.items steps devices
             summary) }
         ensures noted { OnOk result (AreNoted self.old → AreNoted self.new) }
+        ensures held { OnOk result (most_held self.new ≡ most_held self.old) }
         ensures flow { self.new.flow ≡ self.old.flow }
         ensures sums { self.new.sums ≡ self.old.sums }
         ensures visited { self.new.visited ≡ self.old.visited }
         ensures most { self.new.most ≡ self.old.most }
     {
+        let Some(left) = behind_state(self.room, &frames, &known) else {
+            return Err(SumError::Bytes);
+        };
         let at = self.entries.len();
         let number = self.note_ways(alloc, place, &known, at)?;
         note(alloc, &mut self.alike, number, at)?;
@@ -347,6 +360,7 @@ impl Table {
             devices,
             summary,
         })?;
+        self.room = left;
         Ok(())
     }
 
@@ -369,6 +383,7 @@ impl Table {
         ensures sums { self.new.sums ≡ self.old.sums }
         ensures visited { self.new.visited ≡ self.old.visited }
         ensures most { self.new.most ≡ self.old.most }
+        ensures room { self.new.room ≡ self.old.room }
     {
         let mut number = place;
         for (at, one) in known.iter().enumerate() {
@@ -399,6 +414,7 @@ impl Table {
         ensures sums { self.new.sums ≡ self.old.sums }
         ensures visited { self.new.visited ≡ self.old.visited }
         ensures most { self.new.most ≡ self.old.most }
+        ensures room { self.new.room ≡ self.old.room }
     {
         let Some(first) = self.onward.get(&number) else {
             self.onward.insert(number, entry)?;

@@ -1,7 +1,8 @@
 //! How the runs of an environment's variable, or of a given text, end, from its device list to the lines.
 ghost use Rattle.std.specs.Prelude.{◌≡◌, ◌+◌, IfOk, IfErr, Some, map};
 ghost use Rattle.rehearse_machine.specs.Tasks.{task_found, task_in};
-ghost use Rattle.rehearse_endings.specs.declared.sum_error.SumError.TheVariants.{States, Steps};
+ghost use Rattle.rehearse_endings.specs.declared.sum_error.SumError.TheVariants.{Bytes, States, Steps};
+ghost use Rattle.rehearse_endings.specs.Held.{ComesToBytes};
 ghost use Rattle.rehearse_endings.specs.States.{ComesToStates, ComesToSteps};
 ghost use Rattle.rehearse_endings.specs.TellingEndings.{AreLines, IsUntold, names_of, source_of, TellsEndings, RefusesEndings};
 
@@ -30,6 +31,8 @@ pub struct EndingsAsk<'a> {
     pub states: u32,
     /// How many steps may be begun, in all stretches of the search together.
     pub work: u32,
+    /// How many bytes the states may count that are kept, together.
+    pub memory: u64,
     /// The variables by whose values runs are told apart, in this order.
     pub names: &'a [&'a [u8]],
     /// Whether the flow is written, not the endings.
@@ -42,6 +45,7 @@ fn lines_of<S: Store>(
     names: &[&[u8]],
     most_states: u32,
     most_work: u32,
+    most_bytes: u64,
     flow: bool,
 ) -> Result<Vec<u8>, SumError>
     ensures ok { IfOk result (λ text. AreLines (map (λ n. n.now) names.now) flow most_states
@@ -50,10 +54,19 @@ fn lines_of<S: Store>(
         (λ e. e ≡ States → ComesToStates (map (λ n. n.now) names.now) (task_in rehearsal.now) (most_states + 1)) }
     ensures costly { IfErr result
         (λ e. e ≡ Steps → ComesToSteps (map (λ n. n.now) names.now) (task_in rehearsal.now) most_work) }
+    ensures large { IfErr result
+        (λ e. e ≡ Bytes → ComesToBytes (map (λ n. n.now) names.now) (task_in rehearsal.now) most_bytes) }
 {
     let _bound = rehearsal.bounds.devices();
     let mut store = S::new(rehearsal.alloc);
-    let found = sum_endings(rehearsal, &mut store, names, most_states, most_work)?;
+    let found = sum_endings(
+        rehearsal,
+        &mut store,
+        names,
+        most_states,
+        most_work,
+        most_bytes,
+    )?;
     if flow {
         let text = flow_text_of(rehearsal.alloc, &found.nodes)?;
         return Ok(text);
@@ -70,7 +83,7 @@ fn lines_of<S: Store>(
 }
 
 /// The lines of all runs of the given text, or else of a variable, if it is set. Errors:
-/// `NoSuchVariable`, `States`, `Steps`, `Memory`.
+/// `NoSuchVariable`, `States`, `Steps`, `Bytes`, `Memory`.
 fn lines_in<S: Store>(
     alloc: Global,
     env: &Env,
@@ -79,7 +92,7 @@ fn lines_in<S: Store>(
 ) -> Result<Vec<u8>, RehearseError>
     ensures ok { IfOk result (λ text. AreLines (names_of ask.now) ask.now.flow ask.now.states
         (task_found env.now devices.now (source_of ask.now) ask.now.bounds) text.items) }
-    ensures err { IfErr result (λ e. IsUntold (names_of ask.now) ask.now.states ask.now.work
+    ensures err { IfErr result (λ e. IsUntold (names_of ask.now) ask.now.states ask.now.work ask.now.memory
         (task_found env.now devices.now (source_of ask.now) ask.now.bounds) e) }
 {
     let source = Source {
@@ -89,10 +102,13 @@ fn lines_in<S: Store>(
     let Some(rehearsal) = Rehearsal::of(alloc, env, devices, source, ask.bounds) else {
         return Err(RehearseError::NoSuchVariable);
     };
-    match lines_of::<S>(&rehearsal, ask.names, ask.states, ask.work, ask.flow) {
+    match lines_of::<S>(
+        &rehearsal, ask.names, ask.states, ask.work, ask.memory, ask.flow,
+    ) {
         Ok(text) => Ok(text),
         Err(SumError::States) => Err(RehearseError::States),
         Err(SumError::Steps) => Err(RehearseError::Steps),
+        Err(SumError::Bytes) => Err(RehearseError::Bytes),
         Err(SumError::Memory) => Err(RehearseError::Memory),
     }
 }
@@ -100,7 +116,7 @@ fn lines_in<S: Store>(
 /// Writes how all runs of a variable or of a given text end: for each ending a line, the values that are left of the
 /// named variables, and the unexpected answers of the run with the fewest; then a
 /// line for all runs. Or it writes their flow: a line for each state in which a device command
-/// asks, and for each way to end. Refusals in order: the variable; `States`, `Steps` and `Memory`, with
+/// asks, and for each way to end. Refusals in order: the variable; `States`, `Steps`, `Bytes` and `Memory`, with
 /// nothing written; then `Write`, with a prefix of the lines written.
 pub fn endings_env<S: Store, O: Out>(
     alloc: Global,

@@ -35,6 +35,7 @@ fn call<S: Store>(case: &Case, devices: u32, states: u32, flow: bool) -> anyhow:
         bounds: bounds.in_shell(case.bounds.shell()),
         states,
         work: u32::MAX,
+        memory: u64::MAX,
         names: &names,
         flow,
     };

@@ -129,6 +129,11 @@ work_of_causes : IsRefused (codes "causes" ∷ codes "-d" ∷ codes "d" ∷ code
 unfolding clap_on_literals ubtool
 work_of_causes = refl
 
+-- causes -d d --memory 1
+memory_of_causes : IsRefused (codes "causes" ∷ codes "-d" ∷ codes "d" ∷ codes "--memory" ∷ codes "1" ∷ [])
+unfolding clap_on_literals ubtool
+memory_of_causes = refl
+
 -- causes -d d --flow
 flow_of_causes : IsRefused (codes "causes" ∷ codes "-d" ∷ codes "d" ∷ codes "--flow" ∷ [])
 unfolding clap_on_literals ubtool

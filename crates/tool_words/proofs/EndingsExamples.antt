@@ -21,6 +21,7 @@ pair_ended : AsksFor (codes "endings" ∷ codes "-i" ∷ codes "f" ∷ codes "--
       bounds = record { devices = 1000; steps = 1000000; failures = None; shell = Profile };
       states = 1000000;
       work = 1000000000;
+      memory = 512;
       names = [];
       flow = false;
     }) Little)
@@ -34,6 +35,7 @@ all_endings : AsksFor (codes "endings" ∷ codes "-d" ∷ codes "d" ∷ [])
       bounds = record { devices = 1000; steps = 1000000; failures = None; shell = Profile };
       states = 1000000;
       work = 1000000000;
+      memory = 512;
       names = [];
       flow = false;
     }) Little)
@@ -48,6 +50,7 @@ few_endings : AsksFor
       bounds = record { devices = 0; steps = 7; failures = None; shell = Profile };
       states = 0;
       work = 1000000000;
+      memory = 512;
       names = [];
       flow = true;
     }) Big)
@@ -61,6 +64,7 @@ endings_of_names : AsksFor (codes "endings" ∷ codes "bootargs" ∷ codes "-d" 
       bounds = record { devices = 1000; steps = 1000000; failures = None; shell = Profile };
       states = 1000000;
       work = 1000000000;
+      memory = 512;
       names = codes "bootargs" ∷ codes "fdtfile" ∷ [];
       flow = false;
     }) Little)
@@ -84,6 +88,7 @@ most_steps_in_all : AsksFor (codes "endings" ∷ codes "-d" ∷ codes "d" ∷ co
       bounds = record { devices = 1000; steps = 1000000; failures = None; shell = Profile };
       states = 1000000;
       work = 4294967295;
+      memory = 512;
       names = [];
       flow = false;
     }) Little)
@@ -98,11 +103,46 @@ no_steps_in_all : AsksFor
       bounds = record { devices = 1000; steps = 1000000; failures = None; shell = Profile };
       states = 7;
       work = 0;
+      memory = 512;
       names = [];
       flow = false;
     }) Little)
 unfolding clap_on_literals ubtool
 no_steps_in_all = (refl, refl)
+
+-- endings -d d --memory 4294967295
+most_memory : AsksFor (codes "endings" ∷ codes "-d" ∷ codes "d" ∷ codes "--memory" ∷ codes "4294967295" ∷ [])
+    (ending usual_list (record {
+      variable = codes "bootcmd";
+      bounds = record { devices = 1000; steps = 1000000; failures = None; shell = Profile };
+      states = 1000000;
+      work = 1000000000;
+      memory = 4294967295;
+      names = [];
+      flow = false;
+    }) Little)
+unfolding clap_on_literals ubtool
+most_memory = (refl, refl)
+
+-- endings -d d --memory 0 --work 7
+no_memory : AsksFor
+    (codes "endings" ∷ codes "-d" ∷ codes "d" ∷ codes "--memory" ∷ codes "0" ∷ codes "--work" ∷ codes "7" ∷ [])
+    (ending usual_list (record {
+      variable = codes "bootcmd";
+      bounds = record { devices = 1000; steps = 1000000; failures = None; shell = Profile };
+      states = 1000000;
+      work = 7;
+      memory = 0;
+      names = [];
+      flow = false;
+    }) Little)
+unfolding clap_on_literals ubtool
+no_memory = (refl, refl)
+
+-- endings -d d --memory 4294967296
+too_much_memory : IsRefused (codes "endings" ∷ codes "-d" ∷ codes "d" ∷ codes "--memory" ∷ codes "4294967296" ∷ [])
+unfolding clap_on_literals ubtool
+too_much_memory = refl
 
 -- endings -d d --work 4294967296
 too_many_steps_in_all : IsRefused (codes "endings" ∷ codes "-d" ∷ codes "d" ∷ codes "--work" ∷ codes "4294967296" ∷ [])
@@ -124,6 +164,11 @@ signed_work : IsUnread (codes "endings" ∷ codes "-d" ∷ codes "d" ∷ codes "
 unfolding clap_on_literals ubtool
 signed_work = (refl, refl)
 
+-- endings -d d --memory +1
+signed_memory : IsUnread (codes "endings" ∷ codes "-d" ∷ codes "d" ∷ codes "--memory" ∷ codes "+1" ∷ [])
+unfolding clap_on_literals ubtool
+signed_memory = (refl, refl)
+
 -- endings -d d --steps=+0
 signed_steps : IsUnread (codes "endings" ∷ codes "-d" ∷ codes "d" ∷ codes "--steps=+0" ∷ [])
 unfolding clap_on_literals ubtool
@@ -136,6 +181,7 @@ flow_in_old_2023 : AsksFor (codes "endings" ∷ codes "-d" ∷ codes "d" ∷ cod
       bounds = record { devices = 1000; steps = 1000000; failures = None; shell = Old2023 };
       states = 1000000;
       work = 1000000000;
+      memory = 512;
       names = [];
       flow = true;
     }) Little)
@@ -149,6 +195,7 @@ endings_in_newest_old : AsksFor (codes "endings" ∷ codes "-d" ∷ codes "d" �
       bounds = record { devices = 1000; steps = 1000000; failures = None; shell = Old2025 };
       states = 1000000;
       work = 1000000000;
+      memory = 512;
       names = [];
       flow = false;
     }) Little)
@@ -162,6 +209,7 @@ endings_in_modern_2025 : AsksFor (codes "endings" ∷ codes "-d" ∷ codes "d" �
       bounds = record { devices = 1000; steps = 1000000; failures = None; shell = Modern2025 };
       states = 1000000;
       work = 1000000000;
+      memory = 512;
       names = [];
       flow = false;
     }) Little)

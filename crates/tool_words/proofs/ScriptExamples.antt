@@ -110,6 +110,7 @@ script_ended : AsksFor (codes "endings" ∷ codes "--script" ∷ codes "f" ∷ c
       bounds = record { devices = 1000; steps = 1000000; failures = None; shell = Profile };
       states = 1000000;
       work = 1000000000;
+      memory = 512;
       names = [];
       flow = false;
     }) Little)

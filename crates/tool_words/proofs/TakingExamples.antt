@@ -52,6 +52,7 @@ steady_endings : AsksFor (codes "endings" ∷ codes "-d" ∷ codes "d" ∷ codes
       bounds = record { devices = 1000; steps = 1000000; failures = None; shell = Profile };
       states = 1000000;
       work = 1000000000;
+      memory = 512;
       names = [];
       flow = false;
     }) Little)

@@ -86,6 +86,7 @@ text_ended : AsksFor (codes "endings" ∷ codes "--text" ∷ codes "f" ∷ codes
       bounds = record { devices = 1000; steps = 1000000; failures = None; shell = Profile };
       states = 1000000;
       work = 1000000000;
+      memory = 512;
       names = [];
       flow = false;
     }) Little)

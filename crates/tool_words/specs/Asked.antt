@@ -22,7 +22,7 @@ use Rattle.rehearse_terms.specs.declared.shell.Shell.TheVariants.{Modern2025, Ol
 use Rattle.tool_words.specs.Numbers.{any_number, byte_of}
 use Rattle.tool_words.specs.declared.ask.ImageAsk.{ImageAsk}
 use Rattle.tool_words.specs.declared.ask.Taking.{Taking}
-use Rattle.tool_words.specs.CommandLine.{most_alternatives, most_cause_failures, most_failures, most_records, most_states, most_work}
+use Rattle.tool_words.specs.CommandLine.{most_alternatives, most_cause_failures, most_failures, most_memory, most_records, most_states, most_work}
 
 -- what names the images: a configuration; or files, of which each is one whole copy: a single image, or the two copies
 -- of a pair; or a text of variables, of which an image is made, whose CRC is stored so; or nothing, and the environment
@@ -47,6 +47,8 @@ pub record Endings : Type 0 where
   pub states : ℕ
   -- the steps that all stretches of the search begin together
   pub work : ℕ
+  -- the MiB that the states count together which are kept
+  pub memory : ℕ
   -- the variables by whose values runs are told apart
   pub names : List Text
   pub flow : Bool
@@ -349,24 +351,30 @@ usual_states = 1000000
 abbrev pub usual_work : ℕ
 usual_work = 1000000000
 
--- with a device list, bounds, a number of states and one of steps in all that can be read
-abbrev pub endings_with : Option (Text × Taking) → Option BoundsShown → (states work : Option (Option ℕ)) → Shell →
+-- the MiB if none are given
+abbrev pub usual_memory : ℕ
+usual_memory = 512
+
+-- with a device list, bounds, a number of states, one of steps in all and one of MiB that can be read
+abbrev pub endings_with : Option (Text × Taking) → Option BoundsShown → (states work memory : Option (Option ℕ)) → Shell →
     List Row → Option Asked
-endings_with (Some list) (Some bounds) (Some states) (Some work) shell rows =
+endings_with (Some list) (Some bounds) (Some states) (Some work) (Some memory) shell rows =
     Some (of_named (inputs_asked list.0 list.1 rows) (λ inputs. ending inputs (record {
       variable = variable_of rows;
       bounds = in_shell shell bounds;
       states = unwrap_or states usual_states;
       work = unwrap_or work usual_work;
+      memory = unwrap_or memory usual_memory;
       names = values_of (codes "names") rows;
       flow = is_set (codes "flow") rows;
     }) (order_of rows)))
-endings_with _ _ _ _ shell rows = None
+endings_with _ _ _ _ _ shell rows = None
 
 abbrev pub endings_asked : List Row → Option Asked
 endings_asked rows =
     option_and_then (λ shell. endings_with (list_asked rows) (run_bounds_asked rows)
-    (number_within 0 most_states (codes "states") rows) (number_within 0 most_work (codes "work") rows) shell rows)
+    (number_within 0 most_states (codes "states") rows) (number_within 0 most_work (codes "work") rows)
+    (number_within 0 most_memory (codes "memory") rows) shell rows)
     (shell_of rows)
 
 -- how many device commands may fail if no number is given

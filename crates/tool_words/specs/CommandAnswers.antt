@@ -41,6 +41,7 @@ endings_of e = record {
   bounds = e.bounds;
   states = e.states;
   work = e.work;
+  memory = e.memory;
   names = map string_bytes e.names.items;
   flow = e.flow;
 }

@@ -147,13 +147,20 @@ most_work = 4294967295
 abbrev pub work : Rule
 work = number_option (codes "work") 0 most_work
 
+-- how many MiB the states may count together that are kept, and the greatest number of them that can be allowed
+abbrev pub most_memory : ℕ
+most_memory = 4294967295
+
+abbrev pub memory : Rule
+memory = number_option (codes "memory") 0 most_memory
+
 -- to write the flow
 abbrev pub flow : Rule
 flow = long_flag (codes "flow")
 
 abbrev pub endings : App
 endings = command (codes "endings")
-    (config ∷ image ∷ second ∷ text_file ∷ big_endian ∷ device_list ∷ steady ∷ given ∷ variable ∷ script_file ∷ devices ∷ steps ∷ shell ∷ states ∷ work ∷ flow ∷ names ∷ [])
+    (config ∷ image ∷ second ∷ text_file ∷ big_endian ∷ device_list ∷ steady ∷ given ∷ variable ∷ script_file ∷ devices ∷ steps ∷ shell ∷ states ∷ work ∷ memory ∷ flow ∷ names ∷ [])
 
 -- how many device commands may fail in a run that `causes` looks at, and the greatest number of them that can be allowed
 abbrev pub most_cause_failures : ℕ

@@ -33,6 +33,9 @@ pub const DEFAULT_STATES: u32 = 1_000_000;
 /// The steps that `endings` may begin in all if a call sets no bound.
 pub const DEFAULT_WORK: u32 = 1_000_000_000;
 
+/// The MiB that `endings` may count for the states that it keeps if a call sets no bound.
+pub const DEFAULT_MEMORY: u32 = 512;
+
 /// The device commands that may fail in a run that `causes` looks at if a call sets no bound.
 pub const DEFAULT_CAUSE_FAILURES: u32 = 2;
 
@@ -234,6 +237,8 @@ pub struct EndingsAsk {
     pub states: u32,
     /// The most steps to begin in all.
     pub work: u32,
+    /// The most MiB to count for the states that are kept.
+    pub memory: u32,
     /// The variables by whose values runs are told apart, in this order.
     pub names: Vec<String>,
     /// Whether to write the flow, not the endings.

@@ -12,8 +12,8 @@ ghost use Rattle.tool_words.specs.CommandAnswers.{Answers, IsUnread, NamesLock, 
 use crate::answer::{Answer, parse};
 use crate::ask::{
     Ask, CausesAsk, Change, DEFAULT_CAUSE_FAILURES, DEFAULT_CONFIG, DEFAULT_DEVICES,
-    DEFAULT_RUN_DEVICES, DEFAULT_RUN_STEPS, DEFAULT_STATES, DEFAULT_STEPS, DEFAULT_VARIABLE,
-    DEFAULT_WORK, EndingsAsk, ImageAsk, PrintAsk, RehearseAsk, Taking, UseError,
+    DEFAULT_MEMORY, DEFAULT_RUN_DEVICES, DEFAULT_RUN_STEPS, DEFAULT_STATES, DEFAULT_STEPS,
+    DEFAULT_VARIABLE, DEFAULT_WORK, EndingsAsk, ImageAsk, PrintAsk, RehearseAsk, Taking, UseError,
 };
 use crate::called::CalledAs;
 use crate::command::ubtool_for;
@@ -400,8 +400,9 @@ fn endings_ask(alloc: Global, matches: &ArgMatches<'_>) -> Result<Ask, UseError>
     let bounds = bounds_or(matches, DEFAULT_RUN_DEVICES, DEFAULT_RUN_STEPS);
     let states = number_within(matches, "states", 0, u32::MAX);
     let work = number_within(matches, "work", 0, u32::MAX);
-    let (Some((path, taking)), Some(bounds), Some(states), Some(work)) = (
-        list, bounds, states, work,
+    let memory = number_within(matches, "memory", 0, u32::MAX);
+    let (Some((path, taking)), Some(bounds), Some(states), Some(work), Some(memory)) = (
+        list, bounds, states, work, memory,
     ) else {
         return Err(unread(alloc));
     };
@@ -412,6 +413,7 @@ fn endings_ask(alloc: Global, matches: &ArgMatches<'_>) -> Result<Ask, UseError>
             bounds: bounds.in_shell(shell),
             states: states.unwrap_or(DEFAULT_STATES),
             work: work.unwrap_or(DEFAULT_WORK),
+            memory: memory.unwrap_or(DEFAULT_MEMORY),
             names: texts_of(alloc, matches, "names")?,
             flow: is_set(matches, "flow"),
         },

@@ -283,6 +283,16 @@ const WORK: Argument<'static> = Argument {
     help: "At most N steps (commands begun) in all, 0 to 4294967295 [default: 1000000000]",
 };
 
+const MEMORY: Argument<'static> = Argument {
+    id: "memory",
+    form: Form::Number(0, u32::MAX),
+    letter: None,
+    alias: None,
+    required: false,
+    value: "N",
+    help: "At most N MiB of states in all, 0 to 4294967295 [default: 512]",
+};
+
 const FLOW: Argument<'static> = Argument {
     id: "flow",
     form: Form::Flag,
@@ -293,7 +303,7 @@ const FLOW: Argument<'static> = Argument {
     help: "Write the states as a graph, a line each",
 };
 
-const ENDINGS: [Argument<'static>; 17] = [
+const ENDINGS: [Argument<'static>; 18] = [
     CONFIG,
     IMAGE,
     SECOND,
@@ -315,6 +325,7 @@ const ENDINGS: [Argument<'static>; 17] = [
     SHELL,
     STATES,
     WORK,
+    MEMORY,
     FLOW,
     Argument {
         help: "Variables whose values to tell apart and write, in this order",

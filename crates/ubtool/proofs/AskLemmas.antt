@@ -12,8 +12,8 @@ use Rattle.rehearse_terms.specs.declared.shell.Shell.{Shell}
 use Rattle.tool_words.specs.CommandAnswers.{Answers, asked, meaning_of}
 use Rattle.tool_words.specs.Called.{is_tool}
 use Rattle.tool_words.specs.declared.ask.Taking.{Taking}
-use Rattle.tool_words.specs.Asked.{Asked, asked_of, bounds_asked, cause_bounds_asked, causes_asked, causes_with, causing, change_asked, ending, endings_asked, endings_with, fill_of, has_no_folder, header_needs_one, image_asked, image_with, images_asked, input_scripted, inputs_asked, inspect_asked, inspecting, is_set, list_asked, listing_asked, lock_needs_folder, making_asked, number_within, of_named, one_copy, order_of, origin_asked, page_asked, print_asked, print_form, printing, printing_asked, rehearsal_of, rehearsal_with, rehearse_asked, rehearsing, run_bounds_asked, script_asked, scripted, set_asked, setting, shell_of, size_of, too_many_devices, usual_states, usual_work, values_of, variable_of, wanted_by, word_alone, word_asked}
-use Rattle.tool_words.specs.CommandLine.{most_failures, most_states, most_work, ubtool}
+use Rattle.tool_words.specs.Asked.{Asked, asked_of, bounds_asked, cause_bounds_asked, causes_asked, causes_with, causing, change_asked, ending, endings_asked, endings_with, fill_of, has_no_folder, header_needs_one, image_asked, image_with, images_asked, input_scripted, inputs_asked, inspect_asked, inspecting, is_set, list_asked, listing_asked, lock_needs_folder, making_asked, number_within, of_named, one_copy, order_of, origin_asked, page_asked, print_asked, print_form, printing, printing_asked, rehearsal_of, rehearsal_with, rehearse_asked, rehearsing, run_bounds_asked, script_asked, scripted, set_asked, setting, shell_of, size_of, too_many_devices, usual_memory, usual_states, usual_work, values_of, variable_of, wanted_by, word_alone, word_asked}
+use Rattle.tool_words.specs.CommandLine.{most_failures, most_memory, most_states, most_work, ubtool}
 use Rattle.tool_words.specs.declared.ask.OriginError.{OriginError}
 use Rattle.tool_words.specs.declared.called.CalledAs.{CalledAs}
 use Rattle.tool_words.specs.declared.ask.Ask.{Ask}
@@ -92,19 +92,21 @@ rehearse-fit None page failures shell rows = tt
 rehearse-fit (Some list) None failures shell rows = tt
 rehearse-fit (Some list) (Some page) None shell rows = tt
 
-endings-fit : (list : Option (Text × Taking)) (bounds : Option BoundsShown) (states work : Option (Option ℕ)) (shell : Shell) (rows : List Row) → IsFit (endings_with list bounds states work shell rows)
-endings-fit (Some list) (Some bounds) (Some states) (Some work) shell rows = named-fit (inputs_asked list.0 list.1 rows) (λ inputs. ending inputs (record {
+endings-fit : (list : Option (Text × Taking)) (bounds : Option BoundsShown) (states work memory : Option (Option ℕ)) (shell : Shell) (rows : List Row) → IsFit (endings_with list bounds states work memory shell rows)
+endings-fit (Some list) (Some bounds) (Some states) (Some work) (Some memory) shell rows = named-fit (inputs_asked list.0 list.1 rows) (λ inputs. ending inputs (record {
   variable = variable_of rows;
   bounds = in_shell shell bounds;
   states = unwrap_or states usual_states;
   work = unwrap_or work usual_work;
+  memory = unwrap_or memory usual_memory;
   names = values_of (codes "names") rows;
   flow = is_set (codes "flow") rows;
 }) (order_of rows)) (λ inputs. tt)
-endings-fit None bounds states work shell rows = tt
-endings-fit (Some list) None states work shell rows = tt
-endings-fit (Some list) (Some bounds) None work shell rows = tt
-endings-fit (Some list) (Some bounds) (Some states) None shell rows = tt
+endings-fit None bounds states work memory shell rows = tt
+endings-fit (Some list) None states work memory shell rows = tt
+endings-fit (Some list) (Some bounds) None work memory shell rows = tt
+endings-fit (Some list) (Some bounds) (Some states) None memory shell rows = tt
+endings-fit (Some list) (Some bounds) (Some states) (Some work) None shell rows = tt
 
 causes-fit : (list : Option (Text × Taking)) (bounds : Option BoundsShown) (shell : Shell) (rows : List Row) → IsFit (causes_with list bounds shell rows)
 causes-fit (Some list) (Some bounds) shell rows = named-fit (inputs_asked list.0 list.1 rows) (λ inputs. causing inputs (record {
@@ -142,10 +144,11 @@ asked-fit called words = found-fit (subcommand_of ubtool words) (λ s. asked_of 
         let failures = number_within 0 most_failures (codes "failures") rows in
         let states = number_within 0 most_states (codes "states") rows in
         let work = number_within 0 most_work (codes "work") rows in
+        let memory = number_within 0 most_memory (codes "memory") rows in
         let rehearsed = found-fit (shell_of rows) (λ shell. rehearsal_with list (page_asked rows) failures shell rows)
         (λ shell. rehearse-fit list (page_asked rows) failures shell rows) in
-        let ended = found-fit (shell_of rows) (λ shell. endings_with list (run_bounds_asked rows) states work shell rows)
-        (λ shell. endings-fit list (run_bounds_asked rows) states work shell rows) in
+        let ended = found-fit (shell_of rows) (λ shell. endings_with list (run_bounds_asked rows) states work memory shell rows)
+        (λ shell. endings-fit list (run_bounds_asked rows) states work memory shell rows) in
         let caused = found-fit (shell_of rows) (λ shell. causes_with list (cause_bounds_asked rows) shell rows)
         (λ shell. causes-fit list (cause_bounds_asked rows) shell rows) in
         let made = image-fit (first_of (codes "text") rows) (first_of (codes "output") rows) (size_of rows) rows in

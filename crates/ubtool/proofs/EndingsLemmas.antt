@@ -15,7 +15,7 @@ use Rattle.ubtool.proofs.EndingsTurnLemmas.{broken-counted, image-untouched, nev
 use Rattle.ubtool.specs.RehearsingFiles.{LeavesOutput}
 use Rattle.tool_files.specs.Told.{Told}
 use Rattle.tool_steps.proofs.SourceLemmas.{only-read, so-of-sources}
-use Rattle.ubtool.specs.EndingsOfFiles.{TellsCopies, TellsFrom, all_asked, endings_refusal}
+use Rattle.ubtool.specs.EndingsOfFiles.{TellsCopies, TellsFrom, all_asked, bytes_allowed, endings_refusal}
 use Rattle.tool_steps.specs.Images.{copies}
 use Rattle.tool_images.specs.declared.fault.Fault.{Fault}
 use Rattle.tool_images.specs.declared.fault.Fault.TheVariants as fault
@@ -30,46 +30,46 @@ module _ (order : ByteOrder) (inputs : InputsShown) (what : EndingsAsk) (out out
   from-files : (IsSo : Given → Type 0) → IsSo (given_by order (copies sources.images) sources.device_list.items inputs.taking (script_of sources) (all_asked what)) → FromFiles order inputs (all_asked what) x z IsSo
   from-files IsSo so = so-of-sources inputs sources x z (λ copies bytes script. IsSo (given_by order copies bytes inputs.taking script (all_asked what))) read so
 
-  pub tells-refused : (error : RehearsalError) → TellsCopies (given_by order (copies sources.images) sources.device_list.items inputs.taking (script_of sources) (all_asked what)) what.flow what.states what.work out out' (Err error)
+  pub tells-refused : (error : RehearsalError) → TellsCopies (given_by order (copies sources.images) sources.device_list.items inputs.taking (script_of sources) (all_asked what)) what.flow what.states what.work (bytes_allowed what) out out' (Err error)
       → TellsFrom order inputs what out out' x z (Err (endings_refusal what error))
-  tells-refused (refused.Image error) h = from-files (λ g. RefusesEndings g what.flow what.states what.work out out' (refused.Image error)) h
-  tells-refused (refused.Rehearsal (rehearsal.DeviceList error)) h = from-files (λ g. RefusesEndings g what.flow what.states what.work out out' (refused.Rehearsal (rehearsal.DeviceList error))) h
-  tells-refused (refused.Rehearsal rehearsal.NoSuchVariable) h = (refl, from-files (λ g. RefusesEndings g what.flow what.states what.work out out' (refused.Rehearsal rehearsal.NoSuchVariable)) h)
-  tells-refused (refused.Rehearsal rehearsal.NotARun) h = absurd (never (given_by order (copies sources.images) sources.device_list.items inputs.taking (script_of sources) (all_asked what)) what.flow what.states what.work out out' rehearsal.NotARun (λ g no. no) h)
-  tells-refused (refused.Rehearsal rehearsal.Write) h = absurd (never (given_by order (copies sources.images) sources.device_list.items inputs.taking (script_of sources) (all_asked what)) what.flow what.states what.work out out' rehearsal.Write (λ g no. no) h)
-  tells-refused (refused.Rehearsal rehearsal.Memory) h = absurd (never (given_by order (copies sources.images) sources.device_list.items inputs.taking (script_of sources) (all_asked what)) what.flow what.states what.work out out' rehearsal.Memory (λ g no. no) h)
-  tells-refused (refused.Rehearsal rehearsal.Failed) h = absurd (never (given_by order (copies sources.images) sources.device_list.items inputs.taking (script_of sources) (all_asked what)) what.flow what.states what.work out out' rehearsal.Failed (λ g no. no) h)
-  tells-refused (refused.Rehearsal rehearsal.States) h = from-files (λ g. RefusesEndings g what.flow what.states what.work out out' (refused.Rehearsal rehearsal.States)) h
-  tells-refused (refused.Rehearsal rehearsal.Steps) h = from-files (λ g. RefusesEndings g what.flow what.states what.work out out' (refused.Rehearsal rehearsal.Steps)) h
-  tells-refused (refused.Rehearsal rehearsal.Bytes) h = absurd (never (given_by order (copies sources.images) sources.device_list.items inputs.taking (script_of sources) (all_asked what)) what.flow what.states what.work out out' rehearsal.Bytes (λ g no. no) h)
-  tells-refused (refused.Start error) h = from-files (λ g. RefusesEndings g what.flow what.states what.work out out' (refused.Start error)) h
-  tells-refused refused.Write h = from-files (λ g. RefusesEndings g what.flow what.states what.work out out' refused.Write) h
+  tells-refused (refused.Image error) h = from-files (λ g. RefusesEndings g what.flow what.states what.work (bytes_allowed what) out out' (refused.Image error)) h
+  tells-refused (refused.Rehearsal (rehearsal.DeviceList error)) h = from-files (λ g. RefusesEndings g what.flow what.states what.work (bytes_allowed what) out out' (refused.Rehearsal (rehearsal.DeviceList error))) h
+  tells-refused (refused.Rehearsal rehearsal.NoSuchVariable) h = (refl, from-files (λ g. RefusesEndings g what.flow what.states what.work (bytes_allowed what) out out' (refused.Rehearsal rehearsal.NoSuchVariable)) h)
+  tells-refused (refused.Rehearsal rehearsal.NotARun) h = absurd (never (given_by order (copies sources.images) sources.device_list.items inputs.taking (script_of sources) (all_asked what)) what.flow what.states what.work (bytes_allowed what) out out' rehearsal.NotARun (λ g no. no) h)
+  tells-refused (refused.Rehearsal rehearsal.Write) h = absurd (never (given_by order (copies sources.images) sources.device_list.items inputs.taking (script_of sources) (all_asked what)) what.flow what.states what.work (bytes_allowed what) out out' rehearsal.Write (λ g no. no) h)
+  tells-refused (refused.Rehearsal rehearsal.Memory) h = absurd (never (given_by order (copies sources.images) sources.device_list.items inputs.taking (script_of sources) (all_asked what)) what.flow what.states what.work (bytes_allowed what) out out' rehearsal.Memory (λ g no. no) h)
+  tells-refused (refused.Rehearsal rehearsal.Failed) h = absurd (never (given_by order (copies sources.images) sources.device_list.items inputs.taking (script_of sources) (all_asked what)) what.flow what.states what.work (bytes_allowed what) out out' rehearsal.Failed (λ g no. no) h)
+  tells-refused (refused.Rehearsal rehearsal.States) h = from-files (λ g. RefusesEndings g what.flow what.states what.work (bytes_allowed what) out out' (refused.Rehearsal rehearsal.States)) h
+  tells-refused (refused.Rehearsal rehearsal.Steps) h = from-files (λ g. RefusesEndings g what.flow what.states what.work (bytes_allowed what) out out' (refused.Rehearsal rehearsal.Steps)) h
+  tells-refused (refused.Rehearsal rehearsal.Bytes) h = from-files (λ g. RefusesEndings g what.flow what.states what.work (bytes_allowed what) out out' (refused.Rehearsal rehearsal.Bytes)) h
+  tells-refused (refused.Start error) h = from-files (λ g. RefusesEndings g what.flow what.states what.work (bytes_allowed what) out out' (refused.Start error)) h
+  tells-refused refused.Write h = from-files (λ g. RefusesEndings g what.flow what.states what.work (bytes_allowed what) out out' refused.Write) h
   tells-refused refused.Memory h = (only-read inputs sources x z read, h)
 
 -- ---- an answer, by its clauses
 
-pub copies-told : (g : Given) (flow : Bool) (states work : ℕ) (out out' : Sink) (r : Result (Unit {0}) RehearsalError) → IfOk r (λ done. TellsEndings g flow states out out') → IfErr r (λ e. RefusesEndings g flow states work out out' e) → TellsCopies g flow states work out out' r
-copies-told g flow states work out out' (Ok done) ok err = ok
-copies-told g flow states work out out' (Err (refused.Image error)) ok err = err
-copies-told g flow states work out out' (Err (refused.Rehearsal error)) ok err = err
-copies-told g flow states work out out' (Err (refused.Start error)) ok err = err
-copies-told g flow states work out out' (Err refused.Write) ok err = err
-copies-told g flow states work out out' (Err refused.Memory) ok err = untouched g flow states work out out' err
+pub copies-told : (g : Given) (flow : Bool) (states work bytes : ℕ) (out out' : Sink) (r : Result (Unit {0}) RehearsalError) → IfOk r (λ done. TellsEndings g flow states out out') → IfErr r (λ e. RefusesEndings g flow states work bytes out out' e) → TellsCopies g flow states work bytes out out' r
+copies-told g flow states work bytes out out' (Ok done) ok err = ok
+copies-told g flow states work bytes out out' (Err (refused.Image error)) ok err = err
+copies-told g flow states work bytes out out' (Err (refused.Rehearsal error)) ok err = err
+copies-told g flow states work bytes out out' (Err (refused.Start error)) ok err = err
+copies-told g flow states work bytes out out' (Err refused.Write) ok err = err
+copies-told g flow states work bytes out out' (Err refused.Memory) ok err = untouched g flow states work bytes out out' err
 
 -- what it leaves of the output
-pub leaves-refused : (g : Given) (what : EndingsAsk) (out out' : Sink) (error : RehearsalError) → TellsCopies g what.flow what.states what.work out out' (Err error) → LeavesOutput (Err (endings_refusal what error)) out out'
-leaves-refused g what out out' (refused.Image error) h = image-untouched g what.flow what.states what.work out out' error h
-leaves-refused g what out out' (refused.Rehearsal (rehearsal.DeviceList error)) h = rehearsal-untouched g what.flow what.states what.work out out' (rehearsal.DeviceList error) h
-leaves-refused g what out out' (refused.Rehearsal rehearsal.NoSuchVariable) h = rehearsal-untouched g what.flow what.states what.work out out' rehearsal.NoSuchVariable h
-leaves-refused g what out out' (refused.Rehearsal rehearsal.NotARun) h = rehearsal-untouched g what.flow what.states what.work out out' rehearsal.NotARun h
-leaves-refused g what out out' (refused.Rehearsal rehearsal.Steps) h = rehearsal-untouched g what.flow what.states what.work out out' rehearsal.Steps h
-leaves-refused g what out out' (refused.Rehearsal rehearsal.Bytes) h = rehearsal-untouched g what.flow what.states what.work out out' rehearsal.Bytes h
-leaves-refused g what out out' (refused.Rehearsal rehearsal.Write) h = rehearsal-untouched g what.flow what.states what.work out out' rehearsal.Write h
-leaves-refused g what out out' (refused.Rehearsal rehearsal.Memory) h = rehearsal-untouched g what.flow what.states what.work out out' rehearsal.Memory h
-leaves-refused g what out out' (refused.Rehearsal rehearsal.Failed) h = rehearsal-untouched g what.flow what.states what.work out out' rehearsal.Failed h
-leaves-refused g what out out' (refused.Rehearsal rehearsal.States) h = rehearsal-untouched g what.flow what.states what.work out out' rehearsal.States h
-leaves-refused g what out out' (refused.Start error) h = start-untouched g what.flow what.states what.work out out' error h
-leaves-refused g what out out' refused.Write h = broken-counted g what.flow what.states what.work out out' h
+pub leaves-refused : (g : Given) (what : EndingsAsk) (out out' : Sink) (error : RehearsalError) → TellsCopies g what.flow what.states what.work (bytes_allowed what) out out' (Err error) → LeavesOutput (Err (endings_refusal what error)) out out'
+leaves-refused g what out out' (refused.Image error) h = image-untouched g what.flow what.states what.work (bytes_allowed what) out out' error h
+leaves-refused g what out out' (refused.Rehearsal (rehearsal.DeviceList error)) h = rehearsal-untouched g what.flow what.states what.work (bytes_allowed what) out out' (rehearsal.DeviceList error) h
+leaves-refused g what out out' (refused.Rehearsal rehearsal.NoSuchVariable) h = rehearsal-untouched g what.flow what.states what.work (bytes_allowed what) out out' rehearsal.NoSuchVariable h
+leaves-refused g what out out' (refused.Rehearsal rehearsal.NotARun) h = rehearsal-untouched g what.flow what.states what.work (bytes_allowed what) out out' rehearsal.NotARun h
+leaves-refused g what out out' (refused.Rehearsal rehearsal.Steps) h = rehearsal-untouched g what.flow what.states what.work (bytes_allowed what) out out' rehearsal.Steps h
+leaves-refused g what out out' (refused.Rehearsal rehearsal.Bytes) h = rehearsal-untouched g what.flow what.states what.work (bytes_allowed what) out out' rehearsal.Bytes h
+leaves-refused g what out out' (refused.Rehearsal rehearsal.Write) h = rehearsal-untouched g what.flow what.states what.work (bytes_allowed what) out out' rehearsal.Write h
+leaves-refused g what out out' (refused.Rehearsal rehearsal.Memory) h = rehearsal-untouched g what.flow what.states what.work (bytes_allowed what) out out' rehearsal.Memory h
+leaves-refused g what out out' (refused.Rehearsal rehearsal.Failed) h = rehearsal-untouched g what.flow what.states what.work (bytes_allowed what) out out' rehearsal.Failed h
+leaves-refused g what out out' (refused.Rehearsal rehearsal.States) h = rehearsal-untouched g what.flow what.states what.work (bytes_allowed what) out out' rehearsal.States h
+leaves-refused g what out out' (refused.Start error) h = start-untouched g what.flow what.states what.work (bytes_allowed what) out out' error h
+leaves-refused g what out out' refused.Write h = broken-counted g what.flow what.states what.work (bytes_allowed what) out out' h
 leaves-refused g what out out' refused.Memory h = ap (λ (s : Sink). s.failures) h
 
 -- what is asked, from its parts

@@ -6,7 +6,7 @@ use Rattle.rehearse_runs.specs.RehearsedEnvironment.{task_asked}
 use Rattle.rehearse_terms.specs.Asking.{Asking}
 use Rattle.rehearse_terms.specs.State.{Text}
 use Rattle.rehearse_endings.specs.TellingEndings as below
-use Rattle.rehearse_endings.specs.TellingEndings.{AreLines, HasMoreStates, HasMoreSteps, names_of}
+use Rattle.rehearse_endings.specs.TellingEndings.{AreLines, HasMoreBytes, HasMoreStates, HasMoreSteps, names_of}
 use Rattle.rehearse_endings.specs.declared.telling.EndingsAsk.{EndingsAsk}
 use Rattle.rehearse_rules.specs.declared.rehearse_error.RehearseError.{RehearseError}
 use Rattle.rehearse_rules.specs.declared.rehearse_error.RehearseError.TheVariants as rehearsal
@@ -24,12 +24,12 @@ module _ (g : Given) (ask : EndingsAsk) (beginning : Beginning) (text : Option T
   pub tells-image : below.TellsEndings (task_asked beginning.environment beginning.devices text (runs_by ask)) ask old new → TellsOne g ask.flow ask.states old new
   tells-image h = (h.0, on_image (λ names task. AreLines names ask.flow ask.states task h.0) h.1, h.2)
 
-  pub refused-endings : (error : RehearseError) → below.RefusesEndings (task_asked beginning.environment beginning.devices text (runs_by ask)) ask old new error → RefusesOne g ask.flow ask.states ask.work old new (rehearse_error error)
+  pub refused-endings : (error : RehearseError) → below.RefusesEndings (task_asked beginning.environment beginning.devices text (runs_by ask)) ask old new error → RefusesOne g ask.flow ask.states ask.work ask.memory old new (rehearse_error error)
   refused-endings (rehearsal.DeviceList fault) h = absurd h
   refused-endings rehearsal.NoSuchVariable h = (on_image (λ names task. task ≡ None) h.0, h.1)
   refused-endings rehearsal.States h = (on_image (λ names. HasMoreStates names ask.states) h.0, h.1)
   refused-endings rehearsal.Steps h = (on_image (λ names. HasMoreSteps names ask.work) h.0, h.1)
-  refused-endings rehearsal.Bytes h = absurd h
+  refused-endings rehearsal.Bytes h = (on_image (λ names. HasMoreBytes names ask.memory) h.0, h.1)
   refused-endings rehearsal.Write h = (h.0, on_image (λ names task. AreLines names ask.flow ask.states task h.0) h.1, h.2)
   refused-endings rehearsal.NotARun h = absurd h
   refused-endings rehearsal.Failed h = absurd h

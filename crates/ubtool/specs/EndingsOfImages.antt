@@ -9,9 +9,9 @@ use Rattle.board_start.specs.Boards.{OfDevices, OfStart}
 use Rattle.ubtool.specs.Beginning.{OfBoard, OfImage, beginning_of}
 use Rattle.rehearse_terms.specs.Asking.{Asking}
 use Rattle.rehearse_terms.specs.State.{Text}
-use Rattle.rehearse_endings.specs.TellingEndings.{AreLines, HasMoreStates, HasMoreSteps, names_of, source_of}
+use Rattle.rehearse_endings.specs.TellingEndings.{AreLines, HasMoreBytes, HasMoreStates, HasMoreSteps, names_of, source_of}
 use Rattle.rehearse_endings.specs.declared.telling.EndingsAsk.{EndingsAsk}
-use Rattle.rehearse_rules.specs.declared.rehearse_error.RehearseError.TheVariants.{DeviceList, NoSuchVariable, States, Steps}
+use Rattle.rehearse_rules.specs.declared.rehearse_error.RehearseError.TheVariants.{DeviceList, NoSuchVariable, States, Steps, Bytes}
 use Rattle.tool_words.specs.declared.ask.Taking.{Taking}
 use Rattle.ubtool.specs.Given.{Given, all_runs, given}
 use Rattle.ubtool.specs.Headline.{HasBoard}
@@ -39,25 +39,26 @@ AreLinesOf flow states g text = HasBoard g (λ found. AreLines g.asking.names fl
 abbrev pub TellsOne : Given → (flow : Bool) → (states : ℕ) → (old new : Sink) → Type 0
 TellsOne g flow states old new = (text : Text) × AreLinesOf flow states g text × Wrote old new text
 
--- why there are none, with at most so many steps in all
-abbrev pub WhyNoLines : (states work : ℕ) → Given → RehearsalError → Type 0
-WhyNoLines states work g (Image fault) = beginning_of g ≡ Err (OfImage fault)
-WhyNoLines states work g (Rehearsal (DeviceList fault)) = beginning_of g ≡ Err (OfBoard (OfDevices fault))
-WhyNoLines states work g (Start fault) = beginning_of g ≡ Err (OfBoard (OfStart fault))
-WhyNoLines states work g (Rehearsal NoSuchVariable) = HasBoard g (λ found. found ≡ None)
-WhyNoLines states work g (Rehearsal States) = HasBoard g (HasMoreStates g.asking.names states)
-WhyNoLines states work g (Rehearsal Steps) = HasBoard g (HasMoreSteps g.asking.names work)
-WhyNoLines states work g _ = ⊥
+-- why there are none, with at most so many steps in all, and so many bytes
+abbrev pub WhyNoLines : (states work bytes : ℕ) → Given → RehearsalError → Type 0
+WhyNoLines states work bytes g (Image fault) = beginning_of g ≡ Err (OfImage fault)
+WhyNoLines states work bytes g (Rehearsal (DeviceList fault)) = beginning_of g ≡ Err (OfBoard (OfDevices fault))
+WhyNoLines states work bytes g (Start fault) = beginning_of g ≡ Err (OfBoard (OfStart fault))
+WhyNoLines states work bytes g (Rehearsal NoSuchVariable) = HasBoard g (λ found. found ≡ None)
+WhyNoLines states work bytes g (Rehearsal States) = HasBoard g (HasMoreStates g.asking.names states)
+WhyNoLines states work bytes g (Rehearsal Steps) = HasBoard g (HasMoreSteps g.asking.names work)
+WhyNoLines states work bytes g (Rehearsal Bytes) = HasBoard g (HasMoreBytes g.asking.names bytes)
+WhyNoLines states work bytes g _ = ⊥
 
-abbrev pub RefusesOne : Given → (flow : Bool) → (states work : ℕ) → (old new : Sink) → RehearsalError → Type 0
-RefusesOne g flow states work old new Write = (text : Text) × AreLinesOf flow states g text × BrokeOff old new text
-RefusesOne g flow states work old new Memory = HasImage g × (new ≡ old)
-RefusesOne g flow states work old new error = WhyNoLines states work g error × (new ≡ old)
+abbrev pub RefusesOne : Given → (flow : Bool) → (states work bytes : ℕ) → (old new : Sink) → RehearsalError → Type 0
+RefusesOne g flow states work bytes old new Write = (text : Text) × AreLinesOf flow states g text × BrokeOff old new text
+RefusesOne g flow states work bytes old new Memory = HasImage g × (new ≡ old)
+RefusesOne g flow states work bytes old new error = WhyNoLines states work bytes g error × (new ≡ old)
 
 -- the same without an output; memory may run out before that is known
-abbrev pub LacksLines : (states work : ℕ) → Given → RehearsalError → Type 0
-LacksLines states work g Memory = Unit {0}
-LacksLines states work g error = WhyNoLines states work g error
+abbrev pub LacksLines : (states work bytes : ℕ) → Given → RehearsalError → Type 0
+LacksLines states work bytes g Memory = Unit {0}
+LacksLines states work bytes g error = WhyNoLines states work bytes g error
 
 -- ---- so many alternatives
 
@@ -69,25 +70,25 @@ abbrev pub AreAllLines : Given → (flow : Bool) → (states count : ℕ) → Te
 AreAllLines g flow states count text = (parts : List Text) × AreInOrder g flow states count parts text
 
 -- one of them has none, and those before it have these
-pub record LacksTurn (g : Given) (flow : Bool) (states work count : ℕ) (error : RehearsalError) : Type 0 where
+pub record LacksTurn (g : Given) (flow : Bool) (states work bytes count : ℕ) (error : RehearsalError) : Type 0 where
   pub parts : List Text
   pub text : Text
   pub before : AreInOrder g flow states (length parts) parts text
   pub within : length parts < count
-  pub lacks : WhyNoLines states work (named g (length parts + 1)) error
+  pub lacks : WhyNoLines states work bytes (named g (length parts + 1)) error
 
-abbrev pub RefusesTurn : Given → (flow : Bool) → (states work count : ℕ) → RehearsalError → Type 0
-RefusesTurn g flow states work count Memory = Unit {0}
-RefusesTurn g flow states work count error = LacksTurn g flow states work count error
+abbrev pub RefusesTurn : Given → (flow : Bool) → (states work bytes count : ℕ) → RehearsalError → Type 0
+RefusesTurn g flow states work bytes count Memory = Unit {0}
+RefusesTurn g flow states work bytes count error = LacksTurn g flow states work bytes count error
 
 abbrev pub TellsTurns : Given → (flow : Bool) → (states count : ℕ) → (old new : Sink) → Type 0
 TellsTurns g flow states count old new = (text : Text) × AreAllLines g flow states count text × Wrote old new text
 
-abbrev pub RefusesTurns : Given → (flow : Bool) → (states work count : ℕ) → (old new : Sink) → RehearsalError → Type 0
-RefusesTurns g flow states work count old new Write =
+abbrev pub RefusesTurns : Given → (flow : Bool) → (states work bytes count : ℕ) → (old new : Sink) → RehearsalError → Type 0
+RefusesTurns g flow states work bytes count old new Write =
     (text : Text) × AreAllLines g flow states count text × BrokeOff old new text
-RefusesTurns g flow states work count old new Memory = HasImage g × (new ≡ old)
-RefusesTurns g flow states work count old new error = LacksTurn g flow states work count error × (new ≡ old)
+RefusesTurns g flow states work bytes count old new Memory = HasImage g × (new ≡ old)
+RefusesTurns g flow states work bytes count old new error = LacksTurn g flow states work bytes count error × (new ≡ old)
 
 -- ---- all that is given
 
@@ -95,13 +96,13 @@ abbrev pub TellsBy : Given → (flow : Bool) → (states : ℕ) → (turns : Opt
 TellsBy g flow states None old new = TellsOne g flow states old new
 TellsBy g flow states (Some count) old new = TellsTurns g flow states count old new
 
-abbrev pub RefusesBy : Given → (flow : Bool) → (states work : ℕ) → (turns : Option ℕ) → (old new : Sink) → RehearsalError → Type 0
-RefusesBy g flow states work None old new error = RefusesOne g flow states work old new error
-RefusesBy g flow states work (Some count) old new error = RefusesTurns g flow states work count old new error
+abbrev pub RefusesBy : Given → (flow : Bool) → (states work bytes : ℕ) → (turns : Option ℕ) → (old new : Sink) → RehearsalError → Type 0
+RefusesBy g flow states work bytes None old new error = RefusesOne g flow states work bytes old new error
+RefusesBy g flow states work bytes (Some count) old new error = RefusesTurns g flow states work bytes count old new error
 
 -- the lines were written
 abbrev pub TellsEndings : Given → (flow : Bool) → (states : ℕ) → (old new : Sink) → Type 0
 TellsEndings g flow states old new = TellsBy g flow states (turns_of (beginning_of g)) old new
 
-abbrev pub RefusesEndings : Given → (flow : Bool) → (states work : ℕ) → (old new : Sink) → RehearsalError → Type 0
-RefusesEndings g flow states work old new error = RefusesBy g flow states work (turns_of (beginning_of g)) old new error
+abbrev pub RefusesEndings : Given → (flow : Bool) → (states work bytes : ℕ) → (old new : Sink) → RehearsalError → Type 0
+RefusesEndings g flow states work bytes old new error = RefusesBy g flow states work bytes (turns_of (beginning_of g)) old new error

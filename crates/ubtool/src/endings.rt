@@ -1,7 +1,7 @@
 //! `endings`, from files to the lines.
 ghost use Rattle.std.specs.Prelude.{◌≡◌};
 ghost use Rattle.tool_files.specs.Told.{IfTold};
-ghost use Rattle.ubtool.specs.EndingsOfFiles.{TellsCopies, TellsFrom, all_asked, endings_refusal};
+ghost use Rattle.ubtool.specs.EndingsOfFiles.{TellsCopies, TellsFrom, all_asked, bytes_allowed, endings_refusal};
 ghost use Rattle.ubtool.specs.Given.{given_by, script_of};
 ghost use Rattle.ubtool.specs.Faults.{CountsShared};
 ghost use Rattle.tool_steps.specs.Images.{copies};
@@ -21,6 +21,13 @@ use tool_files::Files;
 use tool_images::WordForm;
 use tool_steps::{Sources, read_sources, slices_of};
 use tool_words::{EndingsAsk, Inputs, Taking};
+
+/// How many bytes the states may count together.
+fn allowed_bytes(what: &EndingsAsk) -> u64
+    ensures { result ≡ bytes_allowed what.now }
+{
+    u64::from(what.memory) * 1_048_576
+}
 
 /// How a refusal of the endings is reported.
 fn refusal_of(error: RehearsalError, what: EndingsAsk) -> ProgramFault
@@ -44,7 +51,7 @@ fn endings_of_sources<O: Out>(
     out: &mut O,
 ) -> Result<(), RehearsalError>
     ensures { TellsCopies (given_by order (copies sources.now.images)
-        sources.now.device_list.items taking (script_of sources.now) (all_asked what.now)) what.now.flow what.now.states what.now.work
+        sources.now.device_list.items taking (script_of sources.now) (all_asked what.now)) what.now.flow what.now.states what.now.work (bytes_allowed what.now)
         (O.sink out.old) (O.sink out.new) result }
 {
     let Ok(names) = slices_of(alloc, &what.names) else {
@@ -61,6 +68,7 @@ fn endings_of_sources<O: Out>(
         bounds: what.bounds,
         states: what.states,
         work: what.work,
+        memory: allowed_bytes(what),
         names: &names,
         flow: what.flow,
     };

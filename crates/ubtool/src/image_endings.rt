@@ -20,7 +20,7 @@ use rehearse_endings::{EndingsAsk, endings_env};
 use rehearse_rules::RehearseError;
 use std::alloc::Global;
 
-/// Writes the lines of what a rehearsal begins with. Errors: `NoSuchVariable`; `States`, `Steps`; `Write`, `Memory`.
+/// Writes the lines of what a rehearsal begins with. Errors: `NoSuchVariable`; `States`, `Steps`, `Bytes`; `Write`, `Memory`.
 fn endings_begun<'x, O: Out>(
     alloc: Global,
     beginning: &'x Beginning,
@@ -38,13 +38,15 @@ fn endings_begun<'x, O: Out>(
         bounds: ask.bounds,
         states: ask.states,
         work: ask.work,
+        memory: ask.memory,
         names: ask.names,
         flow: ask.flow,
     };
     endings_env::<Trail, O>(alloc, &beginning.env, &beginning.devices, &ask, out)
 }
 
-/// The same, of all that begins so. Errors: `Rehearsal` with `NoSuchVariable`, `States` and `Steps`; `Write`, `Memory`.
+/// The same, of all that begins so. Errors: `Rehearsal` with `NoSuchVariable`, `States`, `Steps` and `Bytes`;
+/// `Write`, `Memory`.
 fn endings_told<O: Out>(
     alloc: Global,
     beginning: &Beginning,
@@ -55,7 +57,7 @@ fn endings_told<O: Out>(
         → IfOk result (λ _. TellsOne g ask.now.flow ask.now.states (O.sink out.old) (O.sink out.new)) }
     ensures err { (g : Given) → StartsWith g beginning.now (runs_by ask.now)
         → IfErr result
-        (λ e. RefusesOne g ask.now.flow ask.now.states ask.now.work (O.sink out.old) (O.sink out.new) e) }
+        (λ e. RefusesOne g ask.now.flow ask.now.states ask.now.work ask.now.memory (O.sink out.old) (O.sink out.new) e) }
 {
     match endings_begun(alloc, beginning, ask, out) {
         Ok(()) => Ok(()),
@@ -79,7 +81,7 @@ fn endings_of_one<O: Out>(
         ask.now.flow ask.now.states (O.sink out.old) (O.sink out.new)) }
     ensures err { IfErr result
         (λ e. RefusesOne (endings_given order first.now (option_copied second.entry)
-        list.entry.text.now list.entry.taking ask.now) ask.now.flow ask.now.states ask.now.work (O.sink out.old) (O.sink out.new) e) }
+        list.entry.text.now list.entry.taking ask.now) ask.now.flow ask.now.states ask.now.work ask.now.memory (O.sink out.old) (O.sink out.new) e) }
 {
     let shell = ask.bounds.shell();
     match begin(alloc, first, second, order, shell, list, ask.name, ask.text) {
@@ -103,7 +105,7 @@ fn lines_of_one(
 ) -> Result<Vec<u8>, RehearsalError>
     ensures ok { IfOk result (λ v. AreLinesOf ask.now.flow ask.now.states
         (endings_given order first.now (option_copied second.entry) list.entry.text.now list.entry.taking ask.now) v.items) }
-    ensures err { IfErr result (λ e. LacksLines ask.now.states ask.now.work
+    ensures err { IfErr result (λ e. LacksLines ask.now.states ask.now.work ask.now.memory
         (endings_given order first.now (option_copied second.entry) list.entry.text.now list.entry.taking ask.now) e) }
 {
     let mut lines = Over::new(Vec::new(alloc));
@@ -132,7 +134,7 @@ fn lines_by_start(
         ask.now.flow ask.now.states count v.items) }
     ensures err { IfErr result (λ e. RefusesTurn
         (endings_given order first.now (option_copied second.entry) list.entry.text.now list.entry.taking ask.now)
-        ask.now.flow ask.now.states ask.now.work count e) }
+        ask.now.flow ask.now.states ask.now.work ask.now.memory count e) }
 {
     let mut text = Vec::new(alloc);
     for place in 0..count {
@@ -161,7 +163,7 @@ fn lines_in_turn(
         ask.now.flow ask.now.states count v.items) }
     ensures err { IfErr result (λ e. RefusesTurn
         (endings_given order first.now (option_copied second.entry) list.entry.text.now list.entry.taking ask.now)
-        ask.now.flow ask.now.states ask.now.work count e) }
+        ask.now.flow ask.now.states ask.now.work ask.now.memory count e) }
 {
     let start = start_of(alloc, list)?;
     let told = lines_by_start(alloc, first, second, order, list, ask, &start, count);
@@ -178,7 +180,7 @@ fn lines_in_turn(
 /// and none is named, writes the lines of each, in order, each behind a line that tells it.
 ///
 /// Refusals in order: the image; `Start` with `TooMany`; the first fault of the device list; `Start` for
-/// another reason; `NoSuchVariable`; `States`, `Steps` and `Memory`, with nothing written; then `Write` if the
+/// another reason; `NoSuchVariable`; `States`, `Steps`, `Bytes` and `Memory`, with nothing written; then `Write` if the
 /// output fails, with a prefix of the lines written. What refuses one alternative refuses all. `Memory`
 /// comes wherever a growth is made.
 pub fn endings_bytes<O: Out>(
@@ -195,7 +197,7 @@ pub fn endings_bytes<O: Out>(
         ask.now.flow ask.now.states (O.sink out.old) (O.sink out.new)) }
     ensures err { IfErr result
         (λ e. RefusesEndings (endings_given order first.now (option_copied second.entry)
-        list.entry.text.now list.entry.taking ask.now) ask.now.flow ask.now.states ask.now.work (O.sink out.old) (O.sink out.new) e) }
+        list.entry.text.now list.entry.taking ask.now) ask.now.flow ask.now.states ask.now.work ask.now.memory (O.sink out.old) (O.sink out.new) e) }
 {
     let error = match endings_of_one(alloc, first, second, order, list, ask, out) {
         Ok(()) => return Ok(()),

@@ -21,6 +21,7 @@ use Rattle.rehearse_frames.specs.KeysToCome.{AreEnoughAt}
 use Rattle.rehearse_reports.specs.Following.{AreEnoughAtStop}
 use Rattle.rehearse_reports.specs.ReportsShown.{accesses_shown, keys_shown}
 use Rattle.rehearse_endings.specs.Searching.{future, seen_from, IsFound, IsKeptAt, SummedFrom}
+use Rattle.rehearse_endings.specs.Held.{ComesToBytes, HasNoRoom, most_held}
 use Rattle.rehearse_endings.specs.Searched.{IsSpent}
 use Rattle.rehearse_endings.specs.States.{ComesToStates, ComesToSteps}
 use Rattle.rehearse_endings.specs.Indexed.{NoneFits}
@@ -30,10 +31,11 @@ use Rattle.std.proofs.Common.{Err}
 use Rattle.std.proofs.lemmas.Result.{err_from_is_err_and}
 use Rattle.rehearse_endings.proofs.IndexLemmas.{noted_same, nothing}
 use Rattle.rehearse_endings.proofs.EnteredStateLemmas.{refused_as, passed_on, met_as, enters, too_many, too_costly, comes_by, gone_through, none_entered, something}
+use Rattle.rehearse_endings.proofs.HeldLemmas.{too_large}
 use Rattle.rehearse_endings.proofs.WrittenFlowLemmas.{state_drawn, kept_drawn, last_made, ended_drawn, more_on, more_nodes, no_more, more_sums_on, no_more_sums, entered_as}
 use Rattle.rehearse_endings.proofs.SearchLemmas.{marked_present, reached_marked, reached_asks, last_there, keys_of_sides, searched_behind, Room, begun_back, begun_marked, begun_on, begun_won, begun_behind, begun_lost, spent_by, begun_sides, reached_within, reached_as, reached_below, reached_on, won_on, back_there, marks_back, room_kept, lost_on, sides_of, summed_end, summed_sides, all_wider, entries_more}
 use Rattle.rehearse_endings.specs.declared.sum_error.SumError.{SumError}
-use Rattle.rehearse_endings.specs.declared.sum_error.SumError.TheVariants.{States, Steps}
+use Rattle.rehearse_endings.specs.declared.sum_error.SumError.TheVariants.{Bytes, States, Steps}
 use Rattle.rehearse_endings.proofs.searching.+summed.Goals as goal
 
 pub find-requires-clause-depth : goal.find-requires-clause-depth
@@ -142,6 +144,7 @@ returns-in_ok-keys-in-Ends-clause-searched g t c =
       begun = omega arith;
       room = c.requires.room;
       most = refl;
+      held = refl;
       noted = noted_same c.args.table.now _ (λ n p h. h) (λ n p h. h) refl refl c.requires.noted;
       entered = λ p begun at by entered. none_entered (map (λ n. n.now) c.args.names.now) task begun c.args.table.now _ refl c.in_ok-place-in-Ends.ensures.asks refl entered;
     }
@@ -168,6 +171,7 @@ returns-in-Some-clause-searched g t c =
       begun = omega arith;
       room = c.requires.room;
       most = refl;
+      held = refl;
       noted = c.requires.noted;
       entered = λ p begun at by entered. entered;
     }
@@ -268,6 +272,7 @@ returns-in_ok-keys-in-Asks-clause-searched g t c =
           c.in_ok-won-in-Asks.ensures.searched.begun c.back.ensures c.in_ok-lost_stop-in-Asks.ensures.begun c.in_ok-lost_stop-in-Asks.ensures.within c.in_ok-lost-in-Asks.ensures.searched.begun c.keep.ensures.visited;
       room = room_kept c.summed-in-Asks.new.table.visited c.summed-in-Asks.new.table.most after.visited after.most c.keep.ensures.visited c.keep.ensures.most c.in_ok-lost-in-Asks.ensures.searched.room;
       most = c.keep.ensures.most ∙ c.in_ok-lost-in-Asks.ensures.searched.most ∙ c.in_ok-won-in-Asks.ensures.searched.most ∙ c.enter.ensures.most;
+      held = c.in_ok-keys-in-Asks.ensures.held ∙ c.in_ok-lost-in-Asks.ensures.searched.held ∙ c.in_ok-won-in-Asks.ensures.searched.held ∙ c.enter.ensures.held;
       noted = c.in_ok-keys-in-Asks.ensures.noted (noted_same c.summed-in-Asks.new.table _ (λ n p h. h) (λ n p h. h) refl refl c.in_ok-lost-in-Asks.ensures.searched.noted);
       entered = λ p begun at by entered.
           let met = met_as task p c.args.stop Asks r.present c.in-Asks.is at in
@@ -360,7 +365,7 @@ returns-in_err-won_stop-in-Asks-clause-refused g t c = λ p begun at by entered.
     let task = task_in c.args.rehearsal.now in
     let error = err_from_is_err_and c.from_residual-in_err-won_stop-in-Asks.result c.from_residual-in_err-won_stop-in-Asks.ensures.1 in
     passed_on (λ (x : SumError). x ≡ States → ComesToStates names task (c.args.table.now.most + 1)) c.from_residual-in_err-won_stop-in-Asks.result c.in_err-won_stop-in-Asks.field-0.0 (error.1 ∙ ap Err error.2)
-    (λ is. absurd (c.in_err-won_stop-in-Asks.ensures.err is))
+    (λ is. absurd (c.in_err-won_stop-in-Asks.ensures.err.0 is))
 
 pub returns-in_err-won_stop-in-Asks-clause-spent : goal.returns-in_err-won_stop-in-Asks-clause-spent
 returns-in_err-won_stop-in-Asks-clause-spent g t c =
@@ -424,7 +429,7 @@ returns-in_err-lost_stop-in-Asks-clause-refused g t c = λ p begun at by entered
     let task = task_in c.args.rehearsal.now in
     let error = err_from_is_err_and c.from_residual-in_err-lost_stop-in-Asks.result c.from_residual-in_err-lost_stop-in-Asks.ensures.1 in
     passed_on (λ (x : SumError). x ≡ States → ComesToStates names task (c.args.table.now.most + 1)) c.from_residual-in_err-lost_stop-in-Asks.result c.in_err-lost_stop-in-Asks.field-0.0 (error.1 ∙ ap Err error.2)
-    (λ is. absurd (c.in_err-lost_stop-in-Asks.ensures.err is))
+    (λ is. absurd (c.in_err-lost_stop-in-Asks.ensures.err.0 is))
 
 pub returns-in_err-lost_stop-in-Asks-clause-spent : goal.returns-in_err-lost_stop-in-Asks-clause-spent
 returns-in_err-lost_stop-in-Asks-clause-spent g t c =
@@ -493,3 +498,147 @@ returns-in_err-lost-in-Asks-clause-costly g t c = λ p begun at by entered.
     passed_on (λ (x : SumError). x ≡ Steps → ComesToSteps names task c.args.most_work) c.from_residual-in_err-lost-in-Asks.result c.in_err-lost-in-Asks.field-0.0 (error.1 ∙ ap Err error.2)
     (λ is. c.in_err-lost-in-Asks.ensures.costly (p ++ Failure ∷ []) ((p, r.present) ∷ begun) (stopped_on task p r.present lost_at Failure c.in_ok-lost_stop-in-Asks.lost_stop met sides.lost)
     (comes_by p Failure r.present begun by) won is)
+
+-- ---- the bytes that are refused
+
+pub returns-in_err-enter-in-Asks-clause-large : goal.returns-in_err-enter-in-Asks-clause-large
+returns-in_err-enter-in-Asks-clause-large g t c = λ p begun at by entered.
+    let names = map (λ n. n.now) c.args.names.now in
+    let task = task_in c.args.rehearsal.now in
+    let bytes = most_held c.args.table.now in
+    let error = err_from_is_err_and c.from_residual-in_err-enter-in-Asks.result c.from_residual-in_err-enter-in-Asks.ensures.1 in
+    passed_on (λ (x : SumError). x ≡ Bytes → ComesToBytes names task bytes) c.from_residual-in_err-enter-in-Asks.result c.in_err-enter-in-Asks.field-0.0 (error.1 ∙ ap Err error.2)
+    (λ is. absurd (let other : States ≡ Bytes = sym c.in_err-enter-in-Asks.ensures.err ∙ is in cc))
+
+pub returns-in_err-won_stop-in-Asks-clause-large : goal.returns-in_err-won_stop-in-Asks-clause-large
+returns-in_err-won_stop-in-Asks-clause-large g t c = λ p begun at by entered.
+    let names = map (λ n. n.now) c.args.names.now in
+    let task = task_in c.args.rehearsal.now in
+    let bytes = most_held c.args.table.now in
+    let error = err_from_is_err_and c.from_residual-in_err-won_stop-in-Asks.result c.from_residual-in_err-won_stop-in-Asks.ensures.1 in
+    passed_on (λ (x : SumError). x ≡ Bytes → ComesToBytes names task bytes) c.from_residual-in_err-won_stop-in-Asks.result c.in_err-won_stop-in-Asks.field-0.0 (error.1 ∙ ap Err error.2)
+    (λ is. absurd (c.in_err-won_stop-in-Asks.ensures.err.1 is))
+
+pub returns-in_err-lost_stop-in-Asks-clause-large : goal.returns-in_err-lost_stop-in-Asks-clause-large
+returns-in_err-lost_stop-in-Asks-clause-large g t c = λ p begun at by entered.
+    let names = map (λ n. n.now) c.args.names.now in
+    let task = task_in c.args.rehearsal.now in
+    let bytes = most_held c.args.table.now in
+    let error = err_from_is_err_and c.from_residual-in_err-lost_stop-in-Asks.result c.from_residual-in_err-lost_stop-in-Asks.ensures.1 in
+    passed_on (λ (x : SumError). x ≡ Bytes → ComesToBytes names task bytes) c.from_residual-in_err-lost_stop-in-Asks.result c.in_err-lost_stop-in-Asks.field-0.0 (error.1 ∙ ap Err error.2)
+    (λ is. absurd (c.in_err-lost_stop-in-Asks.ensures.err.1 is))
+
+pub returns-in_err-won-in-Asks-clause-large : goal.returns-in_err-won-in-Asks-clause-large
+returns-in_err-won-in-Asks-clause-large g t c = λ p begun at by entered.
+    let names = map (λ n. n.now) c.args.names.now in
+    let task = task_in c.args.rehearsal.now in
+    let r₀ = g.S.Store.record_of c.args.store.now in
+    let r = g.S.Store.record_of c.mark.new.self in
+    let present = marked_present r₀ r c.in_ok-mark-in-Asks.ensures.ok in
+    let none_here = subst (NoneFits task.limits.step_bound task.limits.device_bound c.args.table.now.entries.items) (sym present) (nothing _ _ c.in_ok-found-in-Asks.field-0 c.in_default.is c.in_ok-found-in-Asks.ensures) in
+    let met = met_as task p c.args.stop Asks r.present c.in-Asks.is (subst (λ (m : Moment). StoppedAt task p c.args.stop m) (sym present) at) in
+    let won_at = (g.S.Store.record_of c.resumed.new.store).present in
+    let won_stops = won_on task r (g.S.Store.record_of c.mark-in-Asks.new.self) (g.S.Store.record_of c.resumed.new.store) c.in_ok-won_stop-in-Asks.won_stop c.in_ok-mark-in-Asks-2.ensures.ok c.in_ok-won_stop-in-Asks.ensures.stops in
+    let bytes = most_held c.args.table.now in
+    let error = err_from_is_err_and c.from_residual-in_err-won-in-Asks.result c.from_residual-in_err-won-in-Asks.ensures.1 in
+    passed_on (λ (x : SumError). x ≡ Bytes → ComesToBytes names task bytes) c.from_residual-in_err-won-in-Asks.result c.in_err-won-in-Asks.field-0.0 (error.1 ∙ ap Err error.2)
+    (λ is. subst (ComesToBytes names task) c.enter.ensures.held
+    (c.in_err-won-in-Asks.ensures.large (p ++ Success ∷ []) ((p, r.present) ∷ begun) (stopped_on task p r.present won_at Success c.in_ok-won_stop-in-Asks.won_stop met won_stops) (comes_by p Success r.present begun by)
+    (enters names task p r.present begun met by c.args.table.now entered none_here c.enter.new.self c.enter.ensures.entries c.enter.ensures.flow c.in_ok-enter-in-Asks.ensures.visited) is))
+
+pub returns-in_err-lost-in-Asks-clause-large : goal.returns-in_err-lost-in-Asks-clause-large
+returns-in_err-lost-in-Asks-clause-large g t c = λ p begun at by entered.
+    let names = map (λ n. n.now) c.args.names.now in
+    let task = task_in c.args.rehearsal.now in
+    let r₀ = g.S.Store.record_of c.args.store.now in
+    let r = g.S.Store.record_of c.mark.new.self in
+    let present = marked_present r₀ r c.in_ok-mark-in-Asks.ensures.ok in
+    let none_here = subst (NoneFits task.limits.step_bound task.limits.device_bound c.args.table.now.entries.items) (sym present) (nothing _ _ c.in_ok-found-in-Asks.field-0 c.in_default.is c.in_ok-found-in-Asks.ensures) in
+    let met = met_as task p c.args.stop Asks r.present c.in-Asks.is (subst (λ (m : Moment). StoppedAt task p c.args.stop m) (sym present) at) in
+    let won_at = (g.S.Store.record_of c.resumed.new.store).present in
+    let won_stops = won_on task r (g.S.Store.record_of c.mark-in-Asks.new.self) (g.S.Store.record_of c.resumed.new.store) c.in_ok-won_stop-in-Asks.won_stop c.in_ok-mark-in-Asks-2.ensures.ok c.in_ok-won_stop-in-Asks.ensures.stops in
+    let lost_at = (g.S.Store.record_of c.resumed-in-Asks.new.store).present in
+    let sides = sides_of task c.args.depth c.args.stop c.in_ok-won_stop-in-Asks.won_stop c.in_ok-lost_stop-in-Asks.lost_stop r (g.S.Store.record_of c.mark-in-Asks.new.self) (g.S.Store.record_of c.resumed.new.store) (g.S.Store.record_of c.summed.new.store) (g.S.Store.record_of c.back.new.self) (g.S.Store.record_of c.resumed-in-Asks.new.store)
+    c.in-Asks.is (reached_marked task c.args.depth c.args.stop r₀ r c.in_ok-mark-in-Asks.ensures.ok c.requires.reached) c.in_ok-mark-in-Asks-2.ensures.ok c.in_ok-won_stop-in-Asks.ensures.stops c.in_ok-won_stop-in-Asks.ensures.marks c.in_ok-won-in-Asks.ensures.searched.marks c.back.ensures c.in_ok-lost_stop-in-Asks.ensures.stops in
+    let won =
+    c.in_ok-won-in-Asks.ensures.searched.entered (p ++ Success ∷ []) ((p, r.present) ∷ begun) (stopped_on task p r.present won_at Success c.in_ok-won_stop-in-Asks.won_stop met won_stops) (comes_by p Success r.present begun by)
+    (enters names task p r.present begun met by c.args.table.now entered none_here c.enter.new.self c.enter.ensures.entries c.enter.ensures.flow c.in_ok-enter-in-Asks.ensures.visited) in
+    let bytes = most_held c.args.table.now in
+    let error = err_from_is_err_and c.from_residual-in_err-lost-in-Asks.result c.from_residual-in_err-lost-in-Asks.ensures.1 in
+    passed_on (λ (x : SumError). x ≡ Bytes → ComesToBytes names task bytes) c.from_residual-in_err-lost-in-Asks.result c.in_err-lost-in-Asks.field-0.0 (error.1 ∙ ap Err error.2)
+    (λ is. subst (ComesToBytes names task) (c.in_ok-won-in-Asks.ensures.searched.held ∙ c.enter.ensures.held)
+    (c.in_err-lost-in-Asks.ensures.large (p ++ Failure ∷ []) ((p, r.present) ∷ begun) (stopped_on task p r.present lost_at Failure c.in_ok-lost_stop-in-Asks.lost_stop met sides.lost)
+    (comes_by p Failure r.present begun by) won is))
+
+pub returns-in_err-keys-in-Asks-clause-refused : goal.returns-in_err-keys-in-Asks-clause-refused
+returns-in_err-keys-in-Asks-clause-refused g t c = λ p begun at by entered.
+    let names = map (λ n. n.now) c.args.names.now in
+    let task = task_in c.args.rehearsal.now in
+    let error = err_from_is_err_and c.from_residual-in_err-keys-in-Asks.result c.from_residual-in_err-keys-in-Asks.ensures.1 in
+    passed_on (λ (x : SumError). x ≡ States → ComesToStates names task (c.args.table.now.most + 1)) c.from_residual-in_err-keys-in-Asks.result c.in_err-keys-in-Asks.field-0.0 (error.1 ∙ ap Err error.2)
+    (λ is. absurd (c.in_err-keys-in-Asks.ensures.err.0 is))
+
+pub returns-in_err-keys-in-Asks-clause-spent : goal.returns-in_err-keys-in-Asks-clause-spent
+returns-in_err-keys-in-Asks-clause-spent g t c =
+    let error = err_from_is_err_and c.from_residual-in_err-keys-in-Asks.result c.from_residual-in_err-keys-in-Asks.ensures.1 in
+    passed_on (λ (x : SumError). x ≡ Steps → IsSpent c.args.most_work (g.S.Store.record_of c.back-in-Asks.new.self)) c.from_residual-in_err-keys-in-Asks.result c.in_err-keys-in-Asks.field-0.0 (error.1 ∙ ap Err error.2)
+    (λ is. absurd (c.in_err-keys-in-Asks.ensures.err.1 is))
+
+pub returns-in_err-keys-in-Asks-clause-costly : goal.returns-in_err-keys-in-Asks-clause-costly
+returns-in_err-keys-in-Asks-clause-costly g t c = λ p begun at by entered.
+    let names = map (λ n. n.now) c.args.names.now in
+    let task = task_in c.args.rehearsal.now in
+    let error = err_from_is_err_and c.from_residual-in_err-keys-in-Asks.result c.from_residual-in_err-keys-in-Asks.ensures.1 in
+    passed_on (λ (x : SumError). x ≡ Steps → ComesToSteps names task c.args.most_work) c.from_residual-in_err-keys-in-Asks.result c.in_err-keys-in-Asks.field-0.0 (error.1 ∙ ap Err error.2)
+    (λ is. absurd (c.in_err-keys-in-Asks.ensures.err.1 is))
+
+-- the state was searched, and has no room
+pub returns-in_err-keys-in-Asks-clause-large : goal.returns-in_err-keys-in-Asks-clause-large
+returns-in_err-keys-in-Asks-clause-large g t c = λ p begun at by entered.
+    let names = map (λ n. n.now) c.args.names.now in
+    let task = task_in c.args.rehearsal.now in
+    let r₀ = g.S.Store.record_of c.args.store.now in
+    let r = g.S.Store.record_of c.mark.new.self in
+    let marked = g.S.Store.record_of c.mark-in-Asks.new.self in
+    let tried = g.S.Store.record_of c.resumed.new.store in
+    let behind = g.S.Store.record_of c.summed.new.store in
+    let back = g.S.Store.record_of c.back.new.self in
+    let failed = g.S.Store.record_of c.resumed-in-Asks.new.store in
+    let done = g.S.Store.record_of c.summed-in-Asks.new.store in
+    let last = g.S.Store.record_of c.back-in-Asks.new.self in
+    let won = c.in_ok-won-in-Asks.won in
+    let lost = c.in_ok-lost-in-Asks.lost in
+    let won_at = tried.present in
+    let lost_at = failed.present in
+    let first = c.in_ok-mark-in-Asks.ensures.ok in
+    let second = c.in_ok-mark-in-Asks-2.ensures.ok in
+    let sides = sides_of task c.args.depth c.args.stop c.in_ok-won_stop-in-Asks.won_stop c.in_ok-lost_stop-in-Asks.lost_stop r marked tried behind back failed
+    c.in-Asks.is (reached_marked task c.args.depth c.args.stop r₀ r first c.requires.reached) second c.in_ok-won_stop-in-Asks.ensures.stops c.in_ok-won_stop-in-Asks.ensures.marks c.in_ok-won-in-Asks.ensures.searched.marks c.back.ensures c.in_ok-lost_stop-in-Asks.ensures.stops in
+    let present = marked_present r₀ r first in
+    let none_here = subst (NoneFits task.limits.step_bound task.limits.device_bound c.args.table.now.entries.items) (sym present) (nothing _ _ c.in_ok-found-in-Asks.field-0 c.in_default.is c.in_ok-found-in-Asks.ensures) in
+    let at_mark = marked_present r marked second in
+    let at_back = back_there r marked tried behind back second c.in_ok-won_stop-in-Asks.ensures.marks c.in_ok-won-in-Asks.ensures.searched.marks c.back.ensures in
+    let at_last = last_there r₀ r done last first c.back-in-Asks.ensures
+    (marks_back r marked tried behind back failed done second c.in_ok-won_stop-in-Asks.ensures.marks c.in_ok-won-in-Asks.ensures.searched.marks c.back.ensures c.in_ok-lost_stop-in-Asks.ensures.marks c.in_ok-lost-in-Asks.ensures.searched.marks) in
+    let log = c.logged-devices.ensures ∙ ap (λ (m : Moment). length m.log) (sym (marked_present r₀ r first)) in
+    let steps = c.steps-steps.ensures ∙ ap (λ (m : Moment). m.steps) at_last in
+    let keys = keys_shown c.in_ok-both-in-Asks.both.items in
+    let keys_at = keys_of_sides names task r.present marked.present back.present c.in_ok-won_stop-in-Asks.won_stop c.in_ok-lost_stop-in-Asks.lost_stop won_at lost_at (accesses_shown c.resumed.new.reported) (accesses_shown c.resumed-in-Asks.new.reported) (keys_shown won.keys.items) (keys_shown lost.keys.items) keys (reached_asks task c.args.depth r.present sides.reached) at_mark at_back
+    c.in_ok-won_stop-in-Asks.ensures.keys c.in_ok-won-in-Asks.ensures.searched.keys c.in_ok-lost_stop-in-Asks.ensures.keys c.in_ok-lost-in-Asks.ensures.searched.keys c.in_ok-both-in-Asks.ensures.both in
+    let words_are : c.deref.result.now ≡ c.in_ok-words-in-Asks.words.items = search rules in
+    let normal = c.fails_normally-normal.ensures ∙ ap (λ (ws : List (Vec ℕ Global)). fails_normally task.limits.devices (bytes_of_words ws)) words_are in
+    let won_shown = c.in_ok-won-in-Asks.ensures.searched.shown in
+    let lost_shown = c.in_ok-lost-in-Asks.ensures.searched.shown in
+    let shown = summary_of_sides (of_both_up c.fails_normally-normal.result) c.steps-steps.result c.logged-devices.result won_shown lost_shown in
+    let summed = summed_sides names task c.args.depth r.present sides.reached c.in_ok-won_stop-in-Asks.won_stop c.in_ok-lost_stop-in-Asks.lost_stop won_at lost_at won_shown lost_shown shown c.steps-steps.result c.logged-devices.result c.fails_normally-normal.result (bytes_of_words c.in_ok-words-in-Asks.words.items) steps log sides.won sides.lost c.in_ok-words-in-Asks.ensures normal c.in_ok-won-in-Asks.ensures.searched.sums c.in_ok-lost-in-Asks.ensures.searched.sums refl in
+    let met = met_as task p c.args.stop Asks r.present c.in-Asks.is (subst (λ (m : Moment). StoppedAt task p c.args.stop m) (sym present) at) in
+    let gone =
+    c.in_ok-won-in-Asks.ensures.searched.entered (p ++ Success ∷ []) ((p, r.present) ∷ begun) (stopped_on task p r.present won_at Success c.in_ok-won_stop-in-Asks.won_stop met sides.won) (comes_by p Success r.present begun by)
+    (enters names task p r.present begun met by c.args.table.now entered none_here c.enter.new.self c.enter.ensures.entries c.enter.ensures.flow c.in_ok-enter-in-Asks.ensures.visited) in
+    let left =
+    c.in_ok-lost-in-Asks.ensures.searched.entered (p ++ Failure ∷ []) ((p, r.present) ∷ begun) (stopped_on task p r.present lost_at Failure c.in_ok-lost_stop-in-Asks.lost_stop met sides.lost) (comes_by p Failure r.present begun by) gone in
+    let table = c.summed-in-Asks.new.table in
+    let error = err_from_is_err_and c.from_residual-in_err-keys-in-Asks.result c.from_residual-in_err-keys-in-Asks.ensures.1 in
+    passed_on (λ (x : SumError). x ≡ Bytes → ComesToBytes names task (most_held c.args.table.now)) c.from_residual-in_err-keys-in-Asks.result c.in_err-keys-in-Asks.field-0.0 (error.1 ∙ ap Err error.2)
+    (λ is. subst (ComesToBytes names task) (c.in_ok-lost-in-Asks.ensures.searched.held ∙ c.in_ok-won-in-Asks.ensures.searched.held ∙ c.enter.ensures.held)
+    (too_large names task p r.present begun table keys shown left (subst (λ (m : Moment). HasNoRoom table.room m keys) at_last (c.in_err-keys-in-Asks.ensures.full is)) keys_at summed))

@@ -1,6 +1,13 @@
-use Rattle.std.proofs.Common.{◌∙◌, ap, sym, subst, reverse, ℕ}
+use Rattle.std.proofs.Common.{◌∙◌, ◌≡◌, ap, sym, subst, reverse, ℕ, Err}
+use Rattle.std.proofs.lemmas.Result.{err_from_is_err_and}
 use Rattle.rehearse_states.specs.PlaceNumbers.{place_number}
+use Rattle.rehearse_reports.specs.ReportsShown.{keys_shown}
+use Rattle.rehearse_endings.specs.Held.{HasNoRoom}
 use Rattle.rehearse_endings.specs.Searching.{IsKept}
+use Rattle.rehearse_endings.specs.declared.sum_error.SumError.{SumError}
+use Rattle.rehearse_endings.specs.declared.sum_error.SumError.TheVariants.{Bytes}
+use Rattle.rehearse_endings.proofs.EnteredStateLemmas.{passed_on}
+use Rattle.rehearse_endings.proofs.HeldLemmas.{no_room}
 use Rattle.rehearse_endings.proofs.searching.keep.Goals as goal
 
 pub keep-requires : goal.keep-requires
@@ -18,3 +25,12 @@ returns-clause-kept g c =
           subst (λ (steps : ℕ). IsKept c.args.table.now.entries.items c.keep.new.self.entries.items c.in_ok-frames.frames.items c.in_ok-known.known.items steps c.args.devices c.args.summary)
           c.steps.ensures c.in_ok-keep.ensures.kept;
     }
+
+pub returns-in_err-keep-clause-full : goal.returns-in_err-keep-clause-full
+returns-in_err-keep-clause-full g c =
+    let m = (g.S.Store.record_of c.args.store.now).present in
+    let keys = keys_shown c.args.keys.items in
+    let room = c.args.table.now.room in
+    let error = err_from_is_err_and c.from_residual-in_err-keep.result c.from_residual-in_err-keep.ensures.1 in
+    passed_on (λ (x : SumError). x ≡ Bytes → HasNoRoom room m keys) c.from_residual-in_err-keep.result c.in_err-keep.field-0.0 (error.1 ∙ ap Err error.2)
+    (λ is. no_room room m keys c.in_ok-frames.frames.items c.in_ok-known.known.items (ap reverse c.in_ok-frames.ensures ∙ c.frames.ensures) c.in_ok-known.ensures.hold c.in_ok-known.ensures.keys (c.in_err-keep.ensures.full is))

@@ -4,15 +4,17 @@ use Rattle.rehearse_states.specs.Drawing.{asks_in, node_shown, nodes_shown}
 use Rattle.rehearse_states.proofs.NodeLemmas.{asks_in_lines}
 use Rattle.rehearse_endings.proofs.WrittenFlowLemmas.{whole_flow}
 use Rattle.std.proofs.lemmas.Result.{err_from_is_err_and}
+use Rattle.rehearse_endings.specs.Held.{ComesToBytes}
 use Rattle.rehearse_endings.specs.States.{ComesToStates, ComesToSteps}
 use Rattle.rehearse_endings.proofs.EnteredStateLemmas.{first_entered, whole_asks, whole_states, refused_as, passed_on, costly_at_once}
+use Rattle.rehearse_endings.proofs.HeldLemmas.{whole_held}
 use Rattle.rehearse_machine.specs.Tasks.{task_in}
 use Rattle.rehearse_terms.specs.Bounds.{most_steps}
 use Rattle.rehearse_states.specs.SumNodes.{DrawsRows, sum_shown}
 use Rattle.rehearse_states.specs.declared.sum_nodes.SumNode as sum
 use Rattle.rehearse_endings.proofs.SearchLemmas.{reached_first, whole_rows}
 use Rattle.rehearse_endings.specs.declared.sum_error.SumError.{SumError}
-use Rattle.rehearse_endings.specs.declared.sum_error.SumError.TheVariants.{Steps}
+use Rattle.rehearse_endings.specs.declared.sum_error.SumError.TheVariants.{Bytes, Steps}
 use Rattle.rehearse_endings.proofs.searching.sum_endings.Goals as goal
 
 pub summed-requires-clause-reached : goal.summed-requires-clause-reached
@@ -85,3 +87,19 @@ returns-then-is_spent-clause-costly g c = λ is.
     let begun = c.in_ok-stop.ensures.begun in
     let within = c.in_ok-stop.ensures.within in
     costly_at_once names (task_in c.args.rehearsal.now) c.args.most_work (g.S.Store.record_of c.begin_text.new.store).begun (c.is_spent.ensures.spent (search rules)) (omega (arith, none, begun, within))
+
+pub returns-clause-held : goal.returns-clause-held
+returns-clause-held g c =
+    let names = map (λ n. n.now) c.args.names.now in
+    let task = task_in c.args.rehearsal.now in
+    let first = first_entered names task c.new-table.result c.new-table.ensures.entries c.new-table.ensures.flow c.new-table.ensures.visited in
+    whole_held names task c.summed.new.table c.args.most_bytes (c.in_ok-future.ensures.searched.held ∙ c.new-table.ensures.held) (c.in_ok-future.ensures.searched.entered [] [] c.in_ok-stop.ensures.stops tt first)
+
+pub returns-in_err-future-clause-large : goal.returns-in_err-future-clause-large
+returns-in_err-future-clause-large g c =
+    let names = map (λ n. n.now) c.args.names.now in
+    let task = task_in c.args.rehearsal.now in
+    let first = first_entered names task c.new-table.result c.new-table.ensures.entries c.new-table.ensures.flow c.new-table.ensures.visited in
+    let error = err_from_is_err_and c.from_residual-in_err-future.result c.from_residual-in_err-future.ensures.1 in
+    passed_on (λ (x : SumError). x ≡ Bytes → ComesToBytes names task c.args.most_bytes) c.from_residual-in_err-future.result c.in_err-future.field-0.0 (error.1 ∙ ap Err error.2)
+    (λ is. subst (ComesToBytes names task) c.new-table.ensures.held (c.in_err-future.ensures.large [] [] c.in_ok-stop.ensures.stops tt first is))

@@ -21,8 +21,8 @@ returns-in-Err-clause-err c =
     let same : endings_given c.args.order c.args.first.now (option_copied c.args.second) c.named-list.result.text.now c.named-list.result.taking c.args.ask.now ≡ named g (c.loop-place.place + 1) =
     ap (λ (t : Text). endings_given c.args.order c.args.first.now (option_copied c.args.second) t c.named-list.result.taking c.args.ask.now) c.named-list.ensures.text
     ∙ ap (λ (k : Taking). endings_given c.args.order c.args.first.now (option_copied c.args.second) c.args.list.text.now k c.args.ask.now) c.named-list.ensures.taking in
-    turn-refused g c.args.ask.now.flow c.args.ask.now.states c.args.ask.now.work c.args.count c.loop-place.place c.loop-place.invariant.0 c.loop-place.text.items c.loop-place.invariant.1 c.loop-place-test.true c.in-Err.error
-    (subst (λ (h : Given). LacksLines c.args.ask.now.states c.args.ask.now.work h c.in-Err.error) same c.in-Err.ensures.err)
+    turn-refused g c.args.ask.now.flow c.args.ask.now.states c.args.ask.now.work c.args.ask.now.memory c.args.count c.loop-place.place c.loop-place.invariant.0 c.loop-place.text.items c.loop-place.invariant.1 c.loop-place-test.true c.in-Err.error
+    (subst (λ (h : Given). LacksLines c.args.ask.now.states c.args.ask.now.work c.args.ask.now.memory h c.in-Err.error) same c.in-Err.ensures.err)
 
 pub loop-place-preserved : goal.loop-place-preserved
 loop-place-preserved c =
