@@ -56,7 +56,7 @@ complete -c ubtool -n __ubtool_after_help -a 'printenv setenv rehearse endings c
 # options: completions
 # Whether the word is an option whose value comes after it.
 function __ubtool_takes_value
-    contains -- $argv[1] -c --config -i --image --second --text -l --lock -s --script -d --device-list --given -b --variable --devices --steps --shell --word --failures --after --limit --states --work --size --fill -o --output
+    contains -- $argv[1] -c --config -i --image --second --text -l --lock -s --script -d --device-list --given -b --variable --devices --steps --shell --word --failures --after --limit --states --work --memory --size --fill -o --output
 end
 
 complete -c ubtool -s h -l help -d 'Print help'
@@ -90,6 +90,7 @@ complete -c ubtool -n '__fish_seen_subcommand_from rehearse' -l after -x -d 'Beg
 complete -c ubtool -n '__fish_seen_subcommand_from rehearse' -l limit -x -d 'At most N records, 1 to 4294967295'
 complete -c ubtool -n '__fish_seen_subcommand_from endings' -l states -x -d 'At most N states in all, 0 to 4294967295'
 complete -c ubtool -n '__fish_seen_subcommand_from endings' -l work -x -d 'At most N steps (commands begun) in all, 0 to 4294967295'
+complete -c ubtool -n '__fish_seen_subcommand_from endings' -l memory -x -d 'At most N MiB of states in all, 0 to 4294967295'
 complete -c ubtool -n '__fish_seen_subcommand_from endings' -l flow -d 'Write the states as a graph, a line each'
 complete -c ubtool -n '__fish_seen_subcommand_from causes' -l check -d 'Only what does not boot; status 1 if there is any'
 complete -c ubtool -n '__fish_seen_subcommand_from image' -l size -x -d 'Bytes of the image, at most 1048576'

@@ -86,6 +86,7 @@ _ubtool_options() {
                 '--shell[The shell by whose rules the scripts run\: profile, old-2023.01, old-2025.01, old, modern-2025.01 or modern]:name:(profile old-2023.01 old-2025.01 old modern-2025.01 modern)'
                 '--states[At most N states in all, 0 to 4294967295]:n: '
                 '--work[At most N steps (commands begun) in all, 0 to 4294967295]:n: '
+                '--memory[At most N MiB of states in all, 0 to 4294967295]:n: '
                 '--flow[Write the states as a graph, a line each]'
                 '(- *)'{-h,--help}'[Print help]'
                 '(- *)'{-V,--version}'[Print version]'

@@ -99,9 +99,36 @@ a loop without an end, by the steps in all that a call may begin, and by the def
   ends 2 first 0 fewest 0 0 cut steps
   all 2 states 1
 
+as much memory as the states count
+  $ ubtool endings -c flow.config -d devices -b load --memory 1
+  ends 2 first 00 fewest 0 00 end 0
+  ends 2 first 01 fewest 1 01 end 1
+  fails test -e mmc 0:1 /x
+  all 4 states 2
+
+one state counts more than nothing
+  $ ubtool endings -c flow.config -d devices -b load --memory 0
+  ! ubtool: more memory than allowed
+  [1]
+
+more memory than allowed, before more steps than allowed are begun
+  $ ubtool endings -c flow.config -d devices -b load --memory 0 --work 2
+  ! ubtool: more memory than allowed
+  [1]
+
+more states than allowed, before one is kept
+  $ ubtool endings -c flow.config -d devices -b load --states 1 --memory 0
+  ! ubtool: more states than allowed
+  [1]
+
+a flow takes the same memory
+  $ ubtool endings -c flow.config -d devices -b load --flow --memory 0
+  ! ubtool: more memory than allowed
+  [1]
+
 no device command, and no state
   $ : >devices.none
-  $ ubtool endings -c flow.config -d devices.none -b load --states 0
+  $ ubtool endings -c flow.config -d devices.none -b load --states 0 --memory 0
   ends 1 first . fewest 0 . stop unknown load
   all 1 states 0
 

@@ -246,6 +246,13 @@ a number with a sign, endings -d d --work
   ! For more information, try '--help'.
   [2]
 
+a number with a sign, endings -d d --memory
+  $ ubtool endings -d d --memory +1
+  ! error: a number is written in digits alone, without a sign
+  !
+  ! For more information, try '--help'.
+  [2]
+
 a number with a sign, endings -d d --devices
   $ ubtool endings -d d --devices +1
   ! error: a number is written in digits alone, without a sign

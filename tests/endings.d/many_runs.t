@@ -68,6 +68,11 @@ a million states, of which 10,000 are allowed, in 64 MiB
   ! ubtool: more states than allowed
   [1]
 
+a million states, of which those in 16 MiB are allowed, in 64 MiB
+  $ (ulimit -v 65536; ubtool endings -c spreading.config -d devices --memory 16)
+  ! ubtool: more memory than allowed
+  [1]
+
 a million states in 32 MiB
   $ (ulimit -v 32768; ubtool endings -c spreading.config -d devices)
   ! ubtool: out of memory
