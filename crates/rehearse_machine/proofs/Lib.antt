@@ -11,6 +11,8 @@ pub mod CommandLemmas
 pub mod ProperMoves
 pub mod ProgressLemmas
 pub mod AskingLemmas
+pub mod EndedLemmas
+pub mod EndedParts
 pub mod TurnLemmas
 pub mod CommandMoves
 pub mod NamedLemmas
@@ -31,6 +33,7 @@ pub mod Limits
 pub mod TextLemmas
 pub mod TaskSet
 mod SourceExamples
+mod EndedExamples
 pub mod AskingCommandLemmas
 pub mod StoppedTextLemmas
 pub mod ExpectedLemmas

@@ -6,14 +6,14 @@ use Rattle.bootstore_state.specs.Record.{Record}
 use Rattle.rehearse_terms.specs.Outcomes.{OutcomeWord}
 use Rattle.rehearse_terms.specs.State.{State}
 use Rattle.bootstore_state.specs.StoredState.{state_at}
-use Rattle.rehearse_rules.specs.Execution.{Limits}
+use Rattle.rehearse_rules.specs.Execution.{Limits, Normal}
 use Rattle.rehearse_machine.specs.declared.ask.Step.{Step}
 use Rattle.rehearse_machine.specs.declared.ask.Step.TheVariants as steps
 use Rattle.rehearse_machine.specs.Frames.{Next, Go, Ask, Stop, move}
 use Rattle.rehearse_machine.specs.Places.{next_of, frames_of, place_move}
-use Rattle.rehearse_machine.specs.Meaning.{comes_to, IsProperNext}
+use Rattle.rehearse_machine.specs.Meaning.{continue, comes_to, IsProperNext}
 use Rattle.rehearse_machine.specs.MoveCounts.{weight}
-use Rattle.rehearse_machine.specs.MovesShown.{next_shown, Does}
+use Rattle.rehearse_machine.specs.MovesShown.{next_shown, Does, Keeps}
 use Rattle.rehearse_machine.specs.AskingCommand.{AsksAgain}
 use Rattle.rehearse_machine.proofs.AskingLemmas.{asks_again}
 use Rattle.rehearse_machine.specs.Turning.{to_come, step_comes, IsSound, IsSoundStep, IsFurtherOn, IsWithin, moves_left, Turns, Waits, Drives, Comes_on}
@@ -21,7 +21,8 @@ use Rattle.rehearse_machine.proofs.PlaceMoves.{place_move-is}
 use Rattle.rehearse_machine.proofs.MoveMeaning.{move-is}
 use Rattle.rehearse_machine.proofs.ProperMoves.{move-proper}
 use Rattle.rehearse_machine.proofs.ProgressLemmas.{Progress, IsFurther, move_progress}
-use Rattle.rehearse_machine.proofs.StoreMoves.{keeps_both}
+use Rattle.rehearse_machine.specs.EndedTexts.{with_fewer, DropsEnded}
+use Rattle.rehearse_machine.proofs.StoreMoves.{keeps_change, keeps_both}
 
 module _ (limits : Limits) (step : Step) (mid new : Record) (does : Does step mid new (place_move limits mid.present.frames)) (sound : IsSound mid.present) where
   moved : (w : OutcomeWord) → next_of (next_shown step new.present w) ≡ move limits (frames_of mid.present.frames) (state_at mid.present w)
@@ -111,3 +112,32 @@ module _ (limits : Limits) (step : Step) (old mid new : Record) (on : Comes_on l
 
 pub on_first : (limits : Limits) (old : Record) → IsSound old.present → old.present.steps ≤ limits.step_bound → Comes_on limits old old
 on_first limits old s l = record { means = λ w. refl; sound = s; kept = record { marked = refl; begun = omega arith }; within = l; grows = omega arith }
+
+-- ended texts that are dropped
+module _ (mid new : Record) (drops : DropsEnded mid new) where
+  pub same_steps : new.present.steps ≡ mid.present.steps
+  same_steps = ap (λ (r : Record). r.present.steps) drops.frames
+
+  pub same_state : (w : OutcomeWord) → state_at new.present w ≡ state_at mid.present w
+  same_state w = ap (λ (r : Record). state_at r.present w) drops.frames
+
+  dropped_keeps : Keeps mid new
+  dropped_keeps = subst (Keeps mid) (sym drops.frames) (keeps_change with_fewer mid refl)
+
+  dropped_means : (limits : Limits) (w : OutcomeWord) → to_come limits new.present w ≡ to_come limits mid.present w
+  dropped_means limits w =
+      ap (λ (s : State). continue limits (frames_of new.present.frames) (Normal s)) (same_state w)
+      ∙ drops.alike limits (Normal (state_at mid.present w))
+
+pub on_lighter : (limits : Limits) (old mid new : Record) → Comes_on limits old mid → DropsEnded mid new → Comes_on limits old new
+on_lighter limits old mid new on drops =
+    let steps = same_steps mid new drops in
+    let within = on.within in
+    let grows = on.grows in
+    record {
+      means = λ w. dropped_means mid new drops limits w ∙ on.means w;
+      sound = drops.sound on.sound;
+      kept = keeps_both old mid new on.kept (dropped_keeps mid new drops);
+      within = omega arith;
+      grows = omega arith;
+    }

@@ -10,6 +10,7 @@ pub mod Exits
 pub mod NextMoves
 pub mod CalledShown
 pub mod Turning
+pub mod EndedTexts
 pub mod Machine
 pub mod Tasks
 pub mod StoppedTexts

@@ -7,6 +7,7 @@ ghost use Rattle.rehearse_machine.specs.Turning.{IsSound, Turns, Drives};
 
 use crate::ask::Step;
 use crate::assigns::begin_assign;
+use crate::ended_texts::drop_ended;
 use crate::frame_moves::{move_for, move_run, next_of};
 use crate::frames::{behind, block, enter, finish, go_on, leave, skip};
 use crate::named::look_up;
@@ -146,7 +147,8 @@ pub(crate) fn turn<'d, S: Store>(
     }
 }
 
-/// Makes moves until an outcome is asked for, or the run is over.
+/// Makes moves until an outcome is asked for, or the run is over. Ended texts that change nothing are
+/// dropped.
 pub(crate) fn drive<'d, S: Store>(
     alloc: Global,
     store: &mut S,
@@ -162,7 +164,7 @@ pub(crate) fn drive<'d, S: Store>(
 {
     'turns: loop {
         match turn(alloc, store, fields, devices, bounds)? {
-            Step::Going => {}
+            Step::Going => drop_ended(store)?,
             Step::Asks(ask) => return Ok(Step::Asks(ask)),
             Step::Ends(halt) => return Ok(Step::Ends(halt)),
         }
