@@ -27,7 +27,7 @@ use Rattle.rehearse_frames.specs.ToCome.{names_read, of_frames}
 use Rattle.rehearse_frames.specs.MoveAccesses.{of_move}
 use Rattle.rehearse_frames.specs.AlikeFutures.{CameAlike, CameCut, same, cut_here, beyond}
 use Rattle.rehearse_frames.specs.KeysToCome.{state_in, from_state, Decide, AreEnough, AreEnoughIf, AreEnoughAt, asks_at, request_in, request_at, AreAtOnePlace}
-use Rattle.rehearse_frames.specs.Laws.{KeysOfEnds, KeysOfMoves, KeysOfAnswers, KeysOfAsking, MoreKeysAreEnough, MomentsGoAlike, KeysOfMoments}
+use Rattle.rehearse_frames.specs.Laws.{KeysOfAlikeFrames, KeysOfEnds, KeysOfMoves, KeysOfAnswers, KeysOfAsking, MoreKeysAreEnough, MomentsGoAlike, KeysOfMoments}
 use Rattle.rehearse_frames.proofs.FramesAlike.{over_alike, continue_alike, beside}
 use Rattle.rehearse_frames.proofs.MovesAlike.{NextAlike, goes_alike, asks_alike, stops_alike, cut_alike, beyond_there, IsBeyondThere, one_more, moves_alike, answers_alike}
 
@@ -219,6 +219,11 @@ module _ (limits : Limits) (m : Moment) (asking : Asking limits m) where
 
   requested_so : request_at limits m ≡ Some asking.request
   requested_so = ap request_in (asking.again [])
+
+pub keys_of_alike_frames : KeysOfAlikeFrames
+keys_of_alike_frames limits wanted fs gs s keys alike enough w t agree =
+    subst (λ (c : Came). CameAlike limits s.steps t.steps s.log t.log wanted c (continue limits gs (Normal (with w t)))) (alike (Normal (with w s)))
+    (subst (λ (c : Came). CameAlike limits s.steps t.steps s.log t.log wanted (continue limits fs (Normal (with w s))) c) (alike (Normal (with w t))) (enough w t agree))
 
 pub keys_of_moments : KeysOfMoments
 keys_of_moments limits wanted m keys asking enough = subst (λ (next : Next). AreEnough limits wanted next keys) (sym (asks_so limits m asking)) enough

@@ -4,7 +4,7 @@ use Rattle.bootstore_state.specs.Moment.{Moment}
 use Rattle.bootstore_state.specs.StoredState.{state_at}
 use Rattle.rehearse_terms.specs.Outcomes.{Outcome, Success, Failure, OutcomeWord}
 use Rattle.rehearse_terms.specs.State.{Text, State}
-use Rattle.rehearse_rules.specs.Execution.{Limits, Ending, Normal, Request}
+use Rattle.rehearse_rules.specs.Execution.{Limits, Answer, Ending, Normal, Request}
 use Rattle.rehearse_machine.specs.Frames.{Frame, Next, Go, Ask, Stop, answered, move}
 use Rattle.rehearse_machine.specs.Machine.{Asking, IsAsking, asked_at}
 use Rattle.rehearse_machine.specs.Places.{frames_of, place_answered, place_move}
@@ -73,6 +73,12 @@ KeysOfAsking = (limits : Limits) (wanted : List Text) (request : Request) (fs : 
 abbrev pub MoreKeysAreEnough : Type 0
 MoreKeysAreEnough = (limits : Limits) (wanted : List Text) (next : Next) (keys more : List Key) →
     AreEnough limits wanted next keys → AreAmong keys more → AreEnough limits wanted next more
+
+-- frames that make the same of every answer need the same keys
+abbrev pub KeysOfAlikeFrames : Type 0
+KeysOfAlikeFrames = (limits : Limits) (wanted : List Text) (fs gs : List Frame) (s : State) (keys : List Key) →
+    ((a : Answer) → continue limits fs a ≡ continue limits gs a) →
+    AreEnough limits wanted (Go fs s) keys → AreEnough limits wanted (Go gs s) keys
 
 -- Two moments at one place that agree on keys which are enough at the first one: the same is to come for every rest of the
 -- word, as far as the bounds allow.

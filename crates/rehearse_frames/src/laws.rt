@@ -1,7 +1,7 @@
 //! Laws of what frames still read. A call of one does nothing: its contract is the law.
 
 ghost use Rattle.rehearse_frames.specs.Laws.{AskedAlike, FramesGoAlike, MovesComeFirst, OutcomesComeFirst};
-ghost use Rattle.rehearse_frames.specs.Laws.{KeysOfAnswers, KeysOfAsking, KeysOfEnds, KeysOfMoments, KeysOfMoves, KeysOfOutcomes, KeysOfSteps, MomentsGoAlike, MoreKeysAreEnough};
+ghost use Rattle.rehearse_frames.specs.Laws.{KeysOfAlikeFrames, KeysOfAnswers, KeysOfAsking, KeysOfEnds, KeysOfMoments, KeysOfMoves, KeysOfOutcomes, KeysOfSteps, MomentsGoAlike, MoreKeysAreEnough};
 
 /// What frames still read and write is what their next move reads and writes, and then what is to come
 /// after it, whatever outcomes are left. If a device command asks, it is what its outcome writes, and then
@@ -23,7 +23,8 @@ pub fn frames_go_alike()
 {}
 
 /// Keys that are enough for what is to come, whatever outcomes are left: at an end, in front of a move,
-/// where a device command asks, and at a moment at which one asks. Further keys do no harm.
+/// where a device command asks, and at a moment at which one asks. Further keys do no harm, and frames
+/// that make the same of every answer need the same keys.
 pub fn keys_to_come()
     ensures ends { KeysOfEnds }
     ensures moves { KeysOfMoves }
@@ -31,6 +32,7 @@ pub fn keys_to_come()
     ensures asking { KeysOfAsking }
     ensures moments { KeysOfMoments }
     ensures more { MoreKeysAreEnough }
+    ensures alike { KeysOfAlikeFrames }
 {}
 
 /// Keys that are enough before a step of the machine, if what is reported of the step covers what its move
