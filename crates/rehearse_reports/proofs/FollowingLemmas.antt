@@ -9,7 +9,8 @@ use Rattle.rehearse_terms.specs.Outcomes.{Outcome, Success, Failure, OutcomeWord
 use Rattle.rehearse_terms.specs.State.{Text, State}
 use Rattle.rehearse_rules.specs.Execution.{Limits, Request}
 use Rattle.rehearse_rules.specs.EndingsShown.{halt_shown}
-use Rattle.rehearse_machine.specs.Frames.{Next, Ask}
+use Rattle.rehearse_machine.specs.EndedTexts.{DropsEnded}
+use Rattle.rehearse_machine.specs.Frames.{Next, Go, Ask}
 use Rattle.rehearse_machine.specs.AskingCommand.{found_again}
 use Rattle.rehearse_machine.specs.Machine.{Asking, IsAsking}
 use Rattle.rehearse_machine.specs.MovesShown.{next_shown, request_shown, Does, Comes}
@@ -22,13 +23,14 @@ use Rattle.rehearse_machine.specs.declared.ask.Step.TheVariants as steps
 use Rattle.rehearse_machine.specs.declared.rehearsal.Stop.{Stop}
 use Rattle.rehearse_machine.specs.declared.rehearsal.Stop.TheVariants as stops
 use Rattle.rehearse_machine.proofs.PlaceMoves.{place_answered-is}
+use Rattle.rehearse_machine.proofs.TurnLemmas.{same_state}
 use Rattle.rehearse_reads.specs.Keys.{Key, Access, AreAmong, keys_in_front, keys_read}
 use Rattle.rehearse_reads.specs.Accesses.{outcome_accesses}
 use Rattle.rehearse_reads.proofs.KeysRead.{stretches_join}
 use Rattle.rehearse_frames.specs.ToCome.{names_read}
 use Rattle.rehearse_frames.specs.MoveAccesses.{of_move}
 use Rattle.rehearse_frames.specs.KeysToCome.{AreEnough, AreEnoughIf, AreEnoughFrom, AreEnoughAfter, AreEnoughAt, asks_at}
-use Rattle.rehearse_frames.proofs.EnoughKeys.{asks_so, keys_of_ends, keys_of_answers, keys_of_asking, keys_of_moments, more_decide, more_keys_are_enough}
+use Rattle.rehearse_frames.proofs.EnoughKeys.{asks_so, keys_of_ends, keys_of_answers, keys_of_asking, keys_of_moments, keys_of_alike_frames, more_decide, more_keys_are_enough}
 use Rattle.rehearse_frames.proofs.EnoughSteps.{keys_of_steps}
 use Rattle.rehearse_reports.specs.Reports.{Reports}
 use Rattle.rehearse_reports.specs.Following.{Leads, Follows, FollowsToStop, FollowsOutcome, IsReportedFor, AreEnoughFor, AreEnoughAtStop}
@@ -65,6 +67,14 @@ follows_step limits step before after old new sound does reported =
 
 pub follows_as : (limits : Limits) (m n : Moment) (step other : Step) (old new : List Access) → step ≡ other → Follows limits m step n old new → Follows limits m other n old new
 follows_as limits m n step other old new e h = subst (λ (x : Step). Follows limits m x n old new) e h
+
+-- ended texts that are dropped need no key
+pub follows_lighter : (limits : Limits) (m : Moment) (mid new : Record) (before after : List Access) → DropsEnded mid new → Follows limits m steps.Going mid.present before after → Follows limits m steps.Going new.present before after
+follows_lighter limits m mid new before after drops follows =
+    leads_to (λ wanted. AreEnoughFrom limits wanted m) (λ wanted. AreEnoughFrom limits wanted mid.present) (λ wanted. AreEnoughFrom limits wanted new.present) before after
+    (λ wanted later enough. keys_of_alike_frames limits wanted (frames_of new.present.frames) (frames_of mid.present.frames) (state_at mid.present []) later (drops.alike limits)
+    (subst (λ (s : State). AreEnough limits wanted (Go (frames_of new.present.frames) s) later) (same_state mid new drops []) enough))
+    follows
 
 -- ---- at a device command that asks
 

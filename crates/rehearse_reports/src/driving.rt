@@ -14,7 +14,7 @@ use crate::reported::Reported;
 use bootstore_state::{Store, StoreError};
 use device_list::Devices;
 use hushlang::Fields;
-use rehearse_machine::{Step, step};
+use rehearse_machine::{Step, drop_ended, step};
 use rehearse_terms::RunBounds;
 use std::alloc::Global;
 
@@ -71,7 +71,8 @@ fn reported_turn<'d, S: Store>(
     }
 }
 
-/// Makes moves, with reports, until an outcome is asked for, or the run is over. Errors: `Memory`.
+/// Makes moves, with reports, until an outcome is asked for, or the run is over. Ended texts that change
+/// nothing are dropped. Errors: `Memory`.
 pub(crate) fn reported_drive<'d, S: Store>(
     alloc: Global,
     reported: &mut Reported,
@@ -91,7 +92,7 @@ pub(crate) fn reported_drive<'d, S: Store>(
 {
     'turns: loop {
         match reported_turn(alloc, reported, store, fields, devices, bounds)? {
-            Step::Going => {}
+            Step::Going => drop_ended(store)?,
             Step::Asks(ask) => return Ok(Step::Asks(ask)),
             Step::Ends(halt) => return Ok(Step::Ends(halt)),
         }

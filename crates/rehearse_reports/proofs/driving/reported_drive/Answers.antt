@@ -3,9 +3,9 @@ use Rattle.rehearse_machine.specs.declared.ask.Step.{Step}
 use Rattle.rehearse_machine.specs.declared.ask.Step.TheVariants as steps
 use Rattle.rehearse_machine.specs.MovesShown.{limits_of}
 use Rattle.rehearse_machine.specs.Turning.{Drives}
-use Rattle.rehearse_machine.proofs.TurnLemmas.{driven, came_on, further_steps, on_first}
+use Rattle.rehearse_machine.proofs.TurnLemmas.{driven, came_on, further_steps, same_steps, on_first, on_lighter}
 use Rattle.rehearse_reports.specs.ReportsShown.{accesses_shown}
-use Rattle.rehearse_reports.proofs.FollowingLemmas.{follows_first, follows_then, follows_as}
+use Rattle.rehearse_reports.proofs.FollowingLemmas.{follows_first, follows_then, follows_as, follows_lighter}
 use Rattle.rehearse_reports.proofs.driving.reported_drive.Goals as goal
 
 pub turns-init : goal.turns-init
@@ -19,8 +19,9 @@ turns-smaller g c =
     let limits = limits_of c.args.devices.now c.args.bounds in
     let old = g.S.Store.record_of c.args.store.now in
     let mid = g.S.Store.record_of c.turns.store in
-    let new = g.S.Store.record_of c.reported_turn.new.store in
-    let k = further_steps limits c.in_ok-reported_turn.field-0 old mid new c.turns.invariant.0 c.in_ok-reported_turn.ensures.turns c.in-Going.is in
+    let after = g.S.Store.record_of c.reported_turn.new.store in
+    let k = further_steps limits c.in_ok-reported_turn.field-0 old mid after c.turns.invariant.0 c.in_ok-reported_turn.ensures.turns c.in-Going.is in
+    let same = same_steps after (g.S.Store.record_of c.drop_ended.new.store) c.in_ok-drop_ended-in-Going.ensures in
     omega arith
 
 pub turns-preserved : goal.turns-preserved
@@ -28,10 +29,12 @@ turns-preserved g c =
     let limits = limits_of c.args.devices.now c.args.bounds in
     let old = g.S.Store.record_of c.args.store.now in
     let mid = g.S.Store.record_of c.turns.store in
-    let new = g.S.Store.record_of c.reported_turn.new.store in (
-      came_on limits c.in_ok-reported_turn.field-0 old mid new c.turns.invariant.0 c.in_ok-reported_turn.ensures.turns c.in-Going.is,
-      follows_as limits old.present new.present c.in_ok-reported_turn.field-0 steps.Going _ _ c.in-Going.is
-          (follows_then limits old.present mid.present new.present c.in_ok-reported_turn.field-0 (accesses_shown c.args.reported.now) (accesses_shown c.turns.reported) (accesses_shown c.reported_turn.new.reported) c.turns.invariant.1 c.in_ok-reported_turn.ensures.follows),
+    let after = g.S.Store.record_of c.reported_turn.new.store in
+    let new = g.S.Store.record_of c.drop_ended.new.store in (
+      on_lighter limits old after new (came_on limits c.in_ok-reported_turn.field-0 old mid after c.turns.invariant.0 c.in_ok-reported_turn.ensures.turns c.in-Going.is) c.in_ok-drop_ended-in-Going.ensures,
+      follows_lighter limits old.present after new _ _ c.in_ok-drop_ended-in-Going.ensures
+          (follows_as limits old.present after.present c.in_ok-reported_turn.field-0 steps.Going _ _ c.in-Going.is
+          (follows_then limits old.present mid.present after.present c.in_ok-reported_turn.field-0 (accesses_shown c.args.reported.now) (accesses_shown c.turns.reported) (accesses_shown c.reported_turn.new.reported) c.turns.invariant.1 c.in_ok-reported_turn.ensures.follows)),
     )
 
 pub returns-in-Asks-clause-drives : goal.returns-in-Asks-clause-drives
