@@ -1,7 +1,6 @@
 //! A store that keeps a copy of each marked state. Tests compare it with the one that the programs use.
 #![tactic(auto)]
 
-mod copies;
 mod plain;
 
 pub use plain::Plain;

@@ -1,6 +1,7 @@
 //! A store that keeps a copy of each marked state.
-use crate::copies::copy_of;
-use bootstore_state::{At, Frame, LogEntry, Present, Scripts, Store, StoreError, TextFound};
+use bootstore_state::{
+    At, Frame, LogEntry, Present, Scripts, Store, StoreError, TextFound, copy_of,
+};
 use envtools::Env;
 use rehearse_terms::Shell;
 use std::alloc::Global;
@@ -64,6 +65,12 @@ impl Store for Plain {
     fn count_step(&mut self) -> Result<(), StoreError> {
         self.present.steps += 1;
         self.begun += 1;
+        Ok(())
+    }
+
+    fn count_steps(&mut self, count: u32) -> Result<(), StoreError> {
+        self.present.steps += count;
+        self.begun += count as u64;
         Ok(())
     }
 

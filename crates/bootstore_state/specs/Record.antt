@@ -71,6 +71,11 @@ started environment r = record r { present = beginning environment; marked = [] 
 abbrev pub stepped : Record → Record
 stepped r = record { present = with_step r.present; marked = r.marked; begun = r.begun + 1 }
 
+-- so many steps are begun at once
+abbrev pub stepped_by : (count : ℕ) → Record → Record
+stepped_by count r =
+    record { present = record r.present { steps = r.present.steps + count }; marked = r.marked; begun = r.begun + count }
+
 -- the present moment is marked
 abbrev pub with_mark : Record → Record
 with_mark r = record r { marked = r.present ∷ r.marked }

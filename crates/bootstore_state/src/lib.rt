@@ -1,6 +1,7 @@
 //! The state of a run of a boot script. It can be marked, and a run can go back to it.
 #![tactic(auto)]
 
+mod copies;
 mod frame;
 pub mod laws;
 mod log;
@@ -9,6 +10,7 @@ mod scripts;
 mod store;
 mod table;
 
+pub use copies::copy_of;
 pub use frame::{At, Frame, FrameKind};
 pub use log::{LogEntry, has_succeeded};
 pub use present::{Present, Scope};

@@ -1,10 +1,10 @@
 //! What a store of states can do.
-ghost use Rattle.std.specs.Prelude.{◌≡◌, ◌==◌, ◌+◌, ◌<◌, ◌^◌, not, length, IfOk, OnOk, OnErr, option_map, reverse, slice_get};
+ghost use Rattle.std.specs.Prelude.{◌≡◌, ◌==◌, ◌+◌, ◌<◌, ◌≤◌, ◌^◌, not, length, IfOk, OnOk, OnErr, option_map, reverse, slice_get};
 ghost use Rattle.std.specs.FinMap.{get, entries};
 ghost use Rattle.bootstore_state.specs.Moment.{environment_of};
 ghost use Rattle.text.specs.TextsShown.{option_bytes};
 ghost use Rattle.bootstore_state.specs.Present.{moment_of};
-ghost use Rattle.bootstore_state.specs.Record.{Record, fresh, started, stepped, with_mark, gone_back, changed, with_environment, with_local, with_echo, with_device, with_status, with_frame, with_place, without_frame};
+ghost use Rattle.bootstore_state.specs.Record.{Record, fresh, started, stepped, stepped_by, with_mark, gone_back, changed, with_environment, with_local, with_echo, with_device, with_status, with_frame, with_place, without_frame};
 ghost use Rattle.bootstore_state.specs.Scripts.{text_found};
 ghost use Rattle.rehearse_terms.specs.Bounds.{most_steps};
 ghost use Rattle.hushlang_shells.specs.TreesByShell.{started_in};
@@ -85,11 +85,18 @@ pub trait Store: Drop {
             (record_of self.old)) }
         ensures err { OnErr result (record_of self.new ≡ record_of self.old) };
 
-    /// Begins a step: `steps` and `begun` grow by one. No other call changes `begun`.
+    /// Begins a step: `steps` and `begun` grow by one. No call but this and the next changes `begun`.
     fn count_step(&mut self) -> Result<(), StoreError>
         requires steps { (record_of self.old).present.steps < most_steps }
         requires begun { (record_of self.old).begun + 1 < 2 ^ 64 }
         ensures ok { OnOk result (record_of self.new ≡ stepped (record_of self.old)) }
+        ensures err { OnErr result (record_of self.new ≡ record_of self.old) };
+
+    /// Begins so many steps at once: `steps` and `begun` grow by their count.
+    fn count_steps(&mut self, count: u32) -> Result<(), StoreError>
+        requires steps { (record_of self.old).present.steps + count ≤ most_steps }
+        requires begun { (record_of self.old).begun + count < 2 ^ 64 }
+        ensures ok { OnOk result (record_of self.new ≡ stepped_by count (record_of self.old)) }
         ensures err { OnErr result (record_of self.new ≡ record_of self.old) };
 
     /// Puts a frame on top of the others.

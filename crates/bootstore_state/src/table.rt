@@ -76,6 +76,11 @@ impl Table {
         }
     }
 
+    /// How many places there are, also those without a value.
+    pub fn places(&self) -> usize {
+        self.slots.len()
+    }
+
     /// The names that have a value, in byte order, with their values.
     pub fn iter(&self) -> Variables<'_>
         ensures { result ≡ entries (variables_of self.now) }

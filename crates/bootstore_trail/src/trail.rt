@@ -142,6 +142,12 @@ impl Store for Trail {
         Ok(())
     }
 
+    fn count_steps(&mut self, count: u32) -> Result<(), StoreError> {
+        self.present.steps += count;
+        self.begun += count as u64;
+        Ok(())
+    }
+
     fn push(&mut self, frame: Frame) -> Result<(), StoreError> {
         self.present.frames.push(frame)?;
         Ok(())

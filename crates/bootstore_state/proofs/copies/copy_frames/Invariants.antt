@@ -1,5 +1,5 @@
 use Rattle.std.proofs.Common.{◌≡◌, take}
-use Rattle.bootstore_copies.proofs.copies.copy_frames.Given as goal
+use Rattle.bootstore_state.proofs.copies.copy_frames.Given as goal
 
 abbrev pub invariant-loop-frame : goal.invariant-loop-frame
 invariant-loop-frame l = l.copies.items ≡ take l.frame-index l.frames

@@ -2,7 +2,9 @@
 ghost use Rattle.std.specs.Prelude.{◌≡◌, IfOk};
 ghost use Rattle.bootstore_state.specs.Present.{moment_of};
 
-use bootstore_state::{Frame, LogEntry, Present};
+use crate::frame::Frame;
+use crate::log::LogEntry;
+use crate::present::Present;
 use std::alloc::{AllocError, Global};
 
 /// A copy of a log. Errors: memory ran out.
@@ -28,7 +30,7 @@ fn copy_frames(alloc: Global, frames: &[Frame]) -> Result<Vec<Frame>, AllocError
 }
 
 /// A copy of a state. Its frames share their scripts with these. Errors: memory ran out.
-pub(crate) fn copy_of(present: &Present, alloc: Global) -> Result<Present, AllocError>
+pub fn copy_of(present: &Present, alloc: Global) -> Result<Present, AllocError>
     ensures { IfOk result (λ copy. moment_of copy ≡ moment_of present.now) }
 {
     let log = copy_log(alloc, &present.log)?;
