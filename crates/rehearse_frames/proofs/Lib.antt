@@ -5,4 +5,6 @@ pub mod FramesAlike
 pub mod MovesAlike
 pub mod EnoughKeys
 pub mod EnoughSteps
+pub mod OtherSteps
+pub mod LoopLemmas
 mod MoveExamples

@@ -1,5 +1,5 @@
 -- Laws of what frames still read, over the definitions alone. Ours.
-use Rattle.std.specs.Prelude.{◌≡◌, List, [], ◌∷◌, ◌++◌}
+use Rattle.std.specs.Prelude.{◌≡◌, ℕ, ◌+◌, ◌*◌, ◌≤◌, List, [], ◌∷◌, ◌++◌}
 use Rattle.bootstore_state.specs.Moment.{Moment}
 use Rattle.bootstore_state.specs.StoredState.{state_at}
 use Rattle.rehearse_terms.specs.Outcomes.{Outcome, Success, Failure, OutcomeWord}
@@ -18,6 +18,7 @@ use Rattle.rehearse_frames.specs.ToCome.{names_read, of_frames, of_next}
 use Rattle.rehearse_frames.specs.KeysToCome.{AreEnough, AreEnoughIf, AreEnoughFrom, AreEnoughAfter, AreEnoughAt, AreAtOnePlace}
 use Rattle.rehearse_frames.specs.MoveAccesses.{of_move}
 use Rattle.rehearse_frames.specs.AlikeFutures.{CameAlike}
+use Rattle.rehearse_frames.specs.Loops.{later, after_moves, of_moves, ComesAfter}
 
 -- what frames read and write is what one move reads and writes, and then what is to come after it
 abbrev pub MovesComeFirst : Type 0
@@ -110,3 +111,12 @@ KeysOfOutcomes = (limits : Limits) (wanted : List Text) (m : Moment) (asking : A
     AreEnoughAfter limits wanted won_step won after_won → AreEnoughAfter limits wanted lost_step lost after_lost →
     AreEnoughAt limits wanted m (keys_in_front (outcome_accesses Success asking.request) after_won
     ++ keys_in_front (outcome_accesses Failure asking.request) after_lost)
+
+-- ---- loops
+
+-- Moves that come back to the same frames and the same state, only some steps later, do so again, one round after another, as
+-- far as the bound allows. All rounds together read and write what one of them does.
+abbrev pub LoopsGoOn : Type 0
+LoopsGoOn = (limits : Limits) (count steps rounds : ℕ) (fs : List Frame) (s : State) → AreProperFrames fs →
+    after_moves limits count (Go fs s) ≡ Go fs (later steps s) → s.steps + (rounds * steps + steps) ≤ limits.step_bound →
+    ComesAfter limits (Go fs s) (Go fs (later (rounds * steps + steps) s)) (of_moves limits count (Go fs s))

@@ -2,4 +2,5 @@ pub mod ToCome
 pub mod MoveAccesses
 pub mod AlikeFutures
 pub mod KeysToCome
+pub mod Loops
 pub mod Laws

@@ -1,7 +1,7 @@
 //! Laws of what frames still read. A call of one does nothing: its contract is the law.
 
 ghost use Rattle.rehearse_frames.specs.Laws.{AskedAlike, FramesGoAlike, MovesComeFirst, OutcomesComeFirst};
-ghost use Rattle.rehearse_frames.specs.Laws.{KeysOfAlikeFrames, KeysOfAnswers, KeysOfAsking, KeysOfEnds, KeysOfMoments, KeysOfMoves, KeysOfOutcomes, KeysOfSteps, MomentsGoAlike, MoreKeysAreEnough};
+ghost use Rattle.rehearse_frames.specs.Laws.{KeysOfAlikeFrames, KeysOfAnswers, KeysOfAsking, KeysOfEnds, KeysOfMoments, KeysOfMoves, KeysOfOutcomes, KeysOfSteps, LoopsGoOn, MomentsGoAlike, MoreKeysAreEnough};
 
 /// What frames still read and write is what their next move reads and writes, and then what is to come
 /// after it, whatever outcomes are left. If a device command asks, it is what its outcome writes, and then
@@ -46,4 +46,12 @@ pub fn keys_of_steps()
 /// enough at the first one: the same is to come at both, as far as the bounds allow.
 pub fn moments_go_alike()
     ensures { MomentsGoAlike }
+{}
+
+/// Moves that come back to the same frames and the same state, only some steps later, do so again, one
+/// round after another, as far as the bound on steps allows: the same is to come after each round, and all
+/// rounds together read and write what one of them does.
+#[tactic(auto, using(crate::proofs::LoopLemmas::loops_go_on))]
+pub fn loops_go_on()
+    ensures { LoopsGoOn }
 {}
