@@ -99,7 +99,7 @@ fn below_three(frames: &[Frame]) -> Option<&[Frame]>
 }
 
 /// Whether a `run` begins above three ended texts, each with its `run`.
-fn may_drop(frames: &[Frame]) -> bool
+pub fn may_drop(frames: &[Frame]) -> bool
     ensures { result ≡ may_drop (reverse frames.now) }
 {
     let Some((run, below)) = frames.split_last() else {

@@ -1,10 +1,8 @@
 -- What was read and written, one step after another.
-use Rattle.std.proofs.Common.{◌≡◌, ◌∙◌, refl, sym, ap, subst, List, [], ◌∷◌, ◌++◌, Result, Ok, Err}
-use Rattle.std.specs.Prelude.{IfOk, OnOk}
+use Rattle.std.proofs.Common.{◌≡◌, ◌∙◌, sym, ap, subst, List, [], ◌∷◌, ◌++◌}
 use Rattle.bootstore_state.specs.Moment.{Moment}
 use Rattle.bootstore_state.specs.Record.{Record}
 use Rattle.bootstore_state.specs.StoredState.{state_at}
-use Rattle.bootstore_state.specs.declared.store.StoreError.{StoreError}
 use Rattle.rehearse_terms.specs.Outcomes.{Outcome, Success, Failure, OutcomeWord}
 use Rattle.rehearse_terms.specs.State.{Text, State}
 use Rattle.rehearse_rules.specs.Execution.{Limits, Request}
@@ -13,9 +11,9 @@ use Rattle.rehearse_machine.specs.EndedTexts.{DropsEnded}
 use Rattle.rehearse_machine.specs.Frames.{Next, Go, Ask}
 use Rattle.rehearse_machine.specs.AskingCommand.{found_again}
 use Rattle.rehearse_machine.specs.Machine.{Asking, IsAsking}
-use Rattle.rehearse_machine.specs.MovesShown.{next_shown, request_shown, Does, Comes}
-use Rattle.rehearse_machine.specs.Places.{PlaceNext, AskOn, next_of, frames_of, place_answered, place_move}
-use Rattle.rehearse_machine.specs.Turning.{IsSound, Drives}
+use Rattle.rehearse_machine.specs.MovesShown.{next_shown}
+use Rattle.rehearse_machine.specs.Places.{PlaceNext, AskOn, next_of, frames_of, place_answered}
+use Rattle.rehearse_machine.specs.Turning.{Drives}
 use Rattle.rehearse_rules.specs.declared.halt.Halt.{Halt}
 use Rattle.rehearse_machine.specs.declared.ask.Ask.{Ask as AskCode}
 use Rattle.rehearse_machine.specs.declared.ask.Step.{Step}
@@ -28,14 +26,12 @@ use Rattle.rehearse_reads.specs.Keys.{Key, Access, AreAmong, keys_in_front, keys
 use Rattle.rehearse_reads.specs.Accesses.{outcome_accesses}
 use Rattle.rehearse_reads.proofs.KeysRead.{stretches_join}
 use Rattle.rehearse_frames.specs.ToCome.{names_read}
-use Rattle.rehearse_frames.specs.MoveAccesses.{of_move}
 use Rattle.rehearse_frames.specs.KeysToCome.{AreEnough, AreEnoughIf, AreEnoughFrom, AreEnoughAfter, AreEnoughAt, asks_at}
 use Rattle.rehearse_frames.proofs.EnoughKeys.{asks_so, keys_of_ends, keys_of_answers, keys_of_asking, keys_of_moments, keys_of_alike_frames, more_decide, more_keys_are_enough}
-use Rattle.rehearse_frames.proofs.EnoughSteps.{keys_of_steps}
 use Rattle.rehearse_reports.specs.Reports.{Reports}
 use Rattle.rehearse_reports.specs.Following.{Leads, Follows, FollowsToStop, FollowsOutcome, IsReportedFor, AreEnoughFor, AreEnoughAtStop}
 use Rattle.rehearse_reports.specs.Laws.{KeysOfBothOutcomes}
-use Rattle.rehearse_reports.proofs.ReportLemmas.{covers_itself, reports_nothing, reports_then}
+use Rattle.rehearse_reports.proofs.ReportLemmas.{reports_nothing, reports_then}
 
 -- one after another
 pub leads_then : (first second third : List Text → List Key → Type 0) (old mid new : List Access) → Leads first second old mid → Leads second third mid new → Leads first third old new
@@ -54,16 +50,6 @@ follows_first limits m old = record { accesses = []; enough = λ wanted later h.
 pub follows_then : (limits : Limits) (m n k : Moment) (step : Step) (old mid new : List Access) → Follows limits m steps.Going n old mid → Follows limits n step k mid new → Follows limits m step k old new
 follows_then limits m n k step old mid new a b =
     leads_then (λ wanted. AreEnoughFrom limits wanted m) (λ wanted. AreEnoughFrom limits wanted n) (λ wanted. AreEnoughAfter limits wanted step k) old mid new a b
-
-pub follows_step : (limits : Limits) (step : Step) (before after : Record) (old new : List Access) → IsSound before.present → Does step before after (place_move limits before.present.frames)
-    → Reports old new (of_move limits (frames_of before.present.frames) (state_at before.present [])) → Follows limits before.present step after.present old new
-follows_step limits step before after old new sound does reported =
-    let accesses : List Access = of_move limits (frames_of before.present.frames) (state_at before.present []) in
-    record {
-      accesses = accesses;
-      enough = λ wanted later h. keys_of_steps limits wanted step before.present after.present accesses later sound does.0 (covers_itself accesses) h;
-      reported = reported;
-    }
 
 pub follows_as : (limits : Limits) (m n : Moment) (step other : Step) (old new : List Access) → step ≡ other → Follows limits m step n old new → Follows limits m other n old new
 follows_as limits m n step other old new e h = subst (λ (x : Step). Follows limits m x n old new) e h

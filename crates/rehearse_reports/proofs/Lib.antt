@@ -14,6 +14,8 @@ pub mod FrontLemmas
 pub mod KnownLemmas
 pub mod AskedLemmas
 pub mod FollowingLemmas
+pub mod SameLemmas
+pub mod LoopingLemmas
 pub mod AskedSame
 pub mod OutcomeLemmas
 mod ReportExamples

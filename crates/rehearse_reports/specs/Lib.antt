@@ -4,4 +4,5 @@ pub mod Known
 pub mod Asked
 pub mod Begins
 pub mod Following
+pub mod Looping
 pub mod Laws

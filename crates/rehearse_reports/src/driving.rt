@@ -6,17 +6,22 @@ ghost use Rattle.rehearse_machine.specs.MovesShown.{Comes, limits_of};
 ghost use Rattle.rehearse_machine.specs.Turning.{IsSound, Turns, Drives};
 ghost use Rattle.rehearse_frames.specs.MoveAccesses.{of_move};
 ghost use Rattle.rehearse_reports.specs.Following.{Follows};
+ghost use Rattle.rehearse_reports.specs.Looping.{MovesTo};
 ghost use Rattle.rehearse_reports.specs.Reports.{Reports};
 ghost use Rattle.rehearse_reports.specs.ReportsShown.{accesses_shown};
 
+use crate::looping::{begin_rounds, is_back};
 use crate::moves::report_move;
 use crate::reported::Reported;
-use bootstore_state::{Store, StoreError};
+use bootstore_state::{Store, StoreError, copy_of};
 use device_list::Devices;
 use hushlang::Fields;
-use rehearse_machine::{Step, drop_ended, step};
+use rehearse_machine::{Step, drop_ended, may_drop, step};
 use rehearse_terms::RunBounds;
 use std::alloc::Global;
+
+/// A stretch that begins no more steps is not watched for an endless loop.
+const FEW_STEPS: u32 = 64;
 
 /// Reports what the next move reads and writes, and makes it. Errors: `Memory`.
 fn reported_step<'d, S: Store>(
@@ -53,7 +58,7 @@ fn reported_turn<'d, S: Store>(
     requires begun { (S.record_of store.old).begun + 1 < 2 ^ 64 }
     ensures turns { IfOk result (λ step. Turns (limits_of devices.now bounds) step
         (S.record_of store.old) (S.record_of store.new)) }
-    ensures follows { IfOk result (λ step. Follows (limits_of devices.now bounds)
+    ensures moves { IfOk result (λ step. MovesTo (limits_of devices.now bounds)
         (S.record_of store.old).present step (S.record_of store.new).present
         (accesses_shown reported.old) (accesses_shown reported.new)) }
 {
@@ -69,6 +74,78 @@ fn reported_turn<'d, S: Store>(
             Step::Ends(halt) => return Ok(Step::Ends(halt)),
         }
     }
+}
+
+/// Makes turns, with reports, until more than so many steps are begun, ended texts may be dropped, an
+/// outcome is asked for, or the run is over. If a turn comes back to the moment at which the first one began, the loop has no end: the steps
+/// of its further rounds are begun at once. Errors: `Memory`.
+fn watched_turns<'d, S: Store>(
+    alloc: Global,
+    reported: &mut Reported,
+    store: &mut S,
+    fields: &mut Fields,
+    devices: &'d Devices,
+    bounds: RunBounds,
+    most: u32,
+) -> Result<Step<'d>, StoreError>
+    requires sound { IsSound (S.record_of store.old).present }
+    requires steps { (S.record_of store.old).present.steps ≤ bounds.steps }
+    requires begun { (S.record_of store.old).begun + bounds.steps + 1
+        < 2 ^ 64 + (S.record_of store.old).present.steps }
+    ensures turns { IfOk result (λ step. Turns (limits_of devices.now bounds) step
+        (S.record_of store.old) (S.record_of store.new)) }
+    ensures follows { IfOk result (λ step. Follows (limits_of devices.now bounds)
+        (S.record_of store.old).present step (S.record_of store.new).present
+        (accesses_shown reported.old) (accesses_shown reported.new)) }
+{
+    let first = copy_of(store.present(), alloc)?;
+    'turns: loop {
+        match reported_turn(alloc, reported, store, fields, devices, bounds)? {
+            Step::Going => {
+                if may_drop(store.frames()) {
+                    return Ok(Step::Going);
+                }
+                let steps = store.steps() - first.steps;
+                if is_back(&first, store, &reported.written) {
+                    begin_rounds(store, steps, bounds)?;
+                    return Ok(Step::Going);
+                }
+                if steps > most {
+                    return Ok(Step::Going);
+                }
+            }
+            Step::Asks(ask) => return Ok(Step::Asks(ask)),
+            Step::Ends(halt) => return Ok(Step::Ends(halt)),
+        }
+    }
+}
+
+/// Makes one turn or more, with reports. A stretch that has begun many steps already is watched for an
+/// endless loop, as long again: so its copy of the state takes no more time than its steps. Errors:
+/// `Memory`.
+fn next_turns<'d, S: Store>(
+    alloc: Global,
+    reported: &mut Reported,
+    store: &mut S,
+    fields: &mut Fields,
+    devices: &'d Devices,
+    bounds: RunBounds,
+    so_far: u32,
+) -> Result<Step<'d>, StoreError>
+    requires sound { IsSound (S.record_of store.old).present }
+    requires steps { (S.record_of store.old).present.steps ≤ bounds.steps }
+    requires begun { (S.record_of store.old).begun + bounds.steps + 1
+        < 2 ^ 64 + (S.record_of store.old).present.steps }
+    ensures turns { IfOk result (λ step. Turns (limits_of devices.now bounds) step
+        (S.record_of store.old) (S.record_of store.new)) }
+    ensures follows { IfOk result (λ step. Follows (limits_of devices.now bounds)
+        (S.record_of store.old).present step (S.record_of store.new).present
+        (accesses_shown reported.old) (accesses_shown reported.new)) }
+{
+    if so_far < FEW_STEPS || (so_far as usize) < store.present().environment.places() {
+        return reported_turn(alloc, reported, store, fields, devices, bounds);
+    }
+    watched_turns(alloc, reported, store, fields, devices, bounds, so_far)
 }
 
 /// Makes moves, with reports, until an outcome is asked for, or the run is over. Ended texts that change
@@ -90,9 +167,16 @@ pub(crate) fn reported_drive<'d, S: Store>(
         (S.record_of store.old).present step (S.record_of store.new).present
         (accesses_shown reported.old) (accesses_shown reported.new)) }
 {
+    let mut before = store.steps();
     'turns: loop {
-        match reported_turn(alloc, reported, store, fields, devices, bounds)? {
-            Step::Going => drop_ended(store)?,
+        let so_far = store.steps().saturating_sub(before);
+        match next_turns(alloc, reported, store, fields, devices, bounds, so_far)? {
+            Step::Going => {
+                if may_drop(store.frames()) {
+                    before = store.steps();
+                }
+                drop_ended(store)?;
+            }
             Step::Asks(ask) => return Ok(Step::Asks(ask)),
             Step::Ends(halt) => return Ok(Step::Ends(halt)),
         }

@@ -9,6 +9,7 @@ mod driving;
 mod key;
 mod known;
 pub mod laws;
+mod looping;
 mod moves;
 mod outcomes;
 mod reported;

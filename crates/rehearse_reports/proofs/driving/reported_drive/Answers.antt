@@ -19,8 +19,8 @@ turns-smaller g c =
     let limits = limits_of c.args.devices.now c.args.bounds in
     let old = g.S.Store.record_of c.args.store.now in
     let mid = g.S.Store.record_of c.turns.store in
-    let after = g.S.Store.record_of c.reported_turn.new.store in
-    let k = further_steps limits c.in_ok-reported_turn.field-0 old mid after c.turns.invariant.0 c.in_ok-reported_turn.ensures.turns c.in-Going.is in
+    let after = g.S.Store.record_of c.next_turns.new.store in
+    let k = further_steps limits c.in_ok-next_turns.field-0 old mid after c.turns.invariant.0 c.in_ok-next_turns.ensures.turns c.in-Going.is in
     let same = same_steps after (g.S.Store.record_of c.drop_ended.new.store) c.in_ok-drop_ended-in-Going.ensures in
     omega arith
 
@@ -29,12 +29,12 @@ turns-preserved g c =
     let limits = limits_of c.args.devices.now c.args.bounds in
     let old = g.S.Store.record_of c.args.store.now in
     let mid = g.S.Store.record_of c.turns.store in
-    let after = g.S.Store.record_of c.reported_turn.new.store in
+    let after = g.S.Store.record_of c.next_turns.new.store in
     let new = g.S.Store.record_of c.drop_ended.new.store in (
-      on_lighter limits old after new (came_on limits c.in_ok-reported_turn.field-0 old mid after c.turns.invariant.0 c.in_ok-reported_turn.ensures.turns c.in-Going.is) c.in_ok-drop_ended-in-Going.ensures,
+      on_lighter limits old after new (came_on limits c.in_ok-next_turns.field-0 old mid after c.turns.invariant.0 c.in_ok-next_turns.ensures.turns c.in-Going.is) c.in_ok-drop_ended-in-Going.ensures,
       follows_lighter limits old.present after new _ _ c.in_ok-drop_ended-in-Going.ensures
-          (follows_as limits old.present after.present c.in_ok-reported_turn.field-0 steps.Going _ _ c.in-Going.is
-          (follows_then limits old.present mid.present after.present c.in_ok-reported_turn.field-0 (accesses_shown c.args.reported.now) (accesses_shown c.turns.reported) (accesses_shown c.reported_turn.new.reported) c.turns.invariant.1 c.in_ok-reported_turn.ensures.follows)),
+          (follows_as limits old.present after.present c.in_ok-next_turns.field-0 steps.Going _ _ c.in-Going.is
+          (follows_then limits old.present mid.present after.present c.in_ok-next_turns.field-0 (accesses_shown c.args.reported.now) (accesses_shown c.turns.reported) (accesses_shown c.next_turns.new.reported) c.turns.invariant.1 c.in_ok-next_turns.ensures.follows)),
     )
 
 pub returns-in-Asks-clause-drives : goal.returns-in-Asks-clause-drives
@@ -42,31 +42,31 @@ returns-in-Asks-clause-drives g c =
     let limits = limits_of c.args.devices.now c.args.bounds in
     let old = g.S.Store.record_of c.args.store.now in
     let mid = g.S.Store.record_of c.turns.store in
-    let new = g.S.Store.record_of c.reported_turn.new.store in
-    subst (λ (x : Step). Drives limits x old new) c.in-Asks.is (driven limits c.in_ok-reported_turn.field-0 old mid new c.turns.invariant.0 c.in_ok-reported_turn.ensures.turns (λ e. let f = sym c.in-Asks.is ∙ e in cc))
+    let new = g.S.Store.record_of c.next_turns.new.store in
+    subst (λ (x : Step). Drives limits x old new) c.in-Asks.is (driven limits c.in_ok-next_turns.field-0 old mid new c.turns.invariant.0 c.in_ok-next_turns.ensures.turns (λ e. let f = sym c.in-Asks.is ∙ e in cc))
 
 pub returns-in-Asks-clause-follows : goal.returns-in-Asks-clause-follows
 returns-in-Asks-clause-follows g c =
     let limits = limits_of c.args.devices.now c.args.bounds in
     let old = g.S.Store.record_of c.args.store.now in
     let mid = g.S.Store.record_of c.turns.store in
-    let new = g.S.Store.record_of c.reported_turn.new.store in
-    follows_as limits old.present new.present c.in_ok-reported_turn.field-0 (steps.Asks c.in-Asks.ask) _ _ c.in-Asks.is
-    (follows_then limits old.present mid.present new.present c.in_ok-reported_turn.field-0 (accesses_shown c.args.reported.now) (accesses_shown c.turns.reported) (accesses_shown c.reported_turn.new.reported) c.turns.invariant.1 c.in_ok-reported_turn.ensures.follows)
+    let new = g.S.Store.record_of c.next_turns.new.store in
+    follows_as limits old.present new.present c.in_ok-next_turns.field-0 (steps.Asks c.in-Asks.ask) _ _ c.in-Asks.is
+    (follows_then limits old.present mid.present new.present c.in_ok-next_turns.field-0 (accesses_shown c.args.reported.now) (accesses_shown c.turns.reported) (accesses_shown c.next_turns.new.reported) c.turns.invariant.1 c.in_ok-next_turns.ensures.follows)
 
 pub returns-in-Ends-clause-drives : goal.returns-in-Ends-clause-drives
 returns-in-Ends-clause-drives g c =
     let limits = limits_of c.args.devices.now c.args.bounds in
     let old = g.S.Store.record_of c.args.store.now in
     let mid = g.S.Store.record_of c.turns.store in
-    let new = g.S.Store.record_of c.reported_turn.new.store in
-    subst (λ (x : Step). Drives limits x old new) c.in-Ends.is (driven limits c.in_ok-reported_turn.field-0 old mid new c.turns.invariant.0 c.in_ok-reported_turn.ensures.turns (λ e. let f = sym c.in-Ends.is ∙ e in cc))
+    let new = g.S.Store.record_of c.next_turns.new.store in
+    subst (λ (x : Step). Drives limits x old new) c.in-Ends.is (driven limits c.in_ok-next_turns.field-0 old mid new c.turns.invariant.0 c.in_ok-next_turns.ensures.turns (λ e. let f = sym c.in-Ends.is ∙ e in cc))
 
 pub returns-in-Ends-clause-follows : goal.returns-in-Ends-clause-follows
 returns-in-Ends-clause-follows g c =
     let limits = limits_of c.args.devices.now c.args.bounds in
     let old = g.S.Store.record_of c.args.store.now in
     let mid = g.S.Store.record_of c.turns.store in
-    let new = g.S.Store.record_of c.reported_turn.new.store in
-    follows_as limits old.present new.present c.in_ok-reported_turn.field-0 (steps.Ends c.in-Ends.halt) _ _ c.in-Ends.is
-    (follows_then limits old.present mid.present new.present c.in_ok-reported_turn.field-0 (accesses_shown c.args.reported.now) (accesses_shown c.turns.reported) (accesses_shown c.reported_turn.new.reported) c.turns.invariant.1 c.in_ok-reported_turn.ensures.follows)
+    let new = g.S.Store.record_of c.next_turns.new.store in
+    follows_as limits old.present new.present c.in_ok-next_turns.field-0 (steps.Ends c.in-Ends.halt) _ _ c.in-Ends.is
+    (follows_then limits old.present mid.present new.present c.in_ok-next_turns.field-0 (accesses_shown c.args.reported.now) (accesses_shown c.turns.reported) (accesses_shown c.next_turns.new.reported) c.turns.invariant.1 c.in_ok-next_turns.ensures.follows)

@@ -5,14 +5,14 @@ use Rattle.rehearse_machine.specs.MovesShown.{limits_of}
 use Rattle.rehearse_machine.specs.Turning.{Turns}
 use Rattle.rehearse_machine.proofs.TurnLemmas.{turned, waited, fewer, waits_first}
 use Rattle.rehearse_reports.specs.ReportsShown.{accesses_shown}
-use Rattle.rehearse_reports.proofs.FollowingLemmas.{follows_first, follows_then, follows_step, follows_as}
+use Rattle.rehearse_reports.proofs.LoopingLemmas.{moves_first, moves_as, moves_more}
 use Rattle.rehearse_reports.proofs.driving.reported_turn.Goals as goal
 
 pub moves-init : goal.moves-init
 moves-init g c =
     let limits = limits_of c.args.devices.now c.args.bounds in
     let old = g.S.Store.record_of c.args.store.now in
-    (waits_first limits old c.requires.sound, follows_first limits old.present (accesses_shown c.args.reported.now))
+    (waits_first limits old c.requires.sound, moves_first limits old.present (accesses_shown c.args.reported.now))
 
 pub returns-then-steps-before-clause-turns : goal.returns-then-steps-before-clause-turns
 returns-then-steps-before-clause-turns g c =
@@ -23,15 +23,14 @@ returns-then-steps-before-clause-turns g c =
     subst (λ (x : Step). Turns limits x old new) c.in-Going.is
     (turned limits c.in_ok-reported_step.field-0 old mid new c.moves.invariant.0 c.in_ok-reported_step.ensures.moves (λ e k. c.if-steps-before.true (c.steps.ensures ∙ k ∙ sym c.steps-before.ensures)))
 
-pub returns-then-steps-before-clause-follows : goal.returns-then-steps-before-clause-follows
-returns-then-steps-before-clause-follows g c =
+pub returns-then-steps-before-clause-moves : goal.returns-then-steps-before-clause-moves
+returns-then-steps-before-clause-moves g c =
     let limits = limits_of c.args.devices.now c.args.bounds in
     let old = g.S.Store.record_of c.args.store.now in
     let mid = g.S.Store.record_of c.moves.store in
     let new = g.S.Store.record_of c.reported_step.new.store in
-    follows_as limits old.present new.present c.in_ok-reported_step.field-0 steps.Going _ _ c.in-Going.is
-    (follows_then limits old.present mid.present new.present c.in_ok-reported_step.field-0 (accesses_shown c.args.reported.now) (accesses_shown c.moves.reported) (accesses_shown c.reported_step.new.reported) c.moves.invariant.1
-    (follows_step limits c.in_ok-reported_step.field-0 mid new (accesses_shown c.moves.reported) (accesses_shown c.reported_step.new.reported) c.moves.invariant.0.sound c.in_ok-reported_step.ensures.moves c.in_ok-reported_step.ensures.reported))
+    moves_as limits old.present new.present c.in_ok-reported_step.field-0 steps.Going _ _ c.in-Going.is
+    (moves_more limits old.present c.in_ok-reported_step.field-0 mid new (accesses_shown c.args.reported.now) (accesses_shown c.moves.reported) (accesses_shown c.reported_step.new.reported) c.moves.invariant.1 c.in_ok-reported_step.ensures.moves c.in_ok-reported_step.ensures.reported)
 
 pub moves-smaller : goal.moves-smaller
 moves-smaller g c =
@@ -48,9 +47,8 @@ moves-preserved g c =
     let mid = g.S.Store.record_of c.moves.store in
     let new = g.S.Store.record_of c.reported_step.new.store in (
       waited limits c.in_ok-reported_step.field-0 old mid new c.moves.invariant.0 c.in_ok-reported_step.ensures.moves c.in-Going.is (sym c.steps.ensures ∙ c.if-steps-before.false ∙ c.steps-before.ensures),
-      follows_as limits old.present new.present c.in_ok-reported_step.field-0 steps.Going _ _ c.in-Going.is
-          (follows_then limits old.present mid.present new.present c.in_ok-reported_step.field-0 (accesses_shown c.args.reported.now) (accesses_shown c.moves.reported) (accesses_shown c.reported_step.new.reported) c.moves.invariant.1
-          (follows_step limits c.in_ok-reported_step.field-0 mid new (accesses_shown c.moves.reported) (accesses_shown c.reported_step.new.reported) c.moves.invariant.0.sound c.in_ok-reported_step.ensures.moves c.in_ok-reported_step.ensures.reported)),
+      moves_as limits old.present new.present c.in_ok-reported_step.field-0 steps.Going _ _ c.in-Going.is
+          (moves_more limits old.present c.in_ok-reported_step.field-0 mid new (accesses_shown c.args.reported.now) (accesses_shown c.moves.reported) (accesses_shown c.reported_step.new.reported) c.moves.invariant.1 c.in_ok-reported_step.ensures.moves c.in_ok-reported_step.ensures.reported),
     )
 
 pub returns-in-Asks-clause-turns : goal.returns-in-Asks-clause-turns
@@ -62,15 +60,14 @@ returns-in-Asks-clause-turns g c =
     subst (λ (x : Step). Turns limits x old new) c.in-Asks.is
     (turned limits c.in_ok-reported_step.field-0 old mid new c.moves.invariant.0 c.in_ok-reported_step.ensures.moves (λ e k. let f = sym c.in-Asks.is ∙ e in cc))
 
-pub returns-in-Asks-clause-follows : goal.returns-in-Asks-clause-follows
-returns-in-Asks-clause-follows g c =
+pub returns-in-Asks-clause-moves : goal.returns-in-Asks-clause-moves
+returns-in-Asks-clause-moves g c =
     let limits = limits_of c.args.devices.now c.args.bounds in
     let old = g.S.Store.record_of c.args.store.now in
     let mid = g.S.Store.record_of c.moves.store in
     let new = g.S.Store.record_of c.reported_step.new.store in
-    follows_as limits old.present new.present c.in_ok-reported_step.field-0 (steps.Asks c.in-Asks.ask) _ _ c.in-Asks.is
-    (follows_then limits old.present mid.present new.present c.in_ok-reported_step.field-0 (accesses_shown c.args.reported.now) (accesses_shown c.moves.reported) (accesses_shown c.reported_step.new.reported) c.moves.invariant.1
-    (follows_step limits c.in_ok-reported_step.field-0 mid new (accesses_shown c.moves.reported) (accesses_shown c.reported_step.new.reported) c.moves.invariant.0.sound c.in_ok-reported_step.ensures.moves c.in_ok-reported_step.ensures.reported))
+    moves_as limits old.present new.present c.in_ok-reported_step.field-0 (steps.Asks c.in-Asks.ask) _ _ c.in-Asks.is
+    (moves_more limits old.present c.in_ok-reported_step.field-0 mid new (accesses_shown c.args.reported.now) (accesses_shown c.moves.reported) (accesses_shown c.reported_step.new.reported) c.moves.invariant.1 c.in_ok-reported_step.ensures.moves c.in_ok-reported_step.ensures.reported)
 
 pub returns-in-Ends-clause-turns : goal.returns-in-Ends-clause-turns
 returns-in-Ends-clause-turns g c =
@@ -81,12 +78,11 @@ returns-in-Ends-clause-turns g c =
     subst (λ (x : Step). Turns limits x old new) c.in-Ends.is
     (turned limits c.in_ok-reported_step.field-0 old mid new c.moves.invariant.0 c.in_ok-reported_step.ensures.moves (λ e k. let f = sym c.in-Ends.is ∙ e in cc))
 
-pub returns-in-Ends-clause-follows : goal.returns-in-Ends-clause-follows
-returns-in-Ends-clause-follows g c =
+pub returns-in-Ends-clause-moves : goal.returns-in-Ends-clause-moves
+returns-in-Ends-clause-moves g c =
     let limits = limits_of c.args.devices.now c.args.bounds in
     let old = g.S.Store.record_of c.args.store.now in
     let mid = g.S.Store.record_of c.moves.store in
     let new = g.S.Store.record_of c.reported_step.new.store in
-    follows_as limits old.present new.present c.in_ok-reported_step.field-0 (steps.Ends c.in-Ends.halt) _ _ c.in-Ends.is
-    (follows_then limits old.present mid.present new.present c.in_ok-reported_step.field-0 (accesses_shown c.args.reported.now) (accesses_shown c.moves.reported) (accesses_shown c.reported_step.new.reported) c.moves.invariant.1
-    (follows_step limits c.in_ok-reported_step.field-0 mid new (accesses_shown c.moves.reported) (accesses_shown c.reported_step.new.reported) c.moves.invariant.0.sound c.in_ok-reported_step.ensures.moves c.in_ok-reported_step.ensures.reported))
+    moves_as limits old.present new.present c.in_ok-reported_step.field-0 (steps.Ends c.in-Ends.halt) _ _ c.in-Ends.is
+    (moves_more limits old.present c.in_ok-reported_step.field-0 mid new (accesses_shown c.args.reported.now) (accesses_shown c.moves.reported) (accesses_shown c.reported_step.new.reported) c.moves.invariant.1 c.in_ok-reported_step.ensures.moves c.in_ok-reported_step.ensures.reported)
