@@ -5,3 +5,4 @@ pub use bootstore_copies::Plain;
 pub use bootstore_state::{At, Frame, FrameKind, LogEntry, Scope, Store, StoreError, Variables};
 pub use bootstore_trail::Trail;
 pub use envtools::Env;
+pub use rehearse_terms::Written;

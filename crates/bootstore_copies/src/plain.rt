@@ -1,9 +1,9 @@
 //! A store that keeps a copy of each marked state.
 use bootstore_state::{
-    At, Frame, LogEntry, Present, Scripts, Store, StoreError, TextFound, copy_of,
+    At, Frame, LogEntry, Present, Scripts, Store, StoreError, TextFound, add_text, copy_of,
 };
 use envtools::Env;
-use rehearse_terms::Shell;
+use rehearse_terms::{Shell, Written};
 use std::alloc::Global;
 
 /// The present state, and the marked ones.
@@ -24,15 +24,15 @@ impl Store for Plain {
     fn new(alloc: Global) -> Self {
         Plain {
             alloc,
-            present: Present::new(alloc),
+            present: Present::new(alloc, Written::Kept),
             marked: Vec::new(alloc),
             begun: 0,
             scripts: Scripts::new(alloc),
         }
     }
 
-    fn start(&mut self, env: &Env) -> Result<(), StoreError> {
-        self.present = Present::at_start(self.alloc, env)?;
+    fn start(&mut self, env: &Env, written: Written) -> Result<(), StoreError> {
+        self.present = Present::at_start(self.alloc, env, written)?;
         self.marked.clear();
         Ok(())
     }
@@ -48,7 +48,7 @@ impl Store for Plain {
     }
 
     fn echo(&mut self, written: &[u8]) -> Result<(), StoreError> {
-        self.present.text.extend_from_slice(written)?;
+        add_text(&mut self.present.text, written)?;
         Ok(())
     }
 

@@ -11,7 +11,7 @@ use Rattle.std.proofs.lemmas.Cmp.{nat_list_cmp_total}
 use Rattle.std.specs.Cmp.Lexicographic.{slice_cmp}
 use Rattle.std.proofs.lemmas.List.{nil_from_length}
 use Rattle.bootstore_state.specs.Moment as stored
-use Rattle.rehearse_terms.specs.State.{Text, Variables, without}
+use Rattle.rehearse_terms.specs.State.{Text, Variables, without, unwritten}
 use Rattle.bootstore_state.specs.StoredState.{StoredValues, StoredChanges, StoredDeletions, StoredStarts}
 
 abbrev by_bytes : Text → Text → Ordering
@@ -63,4 +63,4 @@ no_entries : entries (finite.empty {X = Text} {R = by_bytes}) ≡ []
 no_entries = nil_from_length (entries finite.empty) (sym (len-entries finite.empty) ∙ len-empty by_bytes Text)
 
 pub stored_starts : StoredStarts
-stored_starts environment word = ap (λ (locals : Variables). record { memory = record { environment = entries environment; locals = locals; status = 0; text = [] }; log = []; steps = 0; word = word }) no_entries
+stored_starts written environment word = ap (λ (locals : Variables). record { memory = record { environment = entries environment; locals = locals; status = 0; text = unwritten written }; log = []; steps = 0; word = word }) no_entries

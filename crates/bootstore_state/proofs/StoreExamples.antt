@@ -9,6 +9,7 @@ use Rattle.bootstore_state.specs.declared.frame.At.{At}
 use Rattle.bootstore_state.specs.declared.frame.FrameKind.TheVariants.{Text}
 use Rattle.bootstore_state.specs.Moment.{RunningFrame}
 use Rattle.rehearse_terms.specs.State.{LoggedCommand, answer_in}
+use Rattle.rehearse_terms.specs.declared.written.Written.TheVariants.{Kept, Dropped}
 use Rattle.bootstore_state.specs.Record.{Record, fresh, started, stepped, changed, with_environment, with_status, with_echo, with_device, with_frame, with_place, without_frame, with_mark, gone_back}
 
 abbrev start_place : At
@@ -25,7 +26,7 @@ entry = record { success = true; words = codes "load" ∷ []; stays = true; agai
 
 -- a run starts in an empty environment
 abbrev begun : Record
-begun = started empty fresh
+begun = started Kept empty fresh
 
 -- marked, `a` set, the status 1, a text, a frame; marked again, the frame popped and `a` deleted
 abbrev gone_on : Record
@@ -73,15 +74,19 @@ steps_stay = refl
 steps_go_back : (gone_back (stepped (with_mark begun))).present.steps ≡ 0
 steps_go_back = refl
 
-start_keeps_steps : (started empty (stepped begun)).begun ≡ 1
+start_keeps_steps : (started Kept empty (stepped begun)).begun ≡ 1
 start_keeps_steps = refl
 
-start_keeps_no_mark : (started empty (with_mark begun)).marked ≡ []
+start_keeps_no_mark : (started Kept empty (with_mark begun)).marked ≡ []
 start_keeps_no_mark = refl
 
 -- what was written and logged last is last
-text_in_order : (changed (with_echo (codes "xt")) (changed (with_echo (codes "te")) begun)).present.text ≡ codes "text"
+text_in_order : (changed (with_echo (codes "xt")) (changed (with_echo (codes "te")) begun)).present.text ≡ Some (codes "text")
 text_in_order = refl
+
+-- but nothing is written where the text is dropped
+text_dropped : (changed (with_echo (codes "xt")) (started Dropped empty fresh)).present.text ≡ None
+text_dropped = refl
 
 entry_logged : (changed (with_device entry) begun).present.log ≡ entry ∷ []
 entry_logged = refl

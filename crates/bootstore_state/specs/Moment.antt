@@ -1,6 +1,6 @@
 -- What a run of a boot script is made of at a moment: the state of the script (U-Boot documentation,
 -- doc/usage/cmdline and doc/usage/environment, on variables and `$?`), and what it still has to do (ours).
-use Rattle.std.specs.Prelude.{ℕ, List, [], ◌∷◌, Option, Some, None, refl}
+use Rattle.std.specs.Prelude.{ℕ, List, [], ◌∷◌, length, take, Option, Some, None, option_map, refl}
 use Rattle.std.specs.FinMap.{FinMap, empty, insert}
 use Rattle.std.specs.Ordering.{nat_cmp}
 use Rattle.std.specs.Cmp.Lexicographic.{slice_cmp}
@@ -41,12 +41,12 @@ pub record RunningFrame : Type 0 where
   pub words : List Bytes
   pub place : At
 
--- the state of a run, and its frames, the innermost first
+-- the state of a run, and its frames, the innermost first; its text is there if it is kept
 pub record Moment : Type 0 where
   pub environment : Variables
   pub locals : Variables
   pub status : ℕ
-  pub text : Bytes
+  pub text : Option Bytes
   pub log : List LoggedCommand
   pub steps : ℕ
   pub frames : List RunningFrame
@@ -55,6 +55,15 @@ pub record Moment : Type 0 where
 abbrev pub shared_words : Option (Rc (Vec (Vec ℕ Global) Global) Global) → List Bytes
 shared_words None = []
 shared_words (Some words) = bytes_of_words words.value.items
+
+-- how many bytes of a text are kept
+abbrev pub text_length : Option Bytes → ℕ
+text_length None = 0
+text_length (Some text) = length text
+
+-- the first so many of them
+abbrev pub text_front : (count : ℕ) → Option Bytes → Option Bytes
+text_front count text = option_map (take count) text
 
 -- how the logic stores a frame
 abbrev pub coded_frame : Coded RunningFrame

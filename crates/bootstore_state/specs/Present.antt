@@ -10,6 +10,7 @@ use Rattle.bootstore_state.specs.contracts.table.Table as table
 use Rattle.bootstore_state.specs.Moment.{Bytes, Moment}
 use Rattle.bootstore_state.specs.Record.{assigned}
 use Rattle.bootstore_state.specs.Table.{variables_of}
+use Rattle.text.specs.TextsShown.{option_items}
 
 -- the innermost frame was pushed last
 abbrev pub moment_of : Present → Moment
@@ -18,7 +19,7 @@ moment_of p =
       environment = variables_of p.environment;
       locals = variables_of p.locals;
       status = p.status;
-      text = p.text.items;
+      text = option_items p.text;
       log = p.log.items;
       steps = p.steps;
       frames = reverse p.frames.items;

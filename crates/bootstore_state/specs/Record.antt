@@ -4,7 +4,9 @@
 use Rattle.std.specs.Prelude.{ℕ, ◌+◌, List, [], ◌∷◌, ◌++◌, Option, Some, None}
 use Rattle.std.specs.FinMap.{empty, insert, remove}
 use Rattle.bootstore_state.specs.declared.frame.At.{At}
-use Rattle.rehearse_terms.specs.State.{LoggedCommand}
+use Rattle.rehearse_terms.specs.State.{LoggedCommand, text_with, unwritten}
+use Rattle.rehearse_terms.specs.declared.written.Written.{Written}
+use Rattle.rehearse_terms.specs.declared.written.Written.TheVariants.{Kept}
 use Rattle.bootstore_state.specs.Moment.{Bytes, Variables, RunningFrame, Moment}
 
 -- the present moment; the marked ones, the last first; and how many steps were ever begun
@@ -14,9 +16,9 @@ pub record Record : Type 0 where
   pub begun : ℕ
 
 -- the moment at which a run in this environment starts
-abbrev pub beginning : Variables → Moment
-beginning environment =
-    record { environment = environment; locals = empty; status = 0; text = []; log = []; steps = 0; frames = [] }
+abbrev pub beginning : Written → Variables → Moment
+beginning written environment =
+    record { environment = environment; locals = empty; status = 0; text = unwritten written; log = []; steps = 0; frames = [] }
 
 -- the variables with the name set to the value, or without it
 abbrev pub assigned : Variables → Bytes → Option Bytes → Variables
@@ -30,7 +32,7 @@ abbrev pub with_local : Bytes → Bytes → Moment → Moment
 with_local name value m = record m { locals = insert m.locals name value }
 
 abbrev pub with_echo : Bytes → Moment → Moment
-with_echo written m = record m { text = m.text ++ written }
+with_echo written m = record m { text = text_with written m.text }
 
 abbrev pub with_device : LoggedCommand → Moment → Moment
 with_device entry m = record m { log = m.log ++ entry ∷ [] }
@@ -64,8 +66,8 @@ abbrev pub changed : (Moment → Moment) → Record → Record
 changed change r = record r { present = change r.present }
 
 -- a run in this environment starts, and nothing is marked
-abbrev pub started : Variables → Record → Record
-started environment r = record r { present = beginning environment; marked = [] }
+abbrev pub started : Written → Variables → Record → Record
+started written environment r = record r { present = beginning written environment; marked = [] }
 
 -- a step is begun
 abbrev pub stepped : Record → Record
@@ -88,6 +90,6 @@ returned present begun (m ∷ ms) = record { present = m; marked = ms; begun = b
 abbrev pub gone_back : Record → Record
 gone_back r = returned r.present r.begun r.marked
 
--- everything is empty or 0
+-- everything is empty or 0, and a text would be kept
 abbrev pub fresh : Record
-fresh = record { present = beginning empty; marked = []; begun = 0 }
+fresh = record { present = beginning Kept empty; marked = []; begun = 0 }

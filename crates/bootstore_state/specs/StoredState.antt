@@ -4,6 +4,7 @@ use Rattle.std.specs.FinMap as finite
 use Rattle.std.specs.FinMap.{entries}
 use Rattle.rehearse_terms.specs.Outcomes.{OutcomeWord}
 use Rattle.rehearse_terms.specs.State.{Text, get, with_value, without, State, start}
+use Rattle.rehearse_terms.specs.declared.written.Written.{Written}
 use Rattle.bootstore_state.specs.Moment.{Moment, Variables}
 use Rattle.bootstore_state.specs.Record.{beginning}
 
@@ -33,5 +34,5 @@ StoredDeletions = (variables : Variables) (name : Text) →
 
 -- the moment at which a store starts a run is the state at the run's start
 abbrev pub StoredStarts : Type 0
-StoredStarts = (environment : Variables) (word : OutcomeWord) →
-    state_at (beginning environment) word ≡ start (entries environment) word
+StoredStarts = (written : Written) (environment : Variables) (word : OutcomeWord) →
+    state_at (beginning written environment) word ≡ start written (entries environment) word

@@ -3,6 +3,7 @@
 
 mod copies;
 mod frame;
+mod kept_text;
 pub mod laws;
 mod log;
 mod present;
@@ -12,6 +13,7 @@ mod table;
 
 pub use copies::copy_of;
 pub use frame::{At, Frame, FrameKind};
+pub use kept_text::{add_text, cut_text, text_length};
 pub use log::{LogEntry, has_succeeded};
 pub use present::{Present, Scope};
 pub use scripts::{Scripts, TextFound};

@@ -3,9 +3,11 @@ ghost use Rattle.std.specs.Prelude.{◌≡◌, IfOk, Some, option_map, slice_get
 ghost use Rattle.std.specs.Borrow.{sem};
 
 use crate::frame::{At, Frame};
+use crate::kept_text::no_text;
 use crate::log::LogEntry;
 use crate::table::Table;
 use envtools::Env;
+use rehearse_terms::Written;
 use std::alloc::{AllocError, Global};
 
 /// Where a variable is known.
@@ -23,7 +25,7 @@ pub struct Present {
     pub environment: Table,
     pub locals: Table,
     pub status: u8,
-    pub text: Vec<u8>,
+    pub text: Option<Vec<u8>>,
     pub log: Vec<LogEntry>,
     pub steps: u32,
     pub frames: Vec<Frame>,
@@ -37,15 +39,15 @@ impl Present {
     ghost use Rattle.bootstore_state.specs.Table.{KeepsNothing};
 
     /// Everything is empty or 0.
-    pub fn new(alloc: Global) -> Self
-        ensures beginning { moment_of result ≡ beginning empty }
+    pub fn new(alloc: Global, written: Written) -> Self
+        ensures beginning { moment_of result ≡ beginning written empty }
         ensures kept { KeepsNothing result.environment × KeepsNothing result.locals }
     {
         Present {
             environment: Table::new(alloc),
             locals: Table::new(alloc),
             status: 0,
-            text: Vec::new(alloc),
+            text: no_text(alloc, written),
             log: Vec::new(alloc),
             steps: 0,
             frames: Vec::new(alloc),
@@ -53,13 +55,13 @@ impl Present {
     }
 
     /// The state at the start of a run in an environment. Errors: memory ran out.
-    pub fn at_start(alloc: Global, env: &Env) -> Result<Present, AllocError>
+    pub fn at_start(alloc: Global, env: &Env, written: Written) -> Result<Present, AllocError>
         ensures beginning { IfOk result
-            (λ present. moment_of present ≡ beginning (environment_of env.now)) }
+            (λ present. moment_of present ≡ beginning written (environment_of env.now)) }
         ensures kept { IfOk result (λ present. KeepsNothing present.environment
             × KeepsNothing present.locals) }
     {
-        let mut present = Present::new(alloc);
+        let mut present = Present::new(alloc, written);
         for place in 0..env.len() {
             let (name, value) = env.pair(place).unwrap();
             present.environment.set(alloc, name, Some(value))?;

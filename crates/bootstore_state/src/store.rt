@@ -15,7 +15,7 @@ use crate::present::Present;
 use crate::scripts::TextFound;
 use crate::table::Variables;
 use envtools::Env;
-use rehearse_terms::Shell;
+use rehearse_terms::{Shell, Written};
 use std::alloc::{AllocError, AllocFailed, Global};
 use thiserror::Error;
 
@@ -49,9 +49,9 @@ pub trait Store: Drop {
     fn new(alloc: Global) -> Self
         ensures { record_of result ≡ fresh };
 
-    /// Starts a run in an environment: no frame and no mark. `begun` stays.
-    fn start(&mut self, env: &Env) -> Result<(), StoreError>
-        ensures ok { OnOk result (record_of self.new ≡ started (environment_of env.now)
+    /// Starts a run in an environment: no frame and no mark. `begun` stays. What the run writes is kept or dropped.
+    fn start(&mut self, env: &Env, written: Written) -> Result<(), StoreError>
+        ensures ok { OnOk result (record_of self.new ≡ started written (environment_of env.now)
             (record_of self.old)) }
         ensures err { OnErr result (record_of self.new ≡ record_of self.old) };
 
@@ -67,7 +67,7 @@ pub trait Store: Drop {
             (record_of self.old)) }
         ensures err { OnErr result (record_of self.new ≡ record_of self.old) };
 
-    /// Adds bytes at the end of the text.
+    /// Adds bytes at the end of the text, if it is kept.
     fn echo(&mut self, written: &[u8]) -> Result<(), StoreError>
         ensures ok { OnOk result (record_of self.new ≡ changed (with_echo written.now)
             (record_of self.old)) }
@@ -173,11 +173,11 @@ pub trait Store: Drop {
         self.present().steps
     }
 
-    /// The bytes that the run has written.
-    fn text(&self) -> &[u8]
-        ensures { result.now ≡ (record_of self.now).present.text }
+    /// The bytes that the run has written, if they are kept.
+    fn text(&self) -> Option<&[u8]>
+        ensures { option_bytes result ≡ (record_of self.now).present.text }
     {
-        &self.present().text
+        self.present().text.as_deref()
     }
 
     /// The device commands that were run, in order.

@@ -19,8 +19,8 @@ use Rattle.bootstore_state.specs.declared.present.Present.{Present}
 use Rattle.bootstore_state.specs.declared.present.Scope.{Scope}
 use Rattle.bootstore_state.specs.declared.present.Scope.TheVariants.{Environment, Local}
 use Rattle.bootstore_state.specs.declared.frame.At.{At}
-use Rattle.bootstore_state.specs.Moment.{Bytes, Moment, RunningFrame}
-use Rattle.rehearse_terms.specs.State.{LoggedCommand}
+use Rattle.bootstore_state.specs.Moment.{Bytes, Moment, RunningFrame, text_front, text_length}
+use Rattle.rehearse_terms.specs.State.{LoggedCommand, text_with}
 use Rattle.text.specs.TextsShown.{option_bytes}
 use Rattle.bootstore_state.specs.Record.{Record, assigned, moved, without_first, with_place, without_frame, with_frame, with_echo, with_device}
 use Rattle.bootstore_state.specs.Present.{moment_of, chosen, table_of, with_table, with_variable}
@@ -89,11 +89,28 @@ outermost-popped : (n : ℕ) (fs : List RunningFrame) → (n < length fs) ⊎ (l
 outermost-popped n [] h = refl
 outermost-popped n (f ∷ fs) h = ⊎_elim (λ less. sym (outermost-cons n f fs (omega arith))) (λ none. absurd (omega arith)) h
 
+-- Texts: what is written behind the first bytes does not change them.
+front-written : (n : ℕ) (text : Option Bytes) (written : Bytes) → n ≤ text_length text → text_front n (text_with written text) ≡ text_front n text
+front-written n None written h = refl
+front-written n (Some t) written h = ap (λ x. Some x) (take-append-le n t written h)
+
+length-front : (n : ℕ) (text : Option Bytes) → n ≤ text_length text → text_length (text_front n text) ≡ n
+length-front n None h = omega arith
+length-front n (Some t) h = length-take-le n t h
+
+front-all : (n : ℕ) (text : Option Bytes) → n ≡ text_length text → text_front n text ≡ text
+front-all n None h = refl
+front-all n (Some t) h = ap (λ x. Some x) (take_all n t (omega arith))
+
+pub longer-written : (text : Option Bytes) (written : Bytes) → text_length text ≤ text_length (text_with written text)
+longer-written None written = omega arith
+longer-written (Some t) written = let h = length-append t written in omega arith
+
 -- moments that differ only in what a mark keeps itself, or in what the way back drops
 pub record AreAlike (kept : List Kept) (m n : Moment) : Type 0 where
   environment : m.environment ≡ n.environment
   locals : m.locals ≡ n.locals
-  text : take (text_reach kept) m.text ≡ take (text_reach kept) n.text
+  text : text_front (text_reach kept) m.text ≡ text_front (text_reach kept) n.text
   log : take (log_reach kept) m.log ≡ take (log_reach kept) n.log
   frames : outermost (frame_reach kept) m.frames ≡ outermost (frame_reach kept) n.frames
 
@@ -117,7 +134,7 @@ module _ (m : Moment) (u : ℕ) (kept : List Kept) (leads : LeadsBack m u kept) 
   marked_status status steps = marked_alike kept _ _ (record { environment = refl; locals = refl; text = refl; log = refl; frames = refl })
 
   pub marked_echo : (written : Bytes) → marked_before (with_echo written m) kept ≡ marked_before m kept
-  marked_echo written = marked_alike kept _ _ (record { environment = refl; locals = refl; text = take-append-le (text_reach kept) m.text written leads.text; log = refl; frames = refl })
+  marked_echo written = marked_alike kept _ _ (record { environment = refl; locals = refl; text = front-written (text_reach kept) m.text written leads.text; log = refl; frames = refl })
 
   pub marked_device : (entry : LoggedCommand) → marked_before (with_device entry m) kept ≡ marked_before m kept
   marked_device entry = marked_alike kept _ _ (record { environment = refl; locals = refl; text = refl; log = take-append-le (log_reach kept) m.log (entry ∷ []) leads.log; frames = refl })
@@ -135,7 +152,7 @@ module _ (m : Moment) (u : ℕ) (kept : List Kept) (leads : LeadsBack m u kept) 
   marked_popped h = marked_alike kept _ _ (record { environment = refl; locals = refl; text = refl; log = refl; frames = outermost-popped (frame_reach kept) m.frames (reached h) })
 
   -- the way back leads through another moment too, if it reaches as far
-  pub leads_through : (n : Moment) → length m.text ≤ length n.text → length m.log ≤ length n.log → u ≤ length n.frames → LeadsBack n u kept
+  pub leads_through : (n : Moment) → text_length m.text ≤ text_length n.text → length m.log ≤ length n.log → u ≤ length n.frames → LeadsBack n u kept
   leads_through n text log frames = record { text = omega (arith, leads.text); log = omega (arith, leads.log); frames = leads.frames; untouched_frames = frames; nested = leads.nested; rooted = leads.rooted }
 
 -- Names: more places do no harm.
@@ -190,7 +207,7 @@ leads_at_mark m u mark kept h =
     let untouched = and_parts _ (eqb (frame_reach kept) mark.before.untouched) frames.0 in
     let lengths = and_parts (leb (text_reach kept) mark.text) (leb (log_reach kept) mark.log) untouched.0 in
     record {
-      text = omega (arith, leb-true _ _ lengths.0, length-take-le mark.text m.text h.text);
+      text = omega (arith, leb-true _ _ lengths.0, length-front mark.text m.text h.text);
       log = omega (arith, leb-true _ _ lengths.1, length-take-le mark.log m.log h.log);
       frames = eqb-true _ _ untouched.1;
       untouched_frames = omega (arith, leb-true _ _ frames.1, length-outermost mark.frames m.frames (omega (arith, h.frames, h.untouched_frames)));
@@ -206,14 +223,14 @@ can_at_mark p q u mark kept can e environment locals capacity = record {
 }
 
 -- a new mark: it is the moment itself
-pub at_mark-now : (m : Moment) (mark : Marked) → mark.status ≡ m.status → mark.steps ≡ m.steps → mark.text ≡ length m.text → mark.log ≡ length m.log → mark.frames ≡ length m.frames → at_mark mark m ≡ m
+pub at_mark-now : (m : Moment) (mark : Marked) → mark.status ≡ m.status → mark.steps ≡ m.steps → mark.text ≡ text_length m.text → mark.log ≡ length m.log → mark.frames ≡ length m.frames → at_mark mark m ≡ m
 at_mark-now m mark status steps text log frames =
-    let same_text = take_all mark.text m.text (omega arith) in
+    let same_text = front-all mark.text m.text (omega arith) in
     let same_log = take_all mark.log m.log (omega arith) in
     let same_frames = outermost-all mark.frames m.frames frames in
     λ i. record { environment = m.environment; locals = m.locals; status = status i; text = same_text i; log = same_log i; steps = steps i; frames = same_frames i }
 
-pub leads_from_mark : (m : Moment) (mark : Marked) (kept : List Kept) → LeadsBack m mark.before.untouched kept → mark.text ≡ length m.text → mark.log ≡ length m.log → mark.frames ≡ length m.frames → LeadsBack m mark.frames (Mark mark ∷ kept)
+pub leads_from_mark : (m : Moment) (mark : Marked) (kept : List Kept) → LeadsBack m mark.before.untouched kept → mark.text ≡ text_length m.text → mark.log ≡ length m.log → mark.frames ≡ length m.frames → LeadsBack m mark.frames (Mark mark ∷ kept)
 leads_from_mark m mark kept h text log frames =
     let a = leb (text_reach kept) mark.text in
     let b = leb (log_reach kept) mark.log in

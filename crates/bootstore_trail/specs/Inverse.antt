@@ -7,7 +7,7 @@ use Rattle.bootstore_trail.specs.declared.inverse.Kept.{Kept}
 use Rattle.bootstore_trail.specs.declared.inverse.Kept.TheVariants.{Mark, Change}
 use Rattle.bootstore_state.specs.declared.present.Present.{Present}
 use Rattle.bootstore_state.specs.declared.present.Scope.{Scope}
-use Rattle.bootstore_state.specs.Moment.{Bytes, Moment, RunningFrame}
+use Rattle.bootstore_state.specs.Moment.{Bytes, Moment, RunningFrame, text_front, text_length}
 use Rattle.bootstore_state.specs.Record.{Record}
 use Rattle.bootstore_state.specs.Present.{moment_of, chosen, table_of, with_variable}
 use Rattle.bootstore_state.specs.Table.{Names, has_slot, names_before, place_value, stands_among, last_kept, kept_of, is_name}
@@ -28,7 +28,7 @@ at_mark mark m =
       environment = m.environment;
       locals = m.locals;
       status = mark.status;
-      text = take mark.text m.text;
+      text = text_front mark.text m.text;
       log = take mark.log m.log;
       steps = mark.steps;
       frames = outermost mark.frames m.frames;
@@ -117,7 +117,7 @@ begins_with_mark (one ∷ next ∷ kept) = begins_with_mark (next ∷ kept)
 
 -- the way back goes through this moment, whose first frames are untouched since the last mark
 pub record LeadsBack (m : Moment) (untouched : ℕ) (kept : List Kept) : Type 0 where
-  pub text : text_reach kept ≤ length m.text
+  pub text : text_reach kept ≤ text_length m.text
   pub log : log_reach kept ≤ length m.log
   pub frames : frame_reach kept ≡ untouched
   pub untouched_frames : untouched ≤ length m.frames

@@ -6,7 +6,7 @@ ghost use Rattle.bootstore_state.specs.Present.{moment_of};
 ghost use Rattle.bootstore_state.specs.Table.{has_slot, AreWithin, AreEqual, last_kept};
 ghost use Rattle.bootstore_state.specs.declared.present.Scope.TheVariants.{Environment, Local};
 
-use bootstore_state::{Frame, Place, Present, Scope};
+use bootstore_state::{Frame, Place, Present, Scope, cut_text};
 
 /// What is known of the time since the last mark.
 #[derive(Clone, Copy)]
@@ -24,7 +24,7 @@ pub struct Marked {
     pub status: u8,
     /// The count of steps.
     pub steps: u32,
-    /// The length of the text.
+    /// How many bytes of text were kept.
     pub text: usize,
     /// The length of the log.
     pub log: usize,
@@ -89,7 +89,7 @@ pub fn return_to(present: &mut Present, marked: Marked)
 {
     present.status = marked.status;
     present.steps = marked.steps;
-    present.text.truncate(marked.text);
+    cut_text(&mut present.text, marked.text);
     present.log.truncate(marked.log);
     present.frames.truncate(marked.frames);
 }

@@ -3,9 +3,12 @@ ghost use Rattle.std.specs.Prelude.{reverse};
 ghost use Rattle.bootstore_trail.specs.Inverse.{CanGoBack, KeepsOnce};
 
 use crate::inverse::{Inverse, Kept, Marked, Since, undo_to_mark};
-use bootstore_state::{At, Frame, LogEntry, Present, Scope, Scripts, Store, StoreError, TextFound};
+use bootstore_state::{
+    At, Frame, LogEntry, Present, Scope, Scripts, Store, StoreError, TextFound, add_text,
+    text_length,
+};
 use envtools::Env;
-use rehearse_terms::Shell;
+use rehearse_terms::{Shell, Written};
 use std::alloc::Global;
 
 /// The present state, and what takes back the changes since the first mark. While nothing is
@@ -91,7 +94,7 @@ impl Store for Trail {
     fn new(alloc: Global) -> Self {
         Trail {
             alloc,
-            present: Present::new(alloc),
+            present: Present::new(alloc, Written::Kept),
             kept: Vec::new(alloc),
             since: Since {
                 untouched: 0,
@@ -102,8 +105,8 @@ impl Store for Trail {
         }
     }
 
-    fn start(&mut self, env: &Env) -> Result<(), StoreError> {
-        let present = Present::at_start(self.alloc, env)?;
+    fn start(&mut self, env: &Env, written: Written) -> Result<(), StoreError> {
+        let present = Present::at_start(self.alloc, env, written)?;
         self.kept.clear();
         self.since = Since {
             untouched: 0,
@@ -122,7 +125,7 @@ impl Store for Trail {
     }
 
     fn echo(&mut self, written: &[u8]) -> Result<(), StoreError> {
-        self.present.text.extend_from_slice(written)?;
+        add_text(&mut self.present.text, written)?;
         Ok(())
     }
 
@@ -169,7 +172,7 @@ impl Store for Trail {
         let marked = Marked {
             status: self.present.status,
             steps: self.present.steps,
-            text: self.present.text.len(),
+            text: text_length(&self.present.text),
             log: self.present.log.len(),
             frames: self.present.frames.len(),
             before: self.since,

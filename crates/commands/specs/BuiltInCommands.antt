@@ -7,7 +7,7 @@ use Rattle.text.specs.Numbers.{are_digits, is_digit}
 use Rattle.text.specs.Words.{joined_words}
 use Rattle.builtins.specs.Builtins.{Builtin, SetEnv, Run, Test, Echo, True, False, Leave}
 use Rattle.commands.specs.Computed.{Computed, Gives, Exists, Sets, Deletes, SetsNumber}
-use Rattle.rehearse_terms.specs.State.{Text, Variables, Memory, get, with_value, without}
+use Rattle.rehearse_terms.specs.State.{Text, Variables, Memory, get, with_value, without, text_with}
 use Rattle.commands.specs.VariableNames.{is_bad_name}
 
 -- what a built-in command does with its words
@@ -92,4 +92,4 @@ abbrev pub variables_changed : (List Text → Variables → Variables × ℕ) �
 variables_changed change words = changed_by (change words)
 
 abbrev pub text_written : (List Text → Text) → List Text → Memory → Memory
-text_written written words m = record m { text = m.text ++ written words; status = 0 }
+text_written written words m = record m { text = text_with (written words) m.text; status = 0 }

@@ -93,8 +93,8 @@ log_taken s t u g e none over =
 log_at : (task : Task) (p : OutcomeWord) (m : Moment) → came_state (settled (run_on task (p ++ []))) ≡ state_at m [] → length (asked_in m.log) ≡ length p
 log_at task p m e =
     let a : Answer = run_on task (p ++ []) in
-    let g = Track-of task.limits.device_bound (start task.environment (p ++ [])) a (Keeps-run_on task (start task.environment (p ++ []))).0 in
-    log_taken (start task.environment (p ++ [])) (state_of a) (state_at m []) g (sym (state_settled a) ∙ e) refl refl ∙ ap length (append-nil p)
+    let g = Track-of task.limits.device_bound (start task.written task.environment (p ++ [])) a (Keeps-run_on task (start task.written task.environment (p ++ []))).0 in
+    log_taken (start task.written task.environment (p ++ [])) (state_of a) (state_at m []) g (sym (state_settled a) ∙ e) refl refl ∙ ap length (append-nil p)
 
 stopped_log : (task : Task) (p : OutcomeWord) (stop : Stop) (m : Moment) → StoppedAt task p stop m → length (asked_in m.log) ≡ length p
 stopped_log task p Asks m h = log_at task p m (ap came_state h.2)

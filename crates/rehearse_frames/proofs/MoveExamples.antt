@@ -10,6 +10,7 @@ use Rattle.device_list.specs.DeviceList.{Devices, only}
 use Rattle.device_list.specs.DeviceLaws.{quiet}
 use Rattle.rehearse_terms.specs.Outcomes.{OutcomeWord, Success, Failure}
 use Rattle.rehearse_terms.specs.State.{Text, State, LoggedCommand, start}
+use Rattle.rehearse_terms.specs.declared.written.Written.TheVariants.{Kept}
 use Rattle.rehearse_terms.specs.declared.shell.Shell.TheVariants.{Profile}
 use Rattle.rehearse_rules.specs.Execution.{Limits, Request, request_of, set_status}
 use Rattle.rehearse_machine.specs.Frames.{Frame, Lists, IfCondition, LoopCondition, LoopBody, ForBody, RunNames, RunText, Ask}
@@ -26,7 +27,7 @@ abbrev limits : Limits
 limits = record { devices = devices; device_bound = 4; step_bound = 8; shell = Profile }
 
 abbrev before : State
-before = start ((codes "a", codes "1") ∷ (codes "x", codes "true") ∷ []) []
+before = start Kept ((codes "a", codes "1") ∷ (codes "x", codes "true") ∷ []) []
 
 unfoldable script_of : Text → Script
 unfolding tree_of

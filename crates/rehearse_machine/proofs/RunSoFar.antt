@@ -29,20 +29,20 @@ module _ (task : Task) where
 
   -- where a run starts
   abbrev pub begun : TextRead → Next
-  begun (Runs t) = Go (Lists t ∷ []) (begun_text t (start task.environment []))
-  begun Fails = Stop (End 1) (set_status 1 (start task.environment []))
-  begun Panics = Stop (Panic task.name) (start task.environment [])
-  begun Unread = Stop (unread task.limits.shell task.name) (start task.environment [])
+  begun (Runs t) = Go (Lists t ∷ []) (begun_text t (start task.written task.environment []))
+  begun Fails = Stop (End 1) (set_status 1 (start task.written task.environment []))
+  begun Panics = Stop (Panic task.name) (start task.written task.environment [])
+  begun Unread = Stop (unread task.limits.shell task.name) (start task.written task.environment [])
 
-  read_as : (found : TextRead) → first_in task.limits.shell task.text ≡ found → (w : OutcomeWord) → run_on task w ≡ run_read task.limits (full task.limits) task.name found (start task.environment w)
-  read_as found e w = ap (λ (x : TextRead). run_read task.limits (full task.limits) task.name x (start task.environment w)) e
+  read_as : (found : TextRead) → first_in task.limits.shell task.text ≡ found → (w : OutcomeWord) → run_on task w ≡ run_read task.limits (full task.limits) task.name found (start task.written task.environment w)
+  read_as found e w = ap (λ (x : TextRead). run_read task.limits (full task.limits) task.name x (start task.written task.environment w)) e
 
-  begins_by : (found : TextRead) → ((t : Script) → found ≡ Runs t → IsProper t) → (w : OutcomeWord) → settled (run_read task.limits (full task.limits) task.name found (start task.environment w)) ≡ comes_to task.limits w (begun found)
+  begins_by : (found : TextRead) → ((t : Script) → found ≡ Runs t → IsProper t) → (w : OutcomeWord) → settled (run_read task.limits (full task.limits) task.name found (start task.written task.environment w)) ≡ comes_to task.limits w (begun found)
   begins_by Fails p w = refl
   begins_by Panics p w = refl
   begins_by Unread p w = refl
-  begins_by (Runs tree.Empty) p w = ap settled (closed_exec task.limits task.limits.step_bound tree.Empty tt (with w (begun_text tree.Empty (start task.environment []))) (omega arith))
-  begins_by (Runs (tree.Runs l ls)) p w = ap settled (closed_exec task.limits task.limits.step_bound (tree.Runs l ls) (p (tree.Runs l ls) refl) (with w (start task.environment [])) (omega arith))
+  begins_by (Runs tree.Empty) p w = ap settled (closed_exec task.limits task.limits.step_bound tree.Empty tt (with w (begun_text tree.Empty (start task.written task.environment []))) (omega arith))
+  begins_by (Runs (tree.Runs l ls)) p w = ap settled (closed_exec task.limits task.limits.step_bound (tree.Runs l ls) (p (tree.Runs l ls) refl) (with w (start task.written task.environment [])) (omega arith))
 
   pub begins : (found : TextRead) → first_in task.limits.shell task.text ≡ found → AfterMove task [] (begun found)
   begins found e = after-is [] (begun found) (λ w. ap settled (read_as found e w) ∙ begins_by found (λ t f. first_texts_are_proper task.limits.shell task.text t (e ∙ f)) w)

@@ -1,6 +1,6 @@
 -- Worked examples, computed: what a rehearsal runs. A variable of the same name as the given text is set too.
 use Rattle.std.proofs.Common.{◌≡◌, ◌∙◌, List, [], ◌∷◌, Option, Some, None, ap, codes, refl}
-use Rattle.std.specs.Prelude.{option_map}
+use Rattle.std.specs.Prelude.{option_map, unwrap_or}
 use Rattle.std.specs.FinMap as finite
 use Rattle.std.specs.FinMap.{entries}
 use Rattle.std.specs.Fmt.{digits}
@@ -11,6 +11,7 @@ use Rattle.bootstore_state.specs.Moment.{environment_of}
 use Rattle.bootstore_state.proofs.StateLemmas.{stored_changes, stored_starts}
 use Rattle.device_list.specs.DeviceList.{Devices}
 use Rattle.rehearse_terms.specs.Bounds.{BoundsShown}
+use Rattle.rehearse_terms.specs.declared.written.Written.TheVariants.{Kept}
 use Rattle.rehearse_terms.specs.State.{State, Text, Variables, get, with_value}
 use Rattle.rehearse_terms.specs.declared.shell.Shell.TheVariants.{Profile}
 use Rattle.rehearse_rules.specs.Execution.{Ending, End, Syntax}
@@ -25,7 +26,7 @@ abbrev none : stored.Variables
 none = finite.empty
 
 no_variables : entries none ≡ []
-no_variables = ap (λ (s : State). s.memory.locals) (stored_starts none [])
+no_variables = ap (λ (s : State). s.memory.locals) (stored_starts Kept none [])
 
 -- a run begins with these variables
 variables : entries (environment_of environment) ≡ environment
@@ -42,7 +43,7 @@ named text = record { name = codes "boot.cmd"; given = Some text }
 
 -- what the text prints that is run, and how its run without outcomes ends
 abbrev told_of : Task → Text × Ending
-told_of task = ((state_of (run_on task [])).memory.text, ending_of (run_on task []))
+told_of task = (unwrap_or (state_of (run_on task [])).memory.text [], ending_of (run_on task []))
 
 abbrev told_in : List (Text × Text) → SourceShown → Option (Text × Ending)
 told_in env source = option_map told_of (task_found env only_load source bounds)
@@ -55,6 +56,7 @@ told_from vs source = option_map (λ text. told_of (record {
   name = source.name;
   text = text;
   failures = None;
+  written = Kept;
 })) (text_by source.given (get vs source.name))
 
 map_twice : (o : Option Text) (f : Text → Task) → option_map told_of (option_map f o) ≡ option_map (λ text. told_of (f text)) o

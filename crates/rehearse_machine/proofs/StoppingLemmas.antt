@@ -7,6 +7,7 @@ use Rattle.bootstore_state.specs.Moment.{RunningFrame, Moment}
 use Rattle.bootstore_state.specs.Record.{Record}
 use Rattle.rehearse_terms.specs.Outcomes.{OutcomeWord, Outcome, Success, Failure}
 use Rattle.rehearse_terms.specs.State.{State}
+use Rattle.rehearse_terms.specs.declared.written.Written.TheVariants.{Kept}
 use Rattle.bootstore_state.specs.StoredState.{state_at}
 use Rattle.device_list.specs.Called.{sets_in}
 use Rattle.device_list.specs.DeviceList.{fails_normally}
@@ -147,7 +148,7 @@ module _ (limits : Limits) (old mid : Record) (step : Step) (asking : IsAsking l
         ∙ ap (place_answered outcome asking_at.request old.present.frames) (same_state w)
 
     abbrev task : Task
-    task = record { limits = limits; environment = []; name = []; text = []; failures = None }
+    task = record { limits = limits; environment = []; name = []; text = []; failures = None; written = Kept }
 
     resumed : (w : OutcomeWord) → asked_at limits old.present (outcome ∷ w) ≡ step_comes limits next new.present w
     unfolding asked_at

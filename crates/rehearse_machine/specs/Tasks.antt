@@ -5,6 +5,7 @@ use Rattle.text.specs.TextsShown.{option_bytes}
 use Rattle.bootstore_state.specs.Moment.{environment_of}
 use Rattle.envtools.specs.Environment.{value_of}
 use Rattle.rehearse_terms.specs.State.{Text, get}
+use Rattle.rehearse_terms.specs.declared.written.Written.TheVariants.{Kept}
 use Rattle.device_list.specs.DeviceList.{Devices}
 use Rattle.rehearse_terms.specs.Bounds.{BoundsShown}
 use Rattle.rehearse_rules.specs.Runs.{Task, task_of}
@@ -38,6 +39,7 @@ task_from env devices source bounds =
       name = source.name;
       text = unwrap_or (text_by source.given (get environment source.name)) [];
       failures = bounds.failures;
+      written = Kept;
     }
 
 -- the same, if there is a text
@@ -62,4 +64,4 @@ task_set env devices name bounds =
     (entries (environment_of env)) name
 
 abbrev pub task_in : Rehearsal → Task
-task_in r = task_from r.env.now r.devices.now (source_shown r.source) r.bounds
+task_in r = record (task_from r.env.now r.devices.now (source_shown r.source) r.bounds) { written = r.written }

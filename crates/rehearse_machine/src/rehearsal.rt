@@ -21,7 +21,7 @@ use envtools::Env;
 use hushlang::Fields;
 use hushlang_shells::{TextRead, read_first};
 use rehearse_rules::Halt;
-use rehearse_terms::RunBounds;
+use rehearse_terms::{RunBounds, Written};
 use std::alloc::Global;
 use std::rc::Rc;
 
@@ -68,13 +68,16 @@ pub struct Rehearsal<'a> {
     pub source: Source<'a>,
     /// The bounds of a run.
     pub bounds: RunBounds,
+    /// What becomes of what a run writes.
+    pub written: Written,
 }
 
 impl<'a> Rehearsal<'a> {
     ghost use Rattle.std.specs.Prelude.{IfSome, option_map, Some, None};
     ghost use Rattle.rehearse_machine.specs.Tasks.{task_found, task_from, text_in};
+    ghost use Rattle.rehearse_rules.specs.Runs.{unheard};
 
-    /// The rehearsal of a given text, or else of the text of a variable, if it is set.
+    /// The rehearsal of a given text, or else of the text of a variable, if it is set. What its runs write is kept.
     pub fn of(
         alloc: Global,
         env: &'a Env,
@@ -98,7 +101,22 @@ impl<'a> Rehearsal<'a> {
             devices,
             source,
             bounds,
+            written: Written::Kept,
         })
+    }
+
+    /// The same, with what its runs write dropped.
+    pub fn unheard(&self) -> Self
+        ensures { task_in result ≡ unheard (task_in self.now) }
+    {
+        Rehearsal {
+            alloc: self.alloc,
+            env: self.env,
+            devices: self.devices,
+            source: self.source,
+            bounds: self.bounds,
+            written: Written::Dropped,
+        }
     }
 }
 
@@ -169,7 +187,7 @@ pub fn begin<'a, S: Store>(
 {
     let _bound = rehearsal.bounds.steps();
     let shell = rehearsal.bounds.shell();
-    store.start(rehearsal.env)?;
+    store.start(rehearsal.env, rehearsal.written)?;
     let text_found = text_of(store, rehearsal.source);
     match read_first(rehearsal.alloc, shell, text_found)? {
         TextRead::Runs(script) => {

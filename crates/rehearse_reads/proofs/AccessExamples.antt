@@ -11,6 +11,7 @@ use Rattle.device_list.specs.DeviceList.{Variable, Literal, Devices, only}
 use Rattle.device_list.specs.DeviceLaws.{quiet}
 use Rattle.rehearse_terms.specs.Outcomes.{OutcomeWord, Success, Failure}
 use Rattle.rehearse_terms.specs.State.{Text, Variables, State, LoggedCommand, start}
+use Rattle.rehearse_terms.specs.declared.written.Written.TheVariants.{Kept}
 use Rattle.rehearse_terms.specs.declared.shell.Shell.{Shell}
 use Rattle.rehearse_terms.specs.declared.shell.Shell.TheVariants.{Profile, Old2023, Old2025}
 use Rattle.rehearse_rules.specs.Execution.{Limits}
@@ -35,7 +36,7 @@ abbrev variables : Variables
 variables = (codes "a", codes "1") ∷ (codes "x", codes "true") ∷ []
 
 abbrev before : OutcomeWord → State
-before word = start variables word
+before word = start Kept variables word
 
 -- what a text reads and writes in a shell, from a state
 unfoldable reached_in : Shell → State → Text → List Access

@@ -15,7 +15,7 @@ use Rattle.rehearse_terms.specs.State.{Text, Variables, State, LoggedCommand}
 use Rattle.rehearse_rules.specs.Execution.{Ending}
 use Rattle.text.specs.Escapes.{word_form}
 use Rattle.text.specs.Words.{joined_words}
-use Rattle.rehearse_rules.specs.Listing.{line, digit_when, device_line, text_lines, variable_line, variable_lines, asked_line, last_line}
+use Rattle.rehearse_rules.specs.Listing.{line, digit_when, device_line, written_lines, variable_line, variable_lines, asked_line, last_line}
 use Rattle.rehearse_records.specs.Recording.{printed, entry_line, set_line, named_line, recorded}
 use Rattle.rehearse_records.specs.RunViewShown.{shown_word, shown_moment, shown_ending}
 use Rattle.rehearse_records.specs.declared.run_view.RunView.{RunView}
@@ -38,10 +38,10 @@ named_variables now environment (x ∷ xs) e = ap (λ t. named_line environment 
     lines_of-map2 now environment (x ∷ xs) = ap (λ t. named_line environment (now x) ++ t) (lines_of-map2 now environment xs)
 
 record_parts : (digits : Text) (s : State) (ending : Ending) (names : List Text)
-    → line (codes "run " ++ printed digits) ++ (flat_map entry_line s.log ++ (flat_map line (text_lines s.memory.text) ++ (flat_map line (variable_lines s.memory.environment names) ++ line (last_line ending)))) ≡ recorded digits s ending names
+    → line (codes "run " ++ printed digits) ++ (flat_map entry_line s.log ++ (flat_map line (written_lines s.memory.text) ++ (flat_map line (variable_lines s.memory.environment names) ++ line (last_line ending)))) ≡ recorded digits s ending names
 record_parts digits s ending names =
     let a = map device_line s.log in
-    let b = text_lines s.memory.text in
+    let b = written_lines s.memory.text in
     let v = variable_lines s.memory.environment names in
     let f = line (codes "run " ++ printed digits) in
     let z : List Text = last_line ending ∷ [] in
@@ -74,7 +74,7 @@ module _ {S : Type 0} (store : Ghosts S) (v : RunView S) (asked : List (Bor (Lis
   first = line (codes "run " ++ printed (shown_word v))
 
   abbrev behind : Text
-  behind = flat_map entry_line stood.log ++ (flat_map line (text_lines stood.memory.text) ++ (flat_map line (variable_lines stood.memory.environment names) ++ line (last_line (shown_ending v))))
+  behind = flat_map entry_line stood.log ++ (flat_map line (written_lines stood.memory.text) ++ (flat_map line (variable_lines stood.memory.environment names) ++ line (last_line (shown_ending v))))
 
   abbrev whole : Text
   whole = recorded (shown_word v) stood (shown_ending v) names

@@ -5,9 +5,9 @@ ghost use Rattle.std.specs.FinMap.{entries};
 ghost use Rattle.text.specs.Bytes as ascii;
 ghost use Rattle.text.specs.Escapes.{word_form};
 ghost use Rattle.output.specs.Sink.{Prints};
-ghost use Rattle.text.specs.TextsShown.{bytes_of_words};
+ghost use Rattle.text.specs.TextsShown.{bytes_of_words, option_bytes};
 ghost use Rattle.bootstore_state.specs.StoredState.{state_at};
-ghost use Rattle.rehearse_rules.specs.Listing.{line, digit_when, text_lines, variable_lines, last_line};
+ghost use Rattle.rehearse_rules.specs.Listing.{line, digit_when, text_lines, written_lines, variable_lines, last_line};
 ghost use Rattle.output.specs.Paging.{Puts};
 ghost use Rattle.rehearse_records.specs.Recording.{printed, entry_line, set_line, named_line, recorded};
 ghost use Rattle.text.specs.TextsShown.{spaced};
@@ -137,6 +137,21 @@ fn put_printed<O: Out>(out: &mut O, page: &mut BytePage, text: &[u8]) -> Result<
             Piece::Plain(b"\n"),
         ],
     )
+}
+
+/// Puts the line of what was printed, if that is kept and not empty.
+fn put_written<O: Out>(
+    out: &mut O,
+    page: &mut BytePage,
+    text: Option<&[u8]>,
+) -> Result<(), OutFault>
+    ensures { Puts result (O.sink out.old) (O.sink out.new) page.old.items page.new.items
+        (flat_map line (written_lines (option_bytes text.entry))) }
+{
+    match text {
+        Some(text) => put_printed(out, page, text),
+        None => Ok(()),
+    }
 }
 
 /// Puts the line of a variable that is set, if all of its bytes are printed as they are and fit the
@@ -346,7 +361,7 @@ fn put_record<S: Store, O: Out>(
 {
     put_first(out, page, view.word())?;
     put_log(out, page, view.log())?;
-    put_printed(out, page, view.text())?;
+    put_written(out, page, view.text())?;
     put_variables(out, page, view, names)?;
     put_last(out, page, view.ending())
 }

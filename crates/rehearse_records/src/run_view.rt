@@ -54,9 +54,9 @@ impl<'v, S: Store> RunView<'v, S> {
         self.store.log()
     }
 
-    /// What it printed.
-    pub fn text(&self) -> &[u8]
-        ensures { result.now ≡ (shown_moment S.Store self.now).text }
+    /// What it printed, if that is kept.
+    pub fn text(&self) -> Option<&[u8]>
+        ensures { option_bytes result ≡ (shown_moment S.Store self.now).text }
     {
         self.store.text()
     }

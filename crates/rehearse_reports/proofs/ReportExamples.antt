@@ -10,6 +10,7 @@ use Rattle.bootstore_state.specs.declared.frame.FrameKind.TheVariants.{Text}
 use Rattle.hushlang_old.specs.Defaults.{behind_variable}
 use Rattle.rehearse_terms.specs.State as terms
 use Rattle.rehearse_terms.specs.State.{Memory, start}
+use Rattle.rehearse_terms.specs.declared.written.Written.TheVariants.{Kept}
 use Rattle.rehearse_reads.specs.Keys.{Key, Environment, Local, Status, Reads, Writes}
 use Rattle.rehearse_reports.specs.Asked.{asked_by}
 use Rattle.rehearse_reports.specs.Reports.{Reports, Adds}
@@ -27,7 +28,7 @@ after text begun = record { kind = Text; script = script_of text; words = []; pl
 
 -- `a` is set in the environment
 abbrev memory : Memory
-memory = (start ((codes "a", codes "1") ∷ []) []).memory
+memory = (start Kept ((codes "a", codes "1") ∷ []) []).memory
 
 abbrev a : Key
 a = Environment (codes "a")

@@ -58,5 +58,5 @@ pub whole_log_is_word : WholeLogIsWord
 whole_log_is_word task w each always run =
     let all : AllAsked (state_of (run_on task w)) = run-keeps AllTook task.limits (λ log name words effect. AsksAnew effect) (λ name named log words. (each.1, refl)) (λ name words effect e log.
     let said = always name words effect e in
-    subst AsksAnew (sym (now_as_said log effect said.1)) (each.0 name words effect e, said.0)) (λ r fresh s anew h. asks-device task.limits r fresh anew s h) task.limits.step_bound task.name task.text (start task.environment w) refl in
+    subst AsksAnew (sym (now_as_said log effect said.1)) (each.0 name words effect e, said.0)) (λ r fresh s anew h. asks-device task.limits r fresh anew s h) task.limits.step_bound task.name task.text (start task.written task.environment w) refl in
     ap (map (λ e. e.success)) (sym all) ∙ log_is_word task w run

@@ -228,7 +228,7 @@ module _ (limits : Limits) where
 task-ends : (task : Task) (w : OutcomeWord) → Ends task.limits (run_on task w)
 task-ends task w =
     let bound = task.limits.step_bound in
-    text-ends task.limits (suc bound) (exec task.limits bound) (Keeps-exec task.limits bound) (λ a p t h r. exec-ends task.limits bound a p t (h, omega arith)) task.name task.text (start task.environment w) (omega arith, omega arith) (omega arith)
+    text-ends task.limits (suc bound) (exec task.limits bound) (Keeps-exec task.limits bound) (λ a p t h r. exec-ends task.limits bound a p t (h, omega arith)) task.name task.text (start task.written task.environment w) (omega arith, omega arith) (omega arith)
 
 steps_within : (limits : Limits) (a : Answer) → Ends limits a → (state_of a).steps ≤ limits.step_bound
 steps_within limits (Normal t) h = h.0

@@ -1,5 +1,6 @@
 -- What worked examples are computed with.
 use Rattle.std.proofs.Common.{◌≡◌, ℕ, zero, suc, ◌&&◌, Bool, true, false, List, [], ◌∷◌, ◌++◌, Option, Some, None, codes, refl, ap, ◌∙◌, map, take}
+use Rattle.std.specs.Prelude.{unwrap_or}
 use Rattle.std.specs.Fmt.{digits}
 use Rattle.hushlang.specs.Expansion.{fields, joined, atoms}
 use Rattle.hushlang_old.specs.OldTrees.{has_fault, lacks_end, old_tree_of}
@@ -13,6 +14,7 @@ use Rattle.hushlang.specs.Trees.{tree_of}
 use Rattle.rehearse_terms.specs.State.{Text, Variables}
 use Rattle.device_list.specs.DeviceList.{Devices, only}
 use Rattle.rehearse_terms.specs.declared.shell.Shell.TheVariants.{Profile}
+use Rattle.rehearse_terms.specs.declared.written.Written.TheVariants.{Kept}
 use Rattle.rehearse_rules.specs.Execution.{Limits, Ending, End}
 use Rattle.device_list.specs.DeviceLaws.{quiet}
 use Rattle.rehearse_rules.specs.Runs.{Task, run_on, state_of, ending_of, kind, runs, is_allowed, IsListed, rest, work}
@@ -32,7 +34,7 @@ usual = limits only_load 16 10000
 
 -- the rehearsal of a text as `bootcmd`, among other variables, which come before and after it in byte order
 abbrev pub bootcmd_among : Limits → Variables → Text → Task
-bootcmd_among s environment text = record { limits = s; environment = environment; name = codes "bootcmd"; text = text; failures = None }
+bootcmd_among s environment text = record { limits = s; environment = environment; name = codes "bootcmd"; text = text; failures = None; written = Kept }
 
 abbrev pub bootcmd : Limits → Text → Task
 bootcmd s text = bootcmd_among s ((codes "bootcmd", text) ∷ []) text
@@ -67,7 +69,7 @@ Told = Text × Ending
 
 unfoldable pub told_of : Task → Told
 unfolding tree_of old_tree_of has_fault lacks_end fields joined atoms digits old_fields old_turns inserted variable_of behind_variable word_text command_text read reread modern_text modern_fields expanded
-told_of task = ((state_of (run_on task [])).memory.text, ending_of (run_on task []))
+told_of task = (unwrap_or (state_of (run_on task [])).memory.text [], ending_of (run_on task []))
 
 abbrev pub told : Text → Told
 told text = told_of (bootcmd (limits only_load 2 10000) text)

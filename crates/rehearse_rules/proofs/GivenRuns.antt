@@ -5,6 +5,7 @@ use Rattle.hushlang.specs.Tree as tree
 use Rattle.hushlang.specs.Tree.{Script, AndOr, Joined, Command, Arms}
 use Rattle.rehearse_terms.specs.Outcomes.{OutcomeWord}
 use Rattle.rehearse_terms.specs.State.{Text, Variables, State, get, start, answer_in}
+use Rattle.rehearse_terms.specs.declared.written.Written.TheVariants.{Kept}
 use Rattle.rehearse_rules.specs.Parameters.{parameters_in}
 use Rattle.std.specs.List.{list_any}
 use Rattle.std.specs.Str.{bytes_eq}
@@ -202,6 +203,6 @@ module _ (bounds : Limits) (own : bounds.shell ≡ Profile) (devices : Devices) 
   -- ---- runs
 
   pub run-same : (environment : Variables) (name text : Text) (w : OutcomeWord)
-      → run_text (limits bounds devices) (exec (limits bounds devices) bounds.step_bound) name text (start environment w) ≡ given_run_on bounds others environment name text w
+      → run_text (limits bounds devices) (exec (limits bounds devices) bounds.step_bound) name text (start Kept environment w) ≡ given_run_on bounds others environment name text w
   run-same environment name text w =
-      run_text-same bounds devices (exec (limits bounds devices) bounds.step_bound) (given_exec bounds others bounds.step_bound) (exec-same bounds.step_bound) name text (start environment w)
+      run_text-same bounds devices (exec (limits bounds devices) bounds.step_bound) (given_exec bounds others bounds.step_bound) (exec-same bounds.step_bound) name text (start Kept environment w)

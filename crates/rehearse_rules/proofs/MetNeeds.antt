@@ -116,7 +116,7 @@ all-met task w =
     (λ name named log words listed free found. absurd (let g = sym free ∙ named in cc))
     (λ name words effect e log listed free found. ap (effect_now log) (effect_same effect listed (sym e ∙ found)))
     (λ r fresh s said h. device-met devices task.limits r s said h)
-    task.limits.step_bound task.name task.text (start task.environment w) tt
+    task.limits.step_bound task.name task.text (start task.written task.environment w) tt
 
 pub needs_are_met : NeedsAreMet
 needs_are_met task w front behind one name words effect e same free found success =

@@ -9,7 +9,7 @@ use Rattle.rehearse_terms.specs.State.{Text, Variables, get, State, LoggedComman
 use Rattle.rehearse_rules.specs.Execution.{Ending, End, CutDevices, CutSteps, Unknown, Syntax, Unsupported, Panic, Size, Finished}
 use Rattle.text.specs.Escapes.{hex_digit, escaped, text_form, word_escaped, word_form}
 use Rattle.text.specs.Words.{joined_words}
-use Rattle.rehearse_rules.specs.Listing.{finish_word, digit_when, outcome_digit, spelled, line, device_line, text_lines, variable_line, asked_line, variable_lines, last_line, inner_lines, record_lines}
+use Rattle.rehearse_rules.specs.Listing.{finish_word, digit_when, outcome_digit, spelled, line, device_line, text_lines, written_lines, variable_line, asked_line, variable_lines, last_line, inner_lines, record_lines}
 use Rattle.rehearse_rules.specs.Resuming.{ended_lines, is_last_line, is_first_line, Point, point_in, resume_point_of}
 
 -- no byte of it is a newline
@@ -115,6 +115,10 @@ text-inner : (bytes : Text) → AreInner (text_lines bytes)
 text-inner [] = tt
 text-inner (b ∷ bytes) = (((refl, (refl, (refl, (refl, (refl, text-line (b ∷ bytes)))))), refl, refl), tt)
 
+written-inner : (text : Option Text) → AreInner (written_lines text)
+written-inner None = tt
+written-inner (Some bytes) = text-inner bytes
+
 variable-inner : (name value : Text) → IsInner (variable_line (name, value))
 variable-inner name value = ((refl, (refl, (refl, (refl, OneLine-append (word_form name ++ codes "=") (text_form value) (OneLine-append (word_form name) (codes "=") (word-line name) (refl, tt)) (text-line value))))), refl, refl)
 
@@ -138,7 +142,7 @@ variables-inner environment [] = all-inner environment
 variables-inner environment (name ∷ names) = each-inner environment (name ∷ names)
 
 pub inner-inner : (s : State) (names : List Text) → AreInner (inner_lines s names)
-inner-inner s names = Inner-append (map device_line s.log ++ text_lines s.memory.text) (variable_lines s.memory.environment names) (Inner-append (map device_line s.log) (text_lines s.memory.text) (devices-inner s.log) (text-inner s.memory.text)) (variables-inner s.memory.environment names)
+inner-inner s names = Inner-append (map device_line s.log ++ written_lines s.memory.text) (variable_lines s.memory.environment names) (Inner-append (map device_line s.log) (written_lines s.memory.text) (devices-inner s.log) (written-inner s.memory.text)) (variables-inner s.memory.environment names)
 
 last-is-last : (e : Ending) → is_last_line (last_line e) ≡ true
 last-is-last (End status) = refl

@@ -133,7 +133,7 @@ device-fits limits r fresh any s h = by (nat_lt (length s.log) limits.device_bou
 
 all-fit : (task : Task) (w : OutcomeWord) → Fitting (state_of (run_on task w)).log
 all-fit task w =
-    run-keeps Fitting task.limits (λ log name words effect. Unit {0}) (λ name named log words. tt) (λ name words effect e log. tt) (λ r fresh s any h. device-fits task.limits r fresh tt s h) task.limits.step_bound task.name task.text (start task.environment w) tt
+    run-keeps Fitting task.limits (λ log name words effect. Unit {0}) (λ name named log words. tt) (λ name words effect e log. tt) (λ r fresh s any h. device-fits task.limits r fresh tt s h) task.limits.step_bound task.name task.text (start task.written task.environment w) tt
 
 -- the later of two with the same words
 later : (front between : List LoggedCommand) (one other : LoggedCommand) (o : Option Bool) → answer_in front one.words ≡ o → Fits o one → one.stays ≡ true → one.words ≡ other.words

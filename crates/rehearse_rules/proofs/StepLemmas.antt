@@ -14,7 +14,7 @@ steps-extend x (Ended ending t) b h = rw h (omega arith)
 steps-extend x (Dry t) b h = h.1
 
 pub asked_in_front : (task : Task) (p x : OutcomeWord) → asked task p ≤ steps task (p ++ x)
-asked_in_front task p x = steps-extend x (run_on task p) (run_on task (p ++ x)) ((Keeps-run_on task (start task.environment p)).1 x)
+asked_in_front task p x = steps-extend x (run_on task p) (run_on task (p ++ x)) ((Keeps-run_on task (start task.written task.environment p)).1 x)
 
 -- what both words start with starts the second
 shared_in_front : (u v : OutcomeWord) → (x : OutcomeWord) × (v ≡ common_prefix u v ++ x)

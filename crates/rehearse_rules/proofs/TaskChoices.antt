@@ -3,6 +3,7 @@ use Rattle.std.proofs.Common.{ℕ, zero, suc, Bool, true, false, [], ◌∷◌, 
 use Rattle.rehearse_terms.specs.Outcomes.{OutcomeWord, Outcome, WordKind, Run, Short, Long, words, common_prefix, is_run_kind, IsChoice}
 use Rattle.rehearse_rules.specs.Choosing.{turned, has_success, first_run, first_from}
 use Rattle.rehearse_terms.specs.State.{State, start, Variables, asked_of}
+use Rattle.rehearse_terms.specs.declared.written.Written.{Written}
 use Rattle.rehearse_rules.specs.Execution.{Answer, Normal, Exit, Ended, Dry, succeeds}
 use Rattle.rehearse_rules.specs.Runs.{Task, run_on, kind, kind_of, taken_kind, state_of, all_runs, runs, is_allowed, IsListed, rest}
 use Rattle.rehearse_rules.proofs.TakenOutcomes.{more, answers, GoesTo, Track, Extends}
@@ -50,9 +51,9 @@ choice_of : (n : ℕ) (run : OutcomeWord → Answer) → Reads n run → IsChoic
 choice_of zero run r = elim (ends run (run []) refl (λ x. r.extends [] x) r.root) [ inl e ↦ e | inr d ↦ absurd (let k = r.asked [] d.0 d.1 in omega arith) ]
 choice_of (suc n) run r = elim (ends run (run []) refl (λ x. r.extends [] x) r.root) [ inl e ↦ inl e | inr d ↦ inr (ap kind_of d.1, λ o. choice_of n (λ w. run (o ∷ w)) (beyond_dry n run d.0 o r d.1)) ]
 
-dry_bound : (bound : ℕ) (environment : Variables) (w : OutcomeWord) (a : Answer) (t : State) → a ≡ Dry t → Track bound (start environment w) a → length w < bound
-dry_bound bound environment w a t e k =
-    let h : Track bound (start environment w) (Dry t) = subst (λ (b : Answer). Track bound (start environment w) b) e k in
+dry_bound : (bound : ℕ) (written : Written) (environment : Variables) (w : OutcomeWord) (a : Answer) (t : State) → a ≡ Dry t → Track bound (start written environment w) a → length w < bound
+dry_bound bound written environment w a t e k =
+    let h : Track bound (start written environment w) (Dry t) = subst (λ (b : Answer). Track bound (start written environment w) b) e k in
     let l = ap length h.0.word in
     let m = length-append h.0.taken t.word in
     let g = h.0.log in
@@ -60,22 +61,22 @@ dry_bound bound environment w a t e k =
     let room = h.2 in
     omega arith
 
-begins : (bound : ℕ) (environment : Variables) (a : Answer) → Track bound (start environment []) a → length (state_of a).word < 1
-begins bound environment (Normal t) h = let l = ap length h.word in let m = length-append h.taken t.word in omega arith
-begins bound environment (Exit t) h = let l = ap length h.word in let m = length-append h.taken t.word in omega arith
-begins bound environment (Ended ending t) h = let l = ap length h.word in let m = length-append h.taken t.word in omega arith
-begins bound environment (Dry t) h = let l = ap length h.0.word in let m = length-append h.0.taken t.word in omega arith
+begins : (bound : ℕ) (written : Written) (environment : Variables) (a : Answer) → Track bound (start written environment []) a → length (state_of a).word < 1
+begins bound written environment (Normal t) h = let l = ap length h.word in let m = length-append h.taken t.word in omega arith
+begins bound written environment (Exit t) h = let l = ap length h.word in let m = length-append h.taken t.word in omega arith
+begins bound written environment (Ended ending t) h = let l = ap length h.word in let m = length-append h.taken t.word in omega arith
+begins bound written environment (Dry t) h = let l = ap length h.0.word in let m = length-append h.0.taken t.word in omega arith
 
 task_reads : (task : Task) → Reads task.limits.device_bound (run_on task)
 task_reads task = record {
-  extends = λ w x. (Keeps-run_on task (start task.environment w)).1 x;
-  asked = λ w t e. dry_bound task.limits.device_bound task.environment w (run_on task w) t e (Keeps-run_on task (start task.environment w)).0;
-  root = none_left (run_on task []) (begins task.limits.device_bound task.environment (run_on task []) (Keeps-run_on task (start task.environment [])).0);
+  extends = λ w x. (Keeps-run_on task (start task.written task.environment w)).1 x;
+  asked = λ w t e. dry_bound task.limits.device_bound task.written task.environment w (run_on task w) t e (Keeps-run_on task (start task.written task.environment w)).0;
+  root = none_left (run_on task []) (begins task.limits.device_bound task.written task.environment (run_on task []) (Keeps-run_on task (start task.written task.environment [])).0);
 }
 
 -- a command that is asked is below the device bound
 pub dry_within : (task : Task) (p : OutcomeWord) (t : State) → run_on task p ≡ Dry t → length p < task.limits.device_bound
-dry_within task p t e = dry_bound task.limits.device_bound task.environment p (run_on task p) t e (Keeps-run_on task (start task.environment p)).0
+dry_within task p t e = dry_bound task.limits.device_bound task.written task.environment p (run_on task p) t e (Keeps-run_on task (start task.written task.environment p)).0
 
 pub task_chooses : (task : Task) → IsChoice task.limits.device_bound (kind task)
 task_chooses task = choice_of task.limits.device_bound (run_on task) (task_reads task)
@@ -167,25 +168,25 @@ taken_all : (t : State) (u : OutcomeWord) → t.word ≡ u → taken_kind t ≡ 
 taken_all t [] e k = e
 taken_all t (c ∷ u) e k = absurd (let r : taken_kind t ≡ Long = rw e refl in cc)
 
-word_log : (environment : Variables) (w : OutcomeWord) (t : State) → GoesTo (start environment w) t → t.word ≡ [] → answers t.log ≡ map succeeds w
-word_log environment w t g e = g.outcomes ∙ ap (map succeeds) (sym (g.word ∙ ap (λ (x : OutcomeWord). g.taken ++ x) e ∙ append-nil g.taken))
+word_log : (written : Written) (environment : Variables) (w : OutcomeWord) (t : State) → GoesTo (start written environment w) t → t.word ≡ [] → answers t.log ≡ map succeeds w
+word_log written environment w t g e = g.outcomes ∙ ap (map succeeds) (sym (g.word ∙ ap (λ (x : OutcomeWord). g.taken ++ x) e ∙ append-nil g.taken))
 
-log_of : (bound : ℕ) (environment : Variables) (w : OutcomeWord) (a : Answer) → Track bound (start environment w) a → kind_of a ≡ Run → answers (state_of a).log ≡ map succeeds w
-log_of bound environment w (Normal t) h e = word_log environment w t h (taken_all t t.word refl e)
-log_of bound environment w (Exit t) h e = word_log environment w t h (taken_all t t.word refl e)
-log_of bound environment w (Ended ending t) h e = word_log environment w t h (taken_all t t.word refl e)
-log_of bound environment w (Dry t) h e = absurd (let f = e in cc)
+log_of : (bound : ℕ) (written : Written) (environment : Variables) (w : OutcomeWord) (a : Answer) → Track bound (start written environment w) a → kind_of a ≡ Run → answers (state_of a).log ≡ map succeeds w
+log_of bound written environment w (Normal t) h e = word_log written environment w t h (taken_all t t.word refl e)
+log_of bound written environment w (Exit t) h e = word_log written environment w t h (taken_all t t.word refl e)
+log_of bound written environment w (Ended ending t) h e = word_log written environment w t h (taken_all t t.word refl e)
+log_of bound written environment w (Dry t) h e = absurd (let f = e in cc)
 
 pub log_is_word : (task : Task) (w : OutcomeWord) → kind task w ≡ Run → map (λ e. e.success) (asked_of (state_of (run_on task w)).log) ≡ map succeeds w
-log_is_word task w e = log_of task.limits.device_bound task.environment w (run_on task w) (Keeps-run_on task (start task.environment w)).0 e
+log_is_word task w e = log_of task.limits.device_bound task.written task.environment w (run_on task w) (Keeps-run_on task (start task.written task.environment w)).0 e
 
 pub runs_part_where_asked : (task : Task) (u v : OutcomeWord) → kind task u ≡ Run → kind task v ≡ Run → u ≢ v → kind task (common_prefix u v) ≡ Short
 runs_part_where_asked task u v r q ne = part_where_asked (kind task) task.limits.device_bound (task_chooses task) u v r q ne
 
-asked_at : (bound : ℕ) (environment : Variables) (w : OutcomeWord) (a : Answer) (t : State) → a ≡ Dry t → Track bound (start environment w) a → (length t.log < bound) × (t.word ≡ [])
-asked_at bound environment w a t e k =
-    let h : Track bound (start environment w) (Dry t) = subst (λ (b : Answer). Track bound (start environment w) b) e k in
+asked_at : (bound : ℕ) (written : Written) (environment : Variables) (w : OutcomeWord) (a : Answer) (t : State) → a ≡ Dry t → Track bound (start written environment w) a → (length t.log < bound) × (t.word ≡ [])
+asked_at bound written environment w a t e k =
+    let h : Track bound (start written environment w) (Dry t) = subst (λ (b : Answer). Track bound (start written environment w) b) e k in
     (h.2, h.1)
 
 pub asked_below_bound : (task : Task) (w : OutcomeWord) (s : State) → run_on task w ≡ Dry s → (length s.log < task.limits.device_bound) × (s.word ≡ [])
-asked_below_bound task w s e = asked_at task.limits.device_bound task.environment w (run_on task w) s e (Keeps-run_on task (start task.environment w)).0
+asked_below_bound task w s e = asked_at task.limits.device_bound task.written task.environment w (run_on task w) s e (Keeps-run_on task (start task.written task.environment w)).0

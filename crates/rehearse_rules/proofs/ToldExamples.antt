@@ -3,6 +3,7 @@ use Rattle.std.proofs.Common.{◌≡◌, ℕ, Bool, true, false, List, [], ◌�
 use Rattle.device_list.specs.declared.finish.BoardEnd.TheVariants.{Boots}
 use Rattle.rehearse_terms.specs.Outcomes.{OutcomeWord, Success, Failure}
 use Rattle.rehearse_terms.specs.State.{Text, Variables, LoggedCommand, State, start}
+use Rattle.rehearse_terms.specs.declared.written.Written.TheVariants.{Kept}
 use Rattle.device_list.specs.DeviceList.{Variable, Literal, Effect, only}
 use Rattle.device_list.specs.DeviceLaws.{quiet}
 use Rattle.rehearse_terms.specs.declared.shell.Shell.TheVariants.{Profile}
@@ -48,12 +49,12 @@ always_told_again = refl
 -- ---- what it comes to, in a state with this log and this word
 
 abbrev at : List LoggedCommand → OutcomeWord → State
-at log word = record (start ((codes "b", codes "2") ∷ []) word) { log = log; steps = 3 }
+at log word = record (start Kept ((codes "b", codes "2") ∷ []) word) { log = log; steps = 3 }
 
 -- the state after a command with this log, this word, this status and these variables
 abbrev then_at : List LoggedCommand → OutcomeWord → (status : ℕ) → Variables → State
 then_at log word status variables = record (at log word) {
-  memory = record { environment = variables; locals = []; status = status; text = [] };
+  memory = record { environment = variables; locals = []; status = status; text = Some [] };
 }
 
 abbrev entry : (success stays again : Bool) → LoggedCommand

@@ -9,6 +9,7 @@ use Rattle.device_list.specs.DeviceList.{Devices, Effect, call_effect, line_effe
 use Rattle.device_list.specs.Kinds.{EachCall}
 use Rattle.rehearse_terms.specs.Outcomes.{OutcomeWord, Outcome, Success, Failure, Run, Short, Long, failures}
 use Rattle.rehearse_terms.specs.State.{Text, State, LoggedCommand, Variables, start, asked_of}
+use Rattle.rehearse_terms.specs.declared.written.Written.{Written}
 use Rattle.rehearse_rules.specs.Execution.{Answer, Normal, Exit, Ended, Dry, succeeds, outcome_when, exec, run_text}
 use Rattle.rehearse_rules.specs.Expected.{Answered, asked_in, is_unexpected, unexpected_of}
 use Rattle.rehearse_rules.specs.Laws.{IsExpected, OneIsExpected}
@@ -29,8 +30,8 @@ taken_not_short (c ∷ u) t e k = let r : taken_kind t ≡ Long = rw e refl in a
 as_many : (log : List LoggedCommand) → length (answers log) ≡ length (asked_in log)
 as_many log = length-map (asked_of log) (λ e. e.success) ∙ sym (length-map (asked_of log) (λ e. (e.success, e.words)))
 
-no_more_asked : (environment : Variables) (w : OutcomeWord) (t : State) → GoesTo (start environment w) t → length (asked_in t.log) + length t.word ≡ length w
-no_more_asked environment w t g =
+no_more_asked : (written : Written) (environment : Variables) (w : OutcomeWord) (t : State) → GoesTo (start written environment w) t → length (asked_in t.log) + length t.word ≡ length w
+no_more_asked written environment w t g =
     let a = as_many t.log in
     let b = ap length g.outcomes in
     let c = length-map g.taken succeeds in
@@ -51,19 +52,19 @@ pub record AsksAt (task : Task) (p : OutcomeWord) : Type 0 where
 abbrev AsksHere : (run : OutcomeWord → Answer) → Answer → Type 0
 AsksHere run a = (call : List Text) × ((d : Outcome) → asked_in (state_of (run (d ∷ []))).log ≡ asked_in (state_of a).log ++ (succeeds d, call) ∷ [])
 
-asks_here : (bound : ℕ) (environment : Variables) (p : OutcomeWord) (run : OutcomeWord → Answer) (a : Answer) → Track bound (start environment p) a → AsksOne run a → kind_of a ≡ Short
-    → ((d : Outcome) → GoesTo (start environment (p ++ d ∷ [])) (state_of (run (d ∷ [])))) → AsksHere run a
-asks_here bound environment p run (Normal t) h asks k g = absurd (taken_not_short t.word t refl k)
-asks_here bound environment p run (Exit t) h asks k g = absurd (taken_not_short t.word t refl k)
-asks_here bound environment p run (Ended ending t) h asks k g = absurd (taken_not_short t.word t refl k)
-asks_here bound environment p run (Dry t) h asks k g = (asks.0, λ d. one d)
+asks_here : (bound : ℕ) (written : Written) (environment : Variables) (p : OutcomeWord) (run : OutcomeWord → Answer) (a : Answer) → Track bound (start written environment p) a → AsksOne run a → kind_of a ≡ Short
+    → ((d : Outcome) → GoesTo (start written environment (p ++ d ∷ [])) (state_of (run (d ∷ [])))) → AsksHere run a
+asks_here bound written environment p run (Normal t) h asks k g = absurd (taken_not_short t.word t refl k)
+asks_here bound written environment p run (Exit t) h asks k g = absurd (taken_not_short t.word t refl k)
+asks_here bound written environment p run (Ended ending t) h asks k g = absurd (taken_not_short t.word t refl k)
+asks_here bound written environment p run (Dry t) h asks k g = (asks.0, λ d. one d)
   where
     one : (d : Outcome) → asked_in (state_of (run (d ∷ []))).log ≡ asked_in t.log ++ (succeeds d, asks.0) ∷ []
     one d =
         let u : State = state_of (run (d ∷ [])) in
         let has = asks.1 d [] in
-        let here = no_more_asked environment p t h.0 in
-        let there = no_more_asked environment (p ++ d ∷ []) u (g d) in
+        let here = no_more_asked written environment p t h.0 in
+        let there = no_more_asked written environment (p ++ d ∷ []) u (g d) in
         let taken = ap length h.1 in
         let longer = length-append p (d ∷ []) in
         let none = none_further (asked_in t.log) has.further (succeeds d, asks.0) (asked_in u.log) has.grows (omega arith) in
@@ -71,9 +72,9 @@ asks_here bound environment p run (Dry t) h asks k g = (asks.0, λ d. one d)
 
 pub asks_at : (task : Task) (p : OutcomeWord) → kind task p ≡ Short → AsksAt task p
 asks_at task p k =
-    let keeps = Keeps-run_on task (start task.environment p) in
-    let asks = asks_here task.limits.device_bound task.environment p (λ x. run_on task (p ++ x)) (run_on task p) keeps.0 keeps.2 k
-    (λ d. Track-of task.limits.device_bound (start task.environment (p ++ d ∷ [])) (run_on task (p ++ d ∷ [])) (Keeps-run_on task (start task.environment (p ++ d ∷ []))).0) in
+    let keeps = Keeps-run_on task (start task.written task.environment p) in
+    let asks = asks_here task.limits.device_bound task.written task.environment p (λ x. run_on task (p ++ x)) (run_on task p) keeps.0 keeps.2 k
+    (λ d. Track-of task.limits.device_bound (start task.written task.environment (p ++ d ∷ [])) (run_on task (p ++ d ∷ [])) (Keeps-run_on task (start task.written task.environment (p ++ d ∷ []))).0) in
     record { call = asks.0; grows = asks.1 }
 
 -- ---- it counts, or it does not
@@ -155,8 +156,8 @@ none_asked (one ∷ l) h = absurd (omega arith)
 pub none_unexpected : (task : Task) → unexpected task [] ≡ 0
 none_unexpected task =
     let t : State = state_of (run_on task []) in
-    let g = Track-of task.limits.device_bound (start task.environment []) (run_on task []) (Keeps-run_on task (start task.environment [])).0 in
-    let n = no_more_asked task.environment [] t g in
+    let g = Track-of task.limits.device_bound (start task.written task.environment []) (run_on task []) (Keeps-run_on task (start task.written task.environment [])).0 in
+    let n = no_more_asked task.written task.environment [] t g in
     ap (λ (l : List Answered). length (unexpected_of task.limits.devices l)) (none_asked (asked_in t.log) (omega arith))
 
 pub empty_allowed : (task : Task) → is_allowed task [] ≡ true
@@ -201,14 +202,14 @@ failures_are_counted task w each e = count_failures task.limits.devices each (as
 
 -- ---- no more are unexpected than were asked for
 
-asked_all : (bound : ℕ) (environment : Variables) (p : OutcomeWord) (a : Answer) → Track bound (start environment p) a → kind_of a ≡ Short → length (asked_in (state_of a).log) ≡ length p
-asked_all bound environment p (Normal t) h k = absurd (taken_not_short t.word t refl k)
-asked_all bound environment p (Exit t) h k = absurd (taken_not_short t.word t refl k)
-asked_all bound environment p (Ended ending t) h k = absurd (taken_not_short t.word t refl k)
-asked_all bound environment p (Dry t) h k = let n = no_more_asked environment p t h.0 in let none = ap length h.1 in omega arith
+asked_all : (bound : ℕ) (written : Written) (environment : Variables) (p : OutcomeWord) (a : Answer) → Track bound (start written environment p) a → kind_of a ≡ Short → length (asked_in (state_of a).log) ≡ length p
+asked_all bound written environment p (Normal t) h k = absurd (taken_not_short t.word t refl k)
+asked_all bound written environment p (Exit t) h k = absurd (taken_not_short t.word t refl k)
+asked_all bound written environment p (Ended ending t) h k = absurd (taken_not_short t.word t refl k)
+asked_all bound written environment p (Dry t) h k = let n = no_more_asked written environment p t h.0 in let none = ap length h.1 in omega arith
 
 pub asked_many : (task : Task) (p : OutcomeWord) → kind task p ≡ Short → length (asked_in (state_of (run_on task p)).log) ≡ length p
-asked_many task p k = asked_all task.limits.device_bound task.environment p (run_on task p) (Keeps-run_on task (start task.environment p)).0 k
+asked_many task p k = asked_all task.limits.device_bound task.written task.environment p (run_on task p) (Keeps-run_on task (start task.written task.environment p)).0 k
 
 few_unexpected : (devices : Devices) (answered : List Answered) → length (unexpected_of devices answered) ≤ length answered
 few_unexpected devices [] = omega arith

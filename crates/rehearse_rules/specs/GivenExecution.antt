@@ -6,6 +6,7 @@ use Rattle.hushlang.specs.Tree.{Script, AndOr, Joined, Command, Arms}
 use Rattle.hushlang.specs.Expansion.{fields}
 use Rattle.rehearse_terms.specs.Outcomes.{OutcomeWord}
 use Rattle.rehearse_terms.specs.State.{Text, Variables, State, start}
+use Rattle.rehearse_terms.specs.declared.written.Written.TheVariants.{Kept}
 use Rattle.rehearse_terms.specs.declared.shell.Shell.TheVariants.{Profile}
 use Rattle.rehearse_rules.specs.Parameters.{parameters_in}
 use Rattle.builtins.specs.Builtins.{builtin_of}
@@ -90,4 +91,4 @@ module _ (bounds : Limits) (others : Others) where
 
   -- what the text of a variable comes to with the outcomes of a word
   abbrev pub given_run_on : Variables → (name text : Text) → OutcomeWord → Answer
-  given_run_on environment name text w = run_text bounds (given_exec bounds.step_bound) name text (start environment w)
+  given_run_on environment name text w = run_text bounds (given_exec bounds.step_bound) name text (start Kept environment w)

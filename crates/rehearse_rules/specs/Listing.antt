@@ -38,6 +38,11 @@ abbrev pub text_lines : Text → List Text
 text_lines [] = []
 text_lines (b ∷ bytes) = (codes "text " ++ text_form (b ∷ bytes)) ∷ []
 
+-- nor has one that is not kept
+abbrev pub written_lines : Option Text → List Text
+written_lines None = []
+written_lines (Some text) = text_lines text
+
 abbrev pub variable_line : Text × Text → Text
 variable_line e = codes "var " ++ word_form e.0 ++ codes "=" ++ text_form e.1
 
@@ -72,7 +77,7 @@ last_line (Finished finish name) = finish_word finish ++ word_form name
 
 -- the lines between the first and the last of a record
 abbrev pub inner_lines : State → (names : List Text) → List Text
-inner_lines s names = map device_line s.log ++ text_lines s.memory.text ++ variable_lines s.memory.environment names
+inner_lines s names = map device_line s.log ++ written_lines s.memory.text ++ variable_lines s.memory.environment names
 
 abbrev pub record_lines : OutcomeWord → State → Ending → (names : List Text) → List Text
 record_lines w s ending names = (codes "run " ++ spelled w) ∷ inner_lines s names ++ last_line ending ∷ []

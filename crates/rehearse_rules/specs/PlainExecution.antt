@@ -6,6 +6,7 @@ use Rattle.std.specs.Str.{bytes_eq}
 use Rattle.rehearse_terms.specs.Outcomes.{OutcomeWord, runs_within, after}
 use Rattle.rehearse_terms.specs.State.{Text, Variables, State}
 use Rattle.rehearse_terms.specs.declared.shell.Shell.TheVariants.{Profile}
+use Rattle.rehearse_terms.specs.declared.written.Written.TheVariants.{Kept}
 use Rattle.device_list.specs.DeviceList.{Devices, only, listed}
 use Rattle.device_list.specs.PlainList.{plain_names}
 use Rattle.rehearse_rules.specs.Execution.{Limits, Answer, Normal, Ended, Dry, CutDevices, Unknown, set_status, status_when, succeeds}
@@ -30,6 +31,7 @@ task_over devices task = record {
   name = task.name;
   text = task.text;
   failures = None;
+  written = Kept;
 }
 
 -- the bounds, with no listed command; what is shared with Execution.antt reads these

@@ -2,6 +2,8 @@
 use Rattle.std.specs.Prelude.{◌≡◌, ℕ, ◌+◌, ◌-◌, nat_le, Bool, true, List, [], ◌∷◌, length, filter, Option, Some, None, option_map}
 use Rattle.rehearse_terms.specs.Outcomes.{OutcomeWord, WordKind, Run, Short, Long, runs_within, after, common_prefix}
 use Rattle.rehearse_terms.specs.State.{Text, Variables, get, State, start}
+use Rattle.rehearse_terms.specs.declared.written.Written.{Written}
+use Rattle.rehearse_terms.specs.declared.written.Written.TheVariants.{Kept, Dropped}
 use Rattle.rehearse_rules.specs.Execution.{Limits, Answer, Normal, Exit, Ended, Dry, Ending, End, exec, run_text}
 use Rattle.rehearse_rules.specs.Expected.{asked_in, unexpected_of}
 
@@ -13,6 +15,8 @@ pub record Task : Type 0 where
   pub text : Text
   -- how many answers of a run may be unexpected; none for any number
   pub failures : Option ℕ
+  -- whether the text that it writes is kept
+  pub written : Written
 
 -- the rehearsal of a variable, if it is set
 abbrev pub task_of : Limits → (failures : Option ℕ) → Variables → Text → Option Task
@@ -23,12 +27,17 @@ task_of limits failures environment name =
       name = name;
       text = text;
       failures = failures;
+      written = Kept;
     }) (get environment name)
+
+-- the task, with what it writes dropped
+abbrev pub unheard : Task → Task
+unheard task = record task { written = Dropped }
 
 -- what the text comes to with the outcomes of a word
 abbrev pub run_on : Task → OutcomeWord → Answer
 run_on task w = run_text task.limits (exec task.limits task.limits.step_bound) task.name task.text
-    (start task.environment w)
+    (start task.written task.environment w)
 
 -- the state that an answer comes to
 abbrev pub state_of : Answer → State

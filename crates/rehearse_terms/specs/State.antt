@@ -1,6 +1,6 @@
 -- What a run has at a moment: the state of the script (U-Boot documentation, doc/usage/cmdline and
 -- doc/usage/environment, on variables and `$?`), and the rest of its outcome word (ours).
-use Rattle.std.specs.Prelude.{ℕ, Bool, true, false, List, [], ◌∷◌, not, ◌&&◌, Option, Some, None, filter, map}
+use Rattle.std.specs.Prelude.{ℕ, Bool, true, false, List, [], ◌∷◌, ◌++◌, not, ◌&&◌, Option, Some, None, option_map, filter, map}
 use Rattle.std.specs.FinMap.{find, put}
 use Rattle.std.specs.Cmp.Lexicographic.{slice_cmp}
 use Rattle.std.specs.Map.{lookup}
@@ -8,6 +8,8 @@ use Rattle.std.specs.Str.{bytes_eq}
 use Rattle.std.specs.Ordering.{nat_cmp, eq_by_cmp}
 pub use Rattle.text.specs.Lines.{Text}
 use Rattle.rehearse_terms.specs.Outcomes.{OutcomeWord}
+use Rattle.rehearse_terms.specs.declared.written.Written.{Written}
+use Rattle.rehearse_terms.specs.declared.written.Written.TheVariants.{Kept, Dropped}
 
 -- names with their values, in byte order of the names: the entries of a store's map
 abbrev pub Variables : Type 0
@@ -22,12 +24,12 @@ with_value variables name value = put (slice_cmp nat_cmp) name value variables
 abbrev pub without : Variables → Text → Variables
 without variables name = filter (λ e. not (eq_by_cmp (slice_cmp nat_cmp) name e.0)) variables
 
--- what a script reads and writes
+-- what a script reads and writes; the text that it has written is there if that is kept
 pub record Memory : Type 0 where
   pub environment : Variables
   pub locals : Variables
   pub status : ℕ
-  pub text : Text
+  pub text : Option Text
 
 -- a device command in the log, with its outcome
 pub record LoggedCommand : Type 0 where
@@ -63,11 +65,20 @@ pub record State : Type 0 where
   pub steps : ℕ
   pub word : OutcomeWord
 
+-- a text with more behind it, if it is kept
+abbrev pub text_with : (more : Text) → Option Text → Option Text
+text_with more text = option_map (λ t. t ++ more) text
+
+-- nothing is written yet
+abbrev pub unwritten : Written → Option Text
+unwritten Kept = Some []
+unwritten Dropped = None
+
 -- the state at the start of a run
-abbrev pub start : Variables → OutcomeWord → State
-start environment word =
+abbrev pub start : Written → Variables → OutcomeWord → State
+start written environment word =
     record {
-      memory = record { environment = environment; locals = []; status = 0; text = [] };
+      memory = record { environment = environment; locals = []; status = 0; text = unwritten written };
       log = [];
       steps = 0;
       word = word;

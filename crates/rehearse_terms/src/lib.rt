@@ -6,8 +6,10 @@ mod bounds;
 mod run_bounds;
 mod shell;
 mod wanted;
+mod written;
 
 pub use bounds::{Bounds, DEVICES_MAX, STEPS_MAX};
 pub use run_bounds::{RUN_DEVICES_MAX, RunBounds};
 pub use shell::Shell;
 pub use wanted::{Page, Wanted};
+pub use written::Written;

@@ -26,7 +26,7 @@ returns-in_ok-set_status-in-Fails-clause-stops g c w =
     let start = g.S.Store.record_of c.start.new.self in
     let same = same_text variables source.given task.name c.text_of-text_found.result.now start.present (ap (λ (r : Record). r.present.environment) c.in_ok-start.ensures.ok) c.text_of-text_found.ensures in
     let read = ap (λ (x : Shell). first_in x task.text) (sym c.shell-shell.ensures) ∙ ap (first_in c.shell-shell.result) (sym same) ∙ sym c.in_ok-script.ensures ∙ ap text_read c.in-Fails.is in
-    fails_runs task w read ∙ ap (λ (s : State). Over (End 1) (set_status 1 s)) (sym (stored_starts variables w))
+    fails_runs task w read ∙ ap (λ (s : State). Over (End 1) (set_status 1 s)) (sym (stored_starts task.written variables w))
     ∙ ap (λ (r : Record). Over (End 1) (set_status 1 (state_at r.present w))) (sym c.in_ok-start.ensures.ok)
     ∙ ap (λ (r : Record). Over (End 1) (state_at r.present w)) (sym c.in_ok-set_status-in-Fails.ensures.ok)
 
@@ -38,7 +38,7 @@ returns-in_ok-name-in-Panics-clause-stops g c w =
     let start = g.S.Store.record_of c.start.new.self in
     let same = same_text variables source.given task.name c.text_of-text_found.result.now start.present (ap (λ (r : Record). r.present.environment) c.in_ok-start.ensures.ok) c.text_of-text_found.ensures in
     let read = ap (λ (x : Shell). first_in x task.text) (sym c.shell-shell.ensures) ∙ ap (first_in c.shell-shell.result) (sym same) ∙ sym c.in_ok-script.ensures ∙ ap text_read c.in-Panics.is in
-    panics_runs task w read ∙ ap (Over (Panic task.name)) (sym (stored_starts variables w))
+    panics_runs task w read ∙ ap (Over (Panic task.name)) (sym (stored_starts task.written variables w))
     ∙ ap (λ (r : Record). Over (Panic task.name) (state_at r.present w)) (sym c.in_ok-start.ensures.ok)
     ∙ ap (λ (n : List ℕ). Over (Panic n) (state_at start.present w)) (sym c.in_ok-name-in-Panics.ensures.items)
 
@@ -50,7 +50,7 @@ returns-in_ok-name-in-Unread-clause-stops g c w =
     let start = g.S.Store.record_of c.start.new.self in
     let same = same_text variables source.given task.name c.text_of-text_found.result.now start.present (ap (λ (r : Record). r.present.environment) c.in_ok-start.ensures.ok) c.text_of-text_found.ensures in
     let read = ap (λ (x : Shell). first_in x task.text) (sym c.shell-shell.ensures) ∙ ap (first_in c.shell-shell.result) (sym same) ∙ sym c.in_ok-script.ensures ∙ ap text_read c.in-Unread.is in
-    unread_runs task w read ∙ ap (Over (unread task.limits.shell task.name)) (sym (stored_starts variables w))
+    unread_runs task w read ∙ ap (Over (unread task.limits.shell task.name)) (sym (stored_starts task.written variables w))
     ∙ ap (λ (r : Record). Over (unread task.limits.shell task.name) (state_at r.present w)) (sym c.in_ok-start.ensures.ok)
     ∙ ap (λ (n : List ℕ). Over (unread task.limits.shell n) (state_at start.present w)) (sym c.in_ok-name-in-Unread.ensures.items)
     ∙ ap (λ (x : Shell). Over (unread x c.in_ok-name-in-Unread.name.items) (state_at start.present w)) (sym c.shell-shell.ensures)
@@ -64,7 +64,7 @@ go_on-requires-clause-sound g c =
     let start = g.S.Store.record_of c.start.new.self in
     let same = same_text variables source.given task.name c.text_of-text_found.result.now start.present (ap (λ (r : Record). r.present.environment) c.in_ok-start.ensures.ok) c.text_of-text_found.ensures in
     let read = ap (λ (x : Shell). first_in x task.text) (sym c.shell-shell.ensures) ∙ ap (first_in c.shell-shell.result) (sym same) ∙ sym c.in_ok-script.ensures ∙ ap text_read c.in-Runs.is in
-    stands_sound task.limits (g.S.Store.record_of c.args.store.now) start (g.S.Store.record_of c.push.new.self) variables c.text.result c.in_ok-new-in-Runs.field-0.value c.in-Runs.script task.text
+    stands_sound task.limits (g.S.Store.record_of c.args.store.now) start (g.S.Store.record_of c.push.new.self) task.written variables c.text.result c.in_ok-new-in-Runs.field-0.value c.in-Runs.script task.text
     c.in_ok-start.ensures.ok c.in_ok-push-in-Runs.ensures.ok c.text.ensures c.in_ok-new-in-Runs.ensures.ok read
 
 pub returns-in_ok-push-in-Runs-clause-stops : goal.returns-in_ok-push-in-Runs-clause-stops
@@ -78,5 +78,5 @@ returns-in_ok-push-in-Runs-clause-stops g c =
     let same = same_text variables source.given task.name c.text_of-text_found.result.now start.present (ap (λ (r : Record). r.present.environment) c.in_ok-start.ensures.ok) c.text_of-text_found.ensures in
     let read = ap (λ (x : Shell). first_in x task.text) (sym c.shell-shell.ensures) ∙ ap (first_in c.shell-shell.result) (sym same) ∙ sym c.in_ok-script.ensures ∙ ap text_read c.in-Runs.is in
     all_stop_as stop_of c.go_on.result task.limits (to_come task.limits new.present) (λ w. settled (run_on task w)) (g.S.Store.record_of c.go_on.new.store)
-    (λ w. sym (stands_runs task.limits old start new variables c.text.result c.in_ok-new-in-Runs.field-0.value c.in-Runs.script task.text c.in_ok-start.ensures.ok c.in_ok-push-in-Runs.ensures.ok c.text.ensures c.in_ok-new-in-Runs.ensures.ok read task.name w))
+    (λ w. sym (stands_runs task.limits old start new task.written variables c.text.result c.in_ok-new-in-Runs.field-0.value c.in-Runs.script task.text c.in_ok-start.ensures.ok c.in_ok-push-in-Runs.ensures.ok c.text.ensures c.in_ok-new-in-Runs.ensures.ok read task.name w))
     c.go_on.ensures.stops

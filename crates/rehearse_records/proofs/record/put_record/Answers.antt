@@ -15,19 +15,19 @@ returns-in_err-put_log g c =
     puts_first g.S.Store c.args.view.now c.args.names.now _ _ c.from_residual-in_err-put_log.result (rw c.word.ensures at c.in_ok-put_first.ensures)
     (let p = err_from_is_err_and c.from_residual-in_err-put_log.result c.from_residual-in_err-put_log.ensures.1 in rw p.1 (rw (← append_assoc) (BrokeOff-before _ (rw c.log.ensures at c.in_err-put_log.ensures))))
 
-pub returns-in_err-put_printed : goal.returns-in_err-put_printed
-returns-in_err-put_printed g c =
-    puts_first g.S.Store c.args.view.now c.args.names.now _ _ c.from_residual-in_err-put_printed.result (rw c.word.ensures at c.in_ok-put_first.ensures)
-    (let p = err_from_is_err_and c.from_residual-in_err-put_printed.result c.from_residual-in_err-put_printed.ensures.1 in rw p.1 (Breaks-after _ (rw c.log.ensures at c.in_ok-put_log.ensures) (rw (← append_assoc) (BrokeOff-before _ (rw c.text.ensures at c.in_err-put_printed.ensures)))))
+pub returns-in_err-put_written : goal.returns-in_err-put_written
+returns-in_err-put_written g c =
+    puts_first g.S.Store c.args.view.now c.args.names.now _ _ c.from_residual-in_err-put_written.result (rw c.word.ensures at c.in_ok-put_first.ensures)
+    (let p = err_from_is_err_and c.from_residual-in_err-put_written.result c.from_residual-in_err-put_written.ensures.1 in rw p.1 (Breaks-after _ (rw c.log.ensures at c.in_ok-put_log.ensures) (rw (← append_assoc) (BrokeOff-before _ (rw c.text.ensures at c.in_err-put_written.ensures)))))
 
 pub returns-in_err-put_variables : goal.returns-in_err-put_variables
 returns-in_err-put_variables g c =
     puts_first g.S.Store c.args.view.now c.args.names.now _ _ c.from_residual-in_err-put_variables.result (rw c.word.ensures at c.in_ok-put_first.ensures)
     (let p = err_from_is_err_and c.from_residual-in_err-put_variables.result c.from_residual-in_err-put_variables.ensures.1 in
-    rw p.1 (Breaks-after _ (rw c.log.ensures at c.in_ok-put_log.ensures) (Breaks-after _ (rw c.text.ensures at c.in_ok-put_printed.ensures) (rw (← append_assoc) (BrokeOff-before _ c.in_err-put_variables.ensures)))))
+    rw p.1 (Breaks-after _ (rw c.log.ensures at c.in_ok-put_log.ensures) (Breaks-after _ (rw c.text.ensures at c.in_ok-put_written.ensures) (rw (← append_assoc) (BrokeOff-before _ c.in_err-put_variables.ensures)))))
 
 pub returns : goal.returns
 returns g c =
     let r = c.put_last.result in
     puts_first g.S.Store c.args.view.now c.args.names.now _ _ r (rw c.word.ensures at c.in_ok-put_first.ensures)
-    (Puts-after _ _ _ r (rw c.log.ensures at c.in_ok-put_log.ensures) (Puts-after _ _ _ r (rw c.text.ensures at c.in_ok-put_printed.ensures) (Puts-after _ _ _ r c.in_ok-put_variables.ensures (rw c.ending.ensures at c.put_last.ensures))))
+    (Puts-after _ _ _ r (rw c.log.ensures at c.in_ok-put_log.ensures) (Puts-after _ _ _ r (rw c.text.ensures at c.in_ok-put_written.ensures) (Puts-after _ _ _ r c.in_ok-put_variables.ensures (rw c.ending.ensures at c.put_last.ensures))))

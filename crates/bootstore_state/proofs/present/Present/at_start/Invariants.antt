@@ -9,7 +9,7 @@ use Rattle.bootstore_state.proofs.present.Present.at_start.Given as goal
 abbrev pub invariant-loop-place : goal.invariant-loop-place
 invariant-loop-place l = record {
   environment : set_in_turn (variables_of l.present.environment) (drop l.place l.env) ≡ environment_of l.env;
-  others : moment_of l.present ≡ beginning (variables_of l.present.environment);
+  others : moment_of l.present ≡ beginning l.fn.written (variables_of l.present.environment);
   kept : KeepsNothing l.present.environment;
   kept_locals : KeepsNothing l.present.locals;
 }
