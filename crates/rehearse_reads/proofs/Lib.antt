@@ -8,4 +8,5 @@ pub mod AlikeLoops
 pub mod AlikeScripts
 pub mod KeysRead
 pub mod AlikeRuns
+pub mod UnheardRuns
 mod AccessExamples

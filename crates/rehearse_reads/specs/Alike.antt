@@ -1,9 +1,9 @@
 -- The same stretch of a run from another state, which has the same at each key that the stretch reads: it comes to the same,
 -- as far as the bounds allow. Ours.
 use Rattle.std.specs.Prelude.{◌≡◌, ℕ, suc, ◌+◌, ◌<◌, ◌⊎◌, List, ◌++◌, length, Option, Some, None}
-use Rattle.rehearse_terms.specs.State.{State, LoggedCommand}
+use Rattle.rehearse_terms.specs.State.{Text, State, LoggedCommand, get}
 use Rattle.rehearse_rules.specs.Execution.{Limits, Answer, Normal, Exit, Ended, Dry, Ending, End, CutDevices, CutSteps, Unknown, Syntax, Unsupported, Panic, Size, Finished}
-use Rattle.rehearse_rules.specs.Runs.{state_of, kind_of}
+use Rattle.rehearse_rules.specs.Runs.{state_of, ending_of, kind_of}
 use Rattle.rehearse_reads.specs.Keys.{Key, AgreeOn}
 
 -- how many device commands an answer needs room for, including the one that asks
@@ -94,3 +94,14 @@ module _ (limits : Limits) (steps_here steps_there : ℕ) (log_here log_there : 
     same_end : {known : List Key} {a b : Answer} → HaveSameEnd known a b → EndAlike known a b
     end_cut : {known : List Key} {a b : Answer} → IsCutHere a → EndAlike known a b
     end_beyond : {known : List Key} {a b : Answer} → IsBeyond a → EndAlike known a b
+
+-- ---- of runs that start alike but for what becomes of their text
+
+-- both come to the same, but for the text
+pub record ComeToSame (a b : Answer) : Type 0 where
+  pub kind : kind_of b ≡ kind_of a
+  pub ended : ended_with b ≡ ended_with a
+  pub ending : ending_of b ≡ ending_of a
+  pub log : (state_of b).log ≡ (state_of a).log
+  pub steps : (state_of b).steps ≡ (state_of a).steps
+  pub values : (name : Text) → get (state_of b).memory.environment name ≡ get (state_of a).memory.environment name

@@ -1,11 +1,13 @@
 -- Laws of what runs read, over the definitions alone. Ours.
 use Rattle.std.specs.Prelude.{◌≡◌, ℕ, List, ◌++◌, ◌↔◌}
 use Rattle.hushlang.specs.Tree.{Script}
+use Rattle.rehearse_terms.specs.Outcomes.{OutcomeWord}
 use Rattle.rehearse_terms.specs.State.{Text, State}
 use Rattle.rehearse_rules.specs.Execution.{Limits, exec, run_text}
+use Rattle.rehearse_rules.specs.Runs.{Task, run_on, unheard}
 use Rattle.rehearse_reads.specs.Keys.{Key, Access, AreAmong, AgreeOn, all_read, ReadsWithin, keys_in_front, keys_read, known_after, Covers}
 use Rattle.rehearse_reads.specs.Accesses.{accesses, run_text_accesses}
-use Rattle.rehearse_reads.specs.Alike.{IsAlike, EndAlike}
+use Rattle.rehearse_reads.specs.Alike.{IsAlike, EndAlike, ComeToSame}
 
 -- ---- keys
 
@@ -49,3 +51,8 @@ RunsEndAlike = (limits : Limits) (left : ℕ) (name text : Text) (keys : List Ke
     run_text_accesses limits left name text s in AreAmong (keys_read reached) keys → AgreeOn keys s t → t.word ≡ s.word →
     EndAlike limits s.steps t.steps s.log t.log (known_after keys reached)
     (run_text limits (exec limits left) name text s) (run_text limits (exec limits left) name text t)
+
+-- A rehearsal of which the text is dropped has the same runs. Each ends in the same way, after the same device commands and as
+-- many steps, and leaves the same values of the variables of the environment.
+abbrev pub UnheardRunsGoAlike : Type 0
+UnheardRunsGoAlike = (task : Task) (w : OutcomeWord) → ComeToSame (run_on task w) (run_on (unheard task) w)

@@ -1,6 +1,6 @@
 //! Laws of what runs read. A call of one does nothing: its contract is the law.
 
-ghost use Rattle.rehearse_reads.specs.Laws.{CoveringJoins, FurtherReadsCover, KeysReadSuffice, MoreKeysInFront, RunsEndAlike, StatesGoAlike, StretchesJoin};
+ghost use Rattle.rehearse_reads.specs.Laws.{CoveringJoins, FurtherReadsCover, KeysReadSuffice, MoreKeysInFront, RunsEndAlike, StatesGoAlike, StretchesJoin, UnheardRunsGoAlike};
 
 /// The keys that are read before they are written are what has to be known before a stretch of a run,
 /// and no key too many. Of one stretch after another these are what the first reads, and what the second
@@ -34,4 +34,10 @@ pub fn states_go_alike()
 #[tactic(auto, using(crate::proofs::AlikeRuns::runs_end_alike))]
 pub fn runs_end_alike()
     ensures { RunsEndAlike }
+{}
+
+/// What a run writes makes no difference: if its text is dropped, it ends in the same way, after the same
+/// device commands and as many steps, and leaves the same values of the variables of the environment.
+pub fn unheard_runs_go_alike()
+    ensures { UnheardRunsGoAlike }
 {}
