@@ -2,9 +2,10 @@
 use Rattle.std.specs.Prelude.{ℕ, ◌≡◌, ◌≢◌, ◌<◌, ◌≤◌, List, [], ◌∷◌, ◌++◌, length, filter}
 use Rattle.rehearse_terms.specs.Outcomes.{OutcomeWord}
 use Rattle.rehearse_terms.specs.State.{Text}
-use Rattle.rehearse_rules.specs.Runs.{Task, unexpected, all_runs}
+use Rattle.rehearse_rules.specs.Runs.{Task, unheard, unexpected, all_runs}
 use Rattle.rehearse_states.specs.Endings.{Row, end_eq, end_of, endings}
 use Rattle.rehearse_states.specs.EndingLines.{counted}
+use Rattle.rehearse_states.specs.Flow.{Node, IsFlow}
 
 -- each run is counted, and only once
 abbrev pub RunsAreCounted : Type 0
@@ -52,3 +53,13 @@ RowsTellOfRuns = (names : List Text) (task : Task) (r : Row) (before behind : Li
     IsFirst (λ w. end_of names task w ≡ r.run_end) r.word (all_runs task)
     × IsFewest (unexpected task) (λ w. end_of names task w ≡ r.run_end) r.fewest.0 (all_runs task)
     × (r.fewest.1 ≡ unexpected task r.fewest.0)
+
+-- ---- what a run writes makes no difference
+
+-- if the text of a rehearsal is dropped, its runs end in the same ways
+abbrev pub UnheardEndings : Type 0
+UnheardEndings = (names : List Text) (task : Task) → endings names (unheard task) ≡ endings names task
+
+-- and a flow of it is a flow of the rehearsal
+abbrev pub UnheardFlows : Type 0
+UnheardFlows = (task : Task) (nodes : List Node) → IsFlow (unheard task) nodes → IsFlow task nodes

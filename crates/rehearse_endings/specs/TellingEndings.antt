@@ -3,7 +3,7 @@ use Rattle.std.specs.Prelude.{◌≡◌, ℕ, ◌+◌, ◌≤◌, Bool, true, fa
 use Rattle.output.specs.Sink.{Sink, Wrote, BrokeOff}
 use Rattle.text.specs.TextsShown.{option_bytes}
 use Rattle.rehearse_terms.specs.State.{Text}
-use Rattle.rehearse_rules.specs.Runs.{Task, all_runs}
+use Rattle.rehearse_rules.specs.Runs.{Task, unheard, all_runs}
 use Rattle.rehearse_machine.specs.Tasks.{SourceShown}
 use Rattle.rehearse_states.specs.Endings.{endings}
 use Rattle.rehearse_states.specs.Drawing.{asks_in}
@@ -33,22 +33,25 @@ Tells names true task states text = (nodes : List Node) × IsFlowOf task states 
 Tells names false task states text = (nodes : List Node) × IsFlowOf task states nodes
     × (text ≡ endings_text names (failing task) (endings names task) (length (all_runs task)) states)
 
+-- A search drops the text that a run writes, which no run reads (`UnheardRunsGoAlike`). So the states below are those of
+-- `unheard task`, to which the same runs come, each without its text.
+
 -- the lines of the task; its runs come to this many states, no two alike, and to no more than allowed
 abbrev pub AreLines : (names : List Text) → (flow : Bool) → (most : ℕ) → Option Task → Text → Type 0
 AreLines names flow most found text = (task : Task) × (states : ℕ) × (found ≡ Some task) × (states ≤ most)
-    × HasStates names task states × Tells names flow task states text
+    × HasStates names (unheard task) states × Tells names flow task states text
 
 -- the runs of the task come to more states than allowed, no two of them alike
 abbrev pub HasMoreStates : (names : List Text) → (most : ℕ) → Option Task → Type 0
-HasMoreStates names most found = (task : Task) × (found ≡ Some task) × ComesToStates names task (most + 1)
+HasMoreStates names most found = (task : Task) × (found ≡ Some task) × ComesToStates names (unheard task) (most + 1)
 
 -- the runs of the task come to so many states, no two of them alike, that their stretches may begin more steps than allowed
 abbrev pub HasMoreSteps : (names : List Text) → (work : ℕ) → Option Task → Type 0
-HasMoreSteps names work found = (task : Task) × (found ≡ Some task) × ComesToSteps names task work
+HasMoreSteps names work found = (task : Task) × (found ≡ Some task) × ComesToSteps names (unheard task) work
 
 -- the runs of the task come to states, no two of them alike, that count more bytes than allowed
 abbrev pub HasMoreBytes : (names : List Text) → (bytes : ℕ) → Option Task → Type 0
-HasMoreBytes names bytes found = (task : Task) × (found ≡ Some task) × ComesToBytes names task bytes
+HasMoreBytes names bytes found = (task : Task) × (found ≡ Some task) × ComesToBytes names (unheard task) bytes
 
 -- why there are no lines
 abbrev pub IsUntold : (names : List Text) → (most work bytes : ℕ) → Option Task → RehearseError → Type 0

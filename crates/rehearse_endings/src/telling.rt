@@ -1,6 +1,7 @@
 //! How the runs of an environment's variable, or of a given text, end, from its device list to the lines.
 ghost use Rattle.std.specs.Prelude.{◌≡◌, ◌+◌, IfOk, IfErr, Some, map};
 ghost use Rattle.rehearse_machine.specs.Tasks.{task_found, task_in};
+ghost use Rattle.rehearse_rules.specs.Runs.{unheard};
 ghost use Rattle.rehearse_endings.specs.declared.sum_error.SumError.TheVariants.{Bytes, States, Steps};
 ghost use Rattle.rehearse_endings.specs.Held.{ComesToBytes};
 ghost use Rattle.rehearse_endings.specs.States.{ComesToStates, ComesToSteps};
@@ -39,7 +40,7 @@ pub struct EndingsAsk<'a> {
     pub flow: bool,
 }
 
-/// The lines that say how all runs of a rehearsal end, or the lines of their flow.
+/// The lines that say how all runs of a rehearsal end, or the lines of their flow. What the runs write is dropped.
 fn lines_of<S: Store>(
     rehearsal: &Rehearsal<'_>,
     names: &[&[u8]],
@@ -51,16 +52,17 @@ fn lines_of<S: Store>(
     ensures ok { IfOk result (λ text. AreLines (map (λ n. n.now) names.now) flow most_states
         (Some (task_in rehearsal.now)) text.items) }
     ensures err { IfErr result
-        (λ e. e ≡ States → ComesToStates (map (λ n. n.now) names.now) (task_in rehearsal.now) (most_states + 1)) }
+        (λ e. e ≡ States → ComesToStates (map (λ n. n.now) names.now) (unheard (task_in rehearsal.now)) (most_states + 1)) }
     ensures costly { IfErr result
-        (λ e. e ≡ Steps → ComesToSteps (map (λ n. n.now) names.now) (task_in rehearsal.now) most_work) }
+        (λ e. e ≡ Steps → ComesToSteps (map (λ n. n.now) names.now) (unheard (task_in rehearsal.now)) most_work) }
     ensures large { IfErr result
-        (λ e. e ≡ Bytes → ComesToBytes (map (λ n. n.now) names.now) (task_in rehearsal.now) most_bytes) }
+        (λ e. e ≡ Bytes → ComesToBytes (map (λ n. n.now) names.now) (unheard (task_in rehearsal.now)) most_bytes) }
 {
-    let _bound = rehearsal.bounds.devices();
+    let quiet = rehearsal.unheard();
+    let _bound = quiet.bounds.devices();
     let mut store = S::new(rehearsal.alloc);
     let found = sum_endings(
-        rehearsal,
+        &quiet,
         &mut store,
         names,
         most_states,
