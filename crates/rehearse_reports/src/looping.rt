@@ -1,10 +1,11 @@
 //! Whether a stretch of a run has come back to the moment at which it began: then it is an endless loop.
 ghost use Rattle.std.specs.Prelude.{◌≡◌, ◌+◌, ◌-◌, ◌<◌, ◌≤◌, ◌^◌, OnOk, IsTrue};
 ghost use Rattle.bootstore_state.specs.Present.{moment_of};
+ghost use Rattle.text.specs.TextsShown.{option_items};
 ghost use Rattle.rehearse_reports.specs.Looping.{IsBack, BeginsRounds};
 
 use crate::key::Key;
-use bootstore_state::{Frame, LogEntry, Present, Store, StoreError, Variables};
+use bootstore_state::{Frame, LogEntry, Present, Store, StoreError, Variables, text_length};
 use rehearse_states::same_frames;
 use rehearse_terms::RunBounds;
 
@@ -33,6 +34,17 @@ fn same_log(a: &[LogEntry], b: &[LogEntry]) -> bool
         others = more;
     }
     others.is_empty()
+}
+
+/// Whether both texts are the same, if they are kept.
+fn same_text(a: &Option<Vec<u8>>, b: &Option<Vec<u8>>) -> bool
+    ensures { IsTrue result → option_items a.now ≡ option_items b.now }
+{
+    match (a, b) {
+        (Some(one), Some(other)) => one == other,
+        (None, None) => true,
+        _ => false,
+    }
 }
 
 /// Whether both are the same variables with the same values.
@@ -76,7 +88,7 @@ fn looks_same(a: &Present, b: &Present, written: &[Key]) -> bool {
     if a.frames.len() != b.frames.len() || !same_place(a.top(), b.top()) {
         return false;
     }
-    if a.text.len() != b.text.len() || a.log.len() != b.log.len() {
+    if text_length(&a.text) != text_length(&b.text) || a.log.len() != b.log.len() {
         return false;
     }
     for key in written {
@@ -91,7 +103,7 @@ fn looks_same(a: &Present, b: &Present, written: &[Key]) -> bool {
 fn is_again(first: &Present, present: &Present) -> bool
     ensures { IsTrue result → IsBack (moment_of first.now) (moment_of present.now) }
 {
-    if first.status != present.status || first.text != present.text {
+    if first.status != present.status || !same_text(&first.text, &present.text) {
         return false;
     }
     if !same_variables(first.locals.iter(), present.locals.iter()) {
