@@ -4,7 +4,7 @@ A small repository, in which a constant of the lower crate changes after it was 
 
   $ mkdir -p crates/low/src crates/high_main/src tests/edits.d/high_main tools
   $ cp "$repository/build" .; cp "$repository/tests/edits" tests
-  $ cp "$repository"/tools/{ci,build_arm64,crates.py,lib} tools
+  $ cp "$repository"/tools/{ci,build_arm64,programs,crates.py,lib} tools
   $ printf 'low:\nhigh_main: low\n' >crates.txt
 
 The two crates: a number, and its double.

@@ -2,11 +2,12 @@
 use Rattle.std.specs.Prelude.{◌++◌, ℕ, List, codes}
 use Rattle.tool_words.specs.declared.version.TheConstants.{VERSION}
 use Rattle.tool_steps.specs.declared.build.Build.{Build}
-use Rattle.tool_steps.specs.declared.build.Build.TheVariants.{Arm64, Arm64Static, X86_64}
+use Rattle.tool_steps.specs.declared.build.Build.TheVariants.{Arm64, Arm64Static, X86_64, X86_64Static}
 
 -- the processor of a build, and how its program is linked
 abbrev pub build_text : Build → List ℕ
 build_text X86_64 = codes "x86_64, dynamic"
+build_text X86_64Static = codes "x86_64, static"
 build_text Arm64 = codes "aarch64, dynamic"
 build_text Arm64Static = codes "aarch64, static"
 

@@ -8,6 +8,8 @@ ghost use Rattle.tool_steps.specs.Builds.{build_text};
 pub enum Build {
     /// For x86-64. The program loads the C library of the machine.
     X86_64,
+    /// For x86-64, with the C library in the program.
+    X86_64Static,
     /// For 64-bit ARM. The program loads the C library of the machine.
     Arm64,
     /// For 64-bit ARM, with the C library in the program.
@@ -22,6 +24,7 @@ impl Build {
     {
         match self {
             Build::X86_64 => "x86_64, dynamic",
+            Build::X86_64Static => "x86_64, static",
             Build::Arm64 => "aarch64, dynamic",
             Build::Arm64Static => "aarch64, static",
         }
