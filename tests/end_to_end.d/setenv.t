@@ -355,10 +355,10 @@ too large on the way alone
   $ ubtool printenv -c s.config
   a=0
 
-a script of more than 16 lines
+a script of more than 32 lines
   $ printf 'c=1\na=2\nb=3\n' >text && ubtool image --size 4096 -o long text && cp long short
   $ places long >long.config && places short >short.config
-  $ { seq 9 | sed 's/.*/v& &/' && printf 'a\nc 1\nb 5\n' && seq -f 'v%g' 2 8 && echo a 7; } >changes
+  $ { seq -f '#%g' 20 && seq 9 | sed 's/.*/v& &/' && printf 'a\nc 1\nb 5\n' && seq -f 'v%g' 2 8 && echo a 7; } >changes
   $ ubtool setenv -c long.config -s changes
   $ ubtool printenv -c long.config
   c=1

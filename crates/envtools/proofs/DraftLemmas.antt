@@ -188,9 +188,6 @@ IsDraft-put f g log name value moved v d = record {
 
 -- ---- a variable gets another value in its place
 
-placed-name : (f : List ℕ → Option ℕ) (name : List ℕ) (i : ℕ) (q : Pair) → f name ≡ Some i → same name q.0 ≡ true → f q.0 ≡ Some i
-placed-name f name i q placed this = ap f (sym ((bytes_decides name q.0).0 this)) ∙ placed
-
 held-set : (f : List ℕ → Option ℕ) (name value : List ℕ) (i : ℕ) → f name ≡ Some i
     → (at k : ℕ) (ps : List Pair) → i ≡ at + k → IsNamed name (slice_get ps k) → held f at (set ps k (name, value)) ≡ assigned (held f at ps) name value
 held-set f name value i placed at k [] e this = absurd this

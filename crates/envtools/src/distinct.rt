@@ -56,7 +56,7 @@ fn name_numbers(alloc: Global, body: &[u8]) -> Result<Vec<u64>, AllocError>
 
 /// Whether the first number is greater than 0, and each other one than the one before it.
 fn rise(numbers: &[u64]) -> bool
-    ensures { IsTrue result → Rise numbers.now }
+    ensures { IsTrue result ↔ Rise numbers.now }
 {
     let mut last = 0;
     for number in numbers {
@@ -72,7 +72,8 @@ fn rise(numbers: &[u64]) -> bool
 /// for each name if they do not ascend. Errors: memory ran out.
 pub(crate) fn are_distinct(alloc: Global, body: &[u8]) -> Result<bool, AllocError>
     requires { data_fault body.now ≡ None }
-    ensures { IfOk result (λ are. IsTrue are → HasDistinctNames (pairs_of body.now)) }
+    ensures distinct { IfOk result (λ are. IsTrue are → HasDistinctNames (pairs_of body.now)) }
+    ensures ascending { IfOk result (λ are. Ascend (pairs_of body.now) → IsTrue are) }
 {
     if is_ascending(body) {
         return Ok(true);

@@ -36,7 +36,7 @@ fn print_variables(rt: &impl Print, env: &Env) -> io::Result<()> {
 fn apply(rt: &HostRuntime, env: &mut Env) -> io::Result<()> {
     let applied = apply_script(
         env,
-        b"#\n#\n#\n#\n#\n#\n#\n#\n#\n#\n#\nc 3\na\nd 4\nb 5\ne 6\nf 7",
+        b"\n\n\n\n\n\n\n\n\n\n\n\n\n\n\n\n\n\n\n\n\n\n\n\n\n\n\nc 3\na\nd 4\nb 5\ne 6\nf 7",
     );
     match told_apart(applied, ScriptError::Memory) {
         Ok(()) => print!(rt; "applied:")?,

@@ -11,7 +11,7 @@ pub returns : goal.returns
 returns c = elim c.if-branch.branch [
   | then-branch+in_ok-pairs w ↦
       ap (λ pairs. map pair_at pairs.items) w.pairs-is ∙ w.in_ok-pairs.ensures
-      ∙ sym (env_of-distinct (pairs_of c.args.body.now) (c.in_ok-are_distinct.ensures w.if-branch.true))
+      ∙ sym (env_of-distinct (pairs_of c.args.body.now) (c.in_ok-are_distinct.ensures.distinct w.if-branch.true))
   | else-branch+in_ok-of_data+in_ok-pairs-2 w ↦
       ap (λ pairs. map pair_at pairs.items) w.pairs-is ∙ (w.in_ok-pairs-2.ensures.pairs ∙ w.in_ok-of_data.ensures)
 ]
