@@ -9,8 +9,8 @@ use Rattle.rehearse_states.specs.Endings.{endings}
 use Rattle.rehearse_states.specs.Drawing.{asks_in}
 use Rattle.rehearse_states.specs.Flow.{Node, IsFlow, flow_text}
 use Rattle.rehearse_states.specs.EndingLines.{endings_text, failing}
-use Rattle.rehearse_endings.specs.Held.{ComesToBytes}
-use Rattle.rehearse_endings.specs.States.{ComesToStates, ComesToSteps, HasStates}
+use Rattle.rehearse_endings.specs.Held.{ComesToBytes, HoldsStates}
+use Rattle.rehearse_endings.specs.States.{ComesToStates, ComesToSteps}
 use Rattle.rehearse_endings.specs.declared.telling.EndingsAsk.{EndingsAsk}
 use Rattle.rehearse_rules.specs.declared.rehearse_error.RehearseError.{RehearseError}
 use Rattle.rehearse_rules.specs.declared.rehearse_error.RehearseError.TheVariants.{NoSuchVariable, States, Steps, Bytes, Write, Memory}
@@ -36,10 +36,11 @@ Tells names false task states text = (nodes : List Node) × IsFlowOf task states
 -- A search drops the text that a run writes, which no run reads (`UnheardRunsGoAlike`). So the states below are those of
 -- `unheard task`, to which the same runs come, each without its text.
 
--- the lines of the task; its runs come to this many states, no two alike, and to no more than allowed
-abbrev pub AreLines : (names : List Text) → (flow : Bool) → (most : ℕ) → Option Task → Text → Type 0
-AreLines names flow most found text = (task : Task) × (states : ℕ) × (found ≡ Some task) × (states ≤ most)
-    × HasStates names (unheard task) states × Tells names flow task states text
+-- the lines of the task; its runs come to this many states, no two alike, to no more than allowed, and these count no more
+-- bytes than allowed
+abbrev pub AreLines : (names : List Text) → (flow : Bool) → (most bytes : ℕ) → Option Task → Text → Type 0
+AreLines names flow most bytes found text = (task : Task) × (states : ℕ) × (found ≡ Some task) × (states ≤ most)
+    × HoldsStates names (unheard task) states bytes × Tells names flow task states text
 
 -- the runs of the task come to more states than allowed, no two of them alike
 abbrev pub HasMoreStates : (names : List Text) → (most : ℕ) → Option Task → Type 0
@@ -65,12 +66,12 @@ IsUntold names most work bytes found _ = ⊥
 -- the lines were written
 abbrev pub TellsEndings : (found : Option Task) → EndingsAsk → (old new : Sink) → Type 0
 TellsEndings found ask old new =
-    (text : Text) × AreLines (names_of ask) ask.flow ask.states found text × Wrote old new text
+    (text : Text) × AreLines (names_of ask) ask.flow ask.states ask.memory found text × Wrote old new text
 
 -- the output failed inside the lines
 abbrev pub BreaksOff : (found : Option Task) → EndingsAsk → (old new : Sink) → Type 0
 BreaksOff found ask old new =
-    (text : Text) × AreLines (names_of ask) ask.flow ask.states found text × BrokeOff old new text
+    (text : Text) × AreLines (names_of ask) ask.flow ask.states ask.memory found text × BrokeOff old new text
 
 abbrev pub RefusesEndings : (found : Option Task) → EndingsAsk → (old new : Sink) → RehearseError → Type 0
 RefusesEndings found ask old new NoSuchVariable = (found ≡ None) × (new ≡ old)

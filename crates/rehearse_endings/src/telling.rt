@@ -49,7 +49,7 @@ fn lines_of<S: Store>(
     most_bytes: u64,
     flow: bool,
 ) -> Result<Vec<u8>, SumError>
-    ensures ok { IfOk result (λ text. AreLines (map (λ n. n.now) names.now) flow most_states
+    ensures ok { IfOk result (λ text. AreLines (map (λ n. n.now) names.now) flow most_states most_bytes
         (Some (task_in rehearsal.now)) text.items) }
     ensures err { IfErr result
         (λ e. e ≡ States → ComesToStates (map (λ n. n.now) names.now) (unheard (task_in rehearsal.now)) (most_states + 1)) }
@@ -92,7 +92,7 @@ fn lines_in<S: Store>(
     devices: &Devices,
     ask: &EndingsAsk<'_>,
 ) -> Result<Vec<u8>, RehearseError>
-    ensures ok { IfOk result (λ text. AreLines (names_of ask.now) ask.now.flow ask.now.states
+    ensures ok { IfOk result (λ text. AreLines (names_of ask.now) ask.now.flow ask.now.states ask.now.memory
         (task_found env.now devices.now (source_of ask.now) ask.now.bounds) text.items) }
     ensures err { IfErr result (λ e. IsUntold (names_of ask.now) ask.now.states ask.now.work ask.now.memory
         (task_found env.now devices.now (source_of ask.now) ask.now.bounds) e) }

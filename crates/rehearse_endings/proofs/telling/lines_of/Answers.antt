@@ -6,7 +6,8 @@ use Rattle.rehearse_states.specs.Drawing.{nodes_shown}
 use Rattle.rehearse_states.specs.Endings.{endings}
 use Rattle.rehearse_states.specs.Flow.{IsFlow}
 use Rattle.rehearse_states.specs.RowsShown.{rows_shown, saturated}
-use Rattle.rehearse_endings.specs.States.{ComesToSteps, HasStates}
+use Rattle.rehearse_endings.specs.Held.{HoldsStates}
+use Rattle.rehearse_endings.specs.States.{ComesToSteps}
 use Rattle.rehearse_endings.specs.TellingEndings.{Tells}
 use Rattle.rehearse_endings.specs.declared.sum_error.SumError.{SumError}
 use Rattle.rehearse_endings.specs.declared.sum_error.SumError.TheVariants.{Steps}
@@ -24,9 +25,9 @@ returns-then-flow-clause-ok g c =
     let names = map (λ n. n.now) c.args.names.now in
     let quiet = c.unheard-quiet.ensures in
     let flow = flow_of_unheard task nodes (subst (λ (t : Task). IsFlow t nodes) quiet c.in_ok-found.ensures.flow) in
-    let met = subst (λ (t : Task). HasStates names t states) quiet c.in_ok-found.ensures.met in
+    let held = subst (λ (t : Task). HoldsStates names t states c.args.most_bytes) quiet c.in_ok-found.ensures.held in
     let told : Tells names true task states c.in_ok-text.text.items = (nodes, (flow, c.in_ok-found.ensures.nodes), c.in_ok-text.ensures) in
-    (task, states, refl, c.in_ok-found.ensures.states, met, subst (λ (flow : Bool). Tells names flow task states c.in_ok-text.text.items) (sym is) told)
+    (task, states, refl, c.in_ok-found.ensures.states, held, subst (λ (flow : Bool). Tells names flow task states c.in_ok-text.text.items) (sym is) told)
 
 pub returns-clause-ok : goal.returns-clause-ok
 returns-clause-ok g c =
@@ -38,10 +39,10 @@ returns-clause-ok g c =
     let names = map (λ n. n.now) c.args.names.now in
     let quiet = c.unheard-quiet.ensures in
     let flow = flow_of_unheard task nodes (subst (λ (t : Task). IsFlow t nodes) quiet c.in_ok-found.ensures.flow) in
-    let met = subst (λ (t : Task). HasStates names t states) quiet c.in_ok-found.ensures.met in
+    let held = subst (λ (t : Task). HoldsStates names t states c.args.most_bytes) quiet c.in_ok-found.ensures.held in
     let rows = c.in_ok-found.ensures.rows ∙ ap (λ (t : Task). map saturated (endings names t)) quiet ∙ ap (map saturated) (same_endings task names) in
     let told : Tells names false task states text = (nodes, (flow, c.in_ok-found.ensures.nodes), text_told names task nodes (rows_shown c.in_ok-found.found.rows) text states flow rows c.in_ok-text-2.ensures) in
-    (task, states, refl, c.in_ok-found.ensures.states, met, subst (λ (flow : Bool). Tells names flow task states text) (sym is) told)
+    (task, states, refl, c.in_ok-found.ensures.states, held, subst (λ (flow : Bool). Tells names flow task states text) (sym is) told)
 
 pub returns-in_err-found-clause-costly : goal.returns-in_err-found-clause-costly
 returns-in_err-found-clause-costly g c =
