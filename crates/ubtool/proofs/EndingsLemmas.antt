@@ -48,7 +48,7 @@ module _ (order : ByteOrder) (inputs : InputsShown) (what : EndingsAsk) (out out
 
 -- ---- an answer, by its clauses
 
-pub copies-told : (g : Given) (flow : Bool) (states work bytes : ℕ) (out out' : Sink) (r : Result (Unit {0}) RehearsalError) → IfOk r (λ done. TellsEndings g flow states out out') → IfErr r (λ e. RefusesEndings g flow states work bytes out out' e) → TellsCopies g flow states work bytes out out' r
+pub copies-told : (g : Given) (flow : Bool) (states work bytes : ℕ) (out out' : Sink) (r : Result (Unit {0}) RehearsalError) → IfOk r (λ done. TellsEndings g flow states bytes out out') → IfErr r (λ e. RefusesEndings g flow states work bytes out out' e) → TellsCopies g flow states work bytes out out' r
 copies-told g flow states work bytes out out' (Ok done) ok err = ok
 copies-told g flow states work bytes out out' (Err (refused.Image error)) ok err = err
 copies-told g flow states work bytes out out' (Err (refused.Rehearsal error)) ok err = err

@@ -19,7 +19,7 @@ use Rattle.ubtool.proofs.BeginningLemmas.{image-of-start}
 
 module _ (g : Given) (flow : Bool) (states work bytes : ℕ) (old new : Sink) where
   -- no turns
-  tells-none : (t : Option ℕ) → t ≡ None → TellsOne g flow states old new → TellsBy g flow states t old new
+  tells-none : (t : Option ℕ) → t ≡ None → TellsOne g flow states bytes old new → TellsBy g flow states bytes t old new
   tells-none None e h = h
   tells-none (Some count) e h = absurd (let f : ◌≡◌ {A = Option ℕ} (Some count) None = e in cc)
 
@@ -28,7 +28,7 @@ module _ (g : Given) (flow : Bool) (states work bytes : ℕ) (old new : Sink) wh
   refuses-none error None e h = h
   refuses-none error (Some count) e h = absurd (let f : ◌≡◌ {A = Option ℕ} (Some count) None = e in cc)
 
-  pub one-told : TellsOne g flow states old new → TellsEndings g flow states old new
+  pub one-told : TellsOne g flow states bytes old new → TellsEndings g flow states bytes old new
   one-told h = tells-none (turns_of (beginning_of g)) (ap turns_of h.1.found) h
 
   memory-told : (t : Option ℕ) → HasImage g × (new ≡ old) → RefusesBy g flow states work bytes t old new refused.Memory
@@ -71,19 +71,19 @@ has-turns g flow states work bytes old new refused.Write count e h = absurd (let
 has-turns g flow states work bytes old new refused.Memory count e h = absurd (let f : ◌≡◌ {A = Option ℕ} None (Some count) = e in cc)
 
 module _ (g : Given) (flow : Bool) (states work bytes count : ℕ) (old new : Sink) (found : beginning_of g ≡ Err (OfBoard (OfStart (Alternatives count)))) where
-  tells-some : (t : Option ℕ) → t ≡ Some count → TellsTurns g flow states count old new → TellsBy g flow states t old new
+  tells-some : (t : Option ℕ) → t ≡ Some count → TellsTurns g flow states bytes count old new → TellsBy g flow states bytes t old new
   tells-some None e h = absurd (let f : ◌≡◌ {A = Option ℕ} None (Some count) = e in cc)
-  tells-some (Some n) e h = let same : count ≡ n = (let f : ◌≡◌ {A = Option ℕ} (Some n) (Some count) = e in cc) in subst (λ (k : ℕ). TellsTurns g flow states k old new) same h
+  tells-some (Some n) e h = let same : count ≡ n = (let f : ◌≡◌ {A = Option ℕ} (Some n) (Some count) = e in cc) in subst (λ (k : ℕ). TellsTurns g flow states bytes k old new) same h
 
   refuses-some : (error : RehearsalError) (t : Option ℕ) → t ≡ Some count → RefusesTurns g flow states work bytes count old new error
       → RefusesBy g flow states work bytes t old new error
   refuses-some error None e h = absurd (let f : ◌≡◌ {A = Option ℕ} None (Some count) = e in cc)
   refuses-some error (Some n) e h = let same : count ≡ n = (let f : ◌≡◌ {A = Option ℕ} (Some n) (Some count) = e in cc) in subst (λ (k : ℕ). RefusesTurns g flow states work bytes k old new error) same h
 
-  pub turns-told : (text : Text) → AreAllLines g flow states count text → Wrote old new text → TellsEndings g flow states old new
+  pub turns-told : (text : Text) → AreAllLines g flow states bytes count text → Wrote old new text → TellsEndings g flow states bytes old new
   turns-told text are wrote = tells-some (turns_of (beginning_of g)) (ap turns_of found) (text, are, wrote)
 
-  pub turns-broken : (text : Text) → AreAllLines g flow states count text → BrokeOff old new text → RefusesEndings g flow states work bytes old new refused.Write
+  pub turns-broken : (text : Text) → AreAllLines g flow states bytes count text → BrokeOff old new text → RefusesEndings g flow states work bytes old new refused.Write
   turns-broken text are broke = refuses-some refused.Write (turns_of (beginning_of g)) (ap turns_of found) (text, are, broke)
 
   pub turns-refused : (error : RehearsalError) → RefusesTurn g flow states work bytes count error → new ≡ old → RefusesEndings g flow states work bytes old new error
@@ -111,7 +111,7 @@ untouched g flow states work bytes old new h = by (turns_of (beginning_of g)) h
 
 -- ---- one alternative that has no lines
 
-pub turn-refused : (g : Given) (flow : Bool) (states work bytes count place : ℕ) (parts : List Text) (text : Text) → AreInOrder g flow states place parts text → place < count → (error : RehearsalError) → LacksLines states work bytes (named g (place + 1)) error → RefusesTurn g flow states work bytes count error
+pub turn-refused : (g : Given) (flow : Bool) (states work bytes count place : ℕ) (parts : List Text) (text : Text) → AreInOrder g flow states bytes place parts text → place < count → (error : RehearsalError) → LacksLines states work bytes (named g (place + 1)) error → RefusesTurn g flow states work bytes count error
 turn-refused g flow states work bytes count place parts text so_far within error h = by error h
   where
     length_is : place ≡ length parts
@@ -121,7 +121,7 @@ turn-refused g flow states work bytes count place parts text so_far within error
     lacking e why = record {
       parts = parts;
       text = text;
-      before = subst (λ (n : ℕ). AreInOrder g flow states n parts text) length_is so_far;
+      before = subst (λ (n : ℕ). AreInOrder g flow states bytes n parts text) length_is so_far;
       within = subst (λ (n : ℕ). n < count) length_is within;
       lacks = subst (λ (n : ℕ). WhyNoLines states work bytes (named g (n + 1)) e) length_is why;
     }
@@ -135,10 +135,10 @@ turn-refused g flow states work bytes count place parts text so_far within error
 
 -- ---- what an answer leaves of the output
 
-pub told-sound : (g : Given) (flow : Bool) (states : ℕ) (old new : Sink) → TellsEndings g flow states old new → new.failures ≡ old.failures
-told-sound g flow states old new h = by (turns_of (beginning_of g)) h
+pub told-sound : (g : Given) (flow : Bool) (states bytes : ℕ) (old new : Sink) → TellsEndings g flow states bytes old new → new.failures ≡ old.failures
+told-sound g flow states bytes old new h = by (turns_of (beginning_of g)) h
   where
-    by : (t : Option ℕ) → TellsBy g flow states t old new → new.failures ≡ old.failures
+    by : (t : Option ℕ) → TellsBy g flow states bytes t old new → new.failures ≡ old.failures
     by None h = h.2.sound
     by (Some count) h = h.2.sound
 

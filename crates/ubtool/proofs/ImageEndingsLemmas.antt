@@ -21,8 +21,8 @@ module _ (g : Given) (ask : EndingsAsk) (beginning : Beginning) (text : Option T
   on_image : (IsSo : List Text → Option Task → Type 0) → IsSo (names_of ask) (task_asked beginning.environment beginning.devices text (runs_by ask)) → HasBoard g (IsSo g.asking.names)
   on_image IsSo h = on_board g beginning found text same (IsSo g.asking.names) (subst (λ (a : Asking). IsSo a.names (task_asked beginning.environment beginning.devices text a)) (sym asked) h)
 
-  pub tells-image : below.TellsEndings (task_asked beginning.environment beginning.devices text (runs_by ask)) ask old new → TellsOne g ask.flow ask.states old new
-  tells-image h = (h.0, on_image (λ names task. AreLines names ask.flow ask.states task h.0) h.1, h.2)
+  pub tells-image : below.TellsEndings (task_asked beginning.environment beginning.devices text (runs_by ask)) ask old new → TellsOne g ask.flow ask.states ask.memory old new
+  tells-image h = (h.0, on_image (λ names task. AreLines names ask.flow ask.states ask.memory task h.0) h.1, h.2)
 
   pub refused-endings : (error : RehearseError) → below.RefusesEndings (task_asked beginning.environment beginning.devices text (runs_by ask)) ask old new error → RefusesOne g ask.flow ask.states ask.work ask.memory old new (rehearse_error error)
   refused-endings (rehearsal.DeviceList fault) h = absurd h
@@ -30,7 +30,7 @@ module _ (g : Given) (ask : EndingsAsk) (beginning : Beginning) (text : Option T
   refused-endings rehearsal.States h = (on_image (λ names. HasMoreStates names ask.states) h.0, h.1)
   refused-endings rehearsal.Steps h = (on_image (λ names. HasMoreSteps names ask.work) h.0, h.1)
   refused-endings rehearsal.Bytes h = (on_image (λ names. HasMoreBytes names ask.memory) h.0, h.1)
-  refused-endings rehearsal.Write h = (h.0, on_image (λ names task. AreLines names ask.flow ask.states task h.0) h.1, h.2)
+  refused-endings rehearsal.Write h = (h.0, on_image (λ names task. AreLines names ask.flow ask.states ask.memory task h.0) h.1, h.2)
   refused-endings rehearsal.NotARun h = absurd h
   refused-endings rehearsal.Failed h = absurd h
   refused-endings rehearsal.Memory h = (has-image g beginning found, h)

@@ -37,7 +37,7 @@ endings_refusal what error = reported error
 
 -- each answer to the endings of copies
 abbrev pub TellsCopies : Given → (flow : Bool) → (states work bytes : ℕ) → (old new : Sink) → Result (Unit {0}) RehearsalError → Type 0
-TellsCopies g flow states work bytes old new (Ok done) = TellsEndings g flow states old new
+TellsCopies g flow states work bytes old new (Ok done) = TellsEndings g flow states bytes old new
 TellsCopies g flow states work bytes old new (Err refused.Memory) = new ≡ old
 TellsCopies g flow states work bytes old new (Err error) = RefusesEndings g flow states work bytes old new error
 
@@ -47,7 +47,7 @@ abbrev pub TellsFrom : ByteOrder → InputsShown → EndingsAsk → (out out' : 
     Result Bool ProgramFault → Type 0
 TellsFrom order inputs what out out' old new (Ok all) =
     (all ≡ true) × FromFiles order inputs (all_asked what) old new (λ g.
-    TellsEndings g what.flow what.states out out')
+    TellsEndings g what.flow what.states (bytes_allowed what) out out')
 TellsFrom order inputs what out out' old new (Err (Shared Memory)) = OnlyReads old new × (out' ≡ out)
 TellsFrom order inputs what out out' old new (Err (Shared (Tool (tool.Image error)))) =
     FromFiles order inputs (all_asked what) old new (λ g.

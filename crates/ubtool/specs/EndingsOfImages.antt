@@ -32,12 +32,12 @@ endings_given order first second device_list taking ask =
 -- ---- one alternative
 
 -- these are the lines, or the lines of the flow, with at most this many states
-abbrev pub AreLinesOf : (flow : Bool) → (states : ℕ) → Given → Text → Type 0
-AreLinesOf flow states g text = HasBoard g (λ found. AreLines g.asking.names flow states found text)
+abbrev pub AreLinesOf : (flow : Bool) → (states bytes : ℕ) → Given → Text → Type 0
+AreLinesOf flow states bytes g text = HasBoard g (λ found. AreLines g.asking.names flow states bytes found text)
 
 -- the lines were written
-abbrev pub TellsOne : Given → (flow : Bool) → (states : ℕ) → (old new : Sink) → Type 0
-TellsOne g flow states old new = (text : Text) × AreLinesOf flow states g text × Wrote old new text
+abbrev pub TellsOne : Given → (flow : Bool) → (states bytes : ℕ) → (old new : Sink) → Type 0
+TellsOne g flow states bytes old new = (text : Text) × AreLinesOf flow states bytes g text × Wrote old new text
 
 -- why there are none, with at most so many steps in all, and so many bytes
 abbrev pub WhyNoLines : (states work bytes : ℕ) → Given → RehearsalError → Type 0
@@ -51,7 +51,7 @@ WhyNoLines states work bytes g (Rehearsal Bytes) = HasBoard g (HasMoreBytes g.as
 WhyNoLines states work bytes g _ = ⊥
 
 abbrev pub RefusesOne : Given → (flow : Bool) → (states work bytes : ℕ) → (old new : Sink) → RehearsalError → Type 0
-RefusesOne g flow states work bytes old new Write = (text : Text) × AreLinesOf flow states g text × BrokeOff old new text
+RefusesOne g flow states work bytes old new Write = (text : Text) × AreLinesOf flow states bytes g text × BrokeOff old new text
 RefusesOne g flow states work bytes old new Memory = HasImage g × (new ≡ old)
 RefusesOne g flow states work bytes old new error = WhyNoLines states work bytes g error × (new ≡ old)
 
@@ -62,18 +62,18 @@ LacksLines states work bytes g error = WhyNoLines states work bytes g error
 
 -- ---- so many alternatives
 
-abbrev pub AreInOrder : Given → (flow : Bool) → (states count : ℕ) → (parts : List Text) → Text → Type 0
-AreInOrder g flow states count parts text = AreInTurn (AreLinesOf flow states) (λ part. part) g count parts text
+abbrev pub AreInOrder : Given → (flow : Bool) → (states bytes count : ℕ) → (parts : List Text) → Text → Type 0
+AreInOrder g flow states bytes count parts text = AreInTurn (AreLinesOf flow states bytes) (λ part. part) g count parts text
 
 -- the lines of each
-abbrev pub AreAllLines : Given → (flow : Bool) → (states count : ℕ) → Text → Type 0
-AreAllLines g flow states count text = (parts : List Text) × AreInOrder g flow states count parts text
+abbrev pub AreAllLines : Given → (flow : Bool) → (states bytes count : ℕ) → Text → Type 0
+AreAllLines g flow states bytes count text = (parts : List Text) × AreInOrder g flow states bytes count parts text
 
 -- one of them has none, and those before it have these
 pub record LacksTurn (g : Given) (flow : Bool) (states work bytes count : ℕ) (error : RehearsalError) : Type 0 where
   pub parts : List Text
   pub text : Text
-  pub before : AreInOrder g flow states (length parts) parts text
+  pub before : AreInOrder g flow states bytes (length parts) parts text
   pub within : length parts < count
   pub lacks : WhyNoLines states work bytes (named g (length parts + 1)) error
 
@@ -81,28 +81,28 @@ abbrev pub RefusesTurn : Given → (flow : Bool) → (states work bytes count : 
 RefusesTurn g flow states work bytes count Memory = Unit {0}
 RefusesTurn g flow states work bytes count error = LacksTurn g flow states work bytes count error
 
-abbrev pub TellsTurns : Given → (flow : Bool) → (states count : ℕ) → (old new : Sink) → Type 0
-TellsTurns g flow states count old new = (text : Text) × AreAllLines g flow states count text × Wrote old new text
+abbrev pub TellsTurns : Given → (flow : Bool) → (states bytes count : ℕ) → (old new : Sink) → Type 0
+TellsTurns g flow states bytes count old new = (text : Text) × AreAllLines g flow states bytes count text × Wrote old new text
 
 abbrev pub RefusesTurns : Given → (flow : Bool) → (states work bytes count : ℕ) → (old new : Sink) → RehearsalError → Type 0
 RefusesTurns g flow states work bytes count old new Write =
-    (text : Text) × AreAllLines g flow states count text × BrokeOff old new text
+    (text : Text) × AreAllLines g flow states bytes count text × BrokeOff old new text
 RefusesTurns g flow states work bytes count old new Memory = HasImage g × (new ≡ old)
 RefusesTurns g flow states work bytes count old new error = LacksTurn g flow states work bytes count error × (new ≡ old)
 
 -- ---- all that is given
 
-abbrev pub TellsBy : Given → (flow : Bool) → (states : ℕ) → (turns : Option ℕ) → (old new : Sink) → Type 0
-TellsBy g flow states None old new = TellsOne g flow states old new
-TellsBy g flow states (Some count) old new = TellsTurns g flow states count old new
+abbrev pub TellsBy : Given → (flow : Bool) → (states bytes : ℕ) → (turns : Option ℕ) → (old new : Sink) → Type 0
+TellsBy g flow states bytes None old new = TellsOne g flow states bytes old new
+TellsBy g flow states bytes (Some count) old new = TellsTurns g flow states bytes count old new
 
 abbrev pub RefusesBy : Given → (flow : Bool) → (states work bytes : ℕ) → (turns : Option ℕ) → (old new : Sink) → RehearsalError → Type 0
 RefusesBy g flow states work bytes None old new error = RefusesOne g flow states work bytes old new error
 RefusesBy g flow states work bytes (Some count) old new error = RefusesTurns g flow states work bytes count old new error
 
 -- the lines were written
-abbrev pub TellsEndings : Given → (flow : Bool) → (states : ℕ) → (old new : Sink) → Type 0
-TellsEndings g flow states old new = TellsBy g flow states (turns_of (beginning_of g)) old new
+abbrev pub TellsEndings : Given → (flow : Bool) → (states bytes : ℕ) → (old new : Sink) → Type 0
+TellsEndings g flow states bytes old new = TellsBy g flow states bytes (turns_of (beginning_of g)) old new
 
 abbrev pub RefusesEndings : Given → (flow : Bool) → (states work bytes : ℕ) → (old new : Sink) → RehearsalError → Type 0
 RefusesEndings g flow states work bytes old new error = RefusesBy g flow states work bytes (turns_of (beginning_of g)) old new error

@@ -54,7 +54,7 @@ fn endings_told<O: Out>(
     out: &mut O,
 ) -> Result<(), RehearsalError>
     ensures ok { (g : Given) → StartsWith g beginning.now (runs_by ask.now)
-        → IfOk result (λ _. TellsOne g ask.now.flow ask.now.states (O.sink out.old) (O.sink out.new)) }
+        → IfOk result (λ _. TellsOne g ask.now.flow ask.now.states ask.now.memory (O.sink out.old) (O.sink out.new)) }
     ensures err { (g : Given) → StartsWith g beginning.now (runs_by ask.now)
         → IfErr result
         (λ e. RefusesOne g ask.now.flow ask.now.states ask.now.work ask.now.memory (O.sink out.old) (O.sink out.new) e) }
@@ -78,7 +78,7 @@ fn endings_of_one<O: Out>(
 ) -> Result<(), RehearsalError>
     ensures ok { IfOk result (λ _. TellsOne
         (endings_given order first.now (option_copied second.entry) list.entry.text.now list.entry.taking ask.now)
-        ask.now.flow ask.now.states (O.sink out.old) (O.sink out.new)) }
+        ask.now.flow ask.now.states ask.now.memory (O.sink out.old) (O.sink out.new)) }
     ensures err { IfErr result
         (λ e. RefusesOne (endings_given order first.now (option_copied second.entry)
         list.entry.text.now list.entry.taking ask.now) ask.now.flow ask.now.states ask.now.work ask.now.memory (O.sink out.old) (O.sink out.new) e) }
@@ -103,7 +103,7 @@ fn lines_of_one(
     list: DeviceText<'_>,
     ask: &EndingsAsk<'_>,
 ) -> Result<Vec<u8>, RehearsalError>
-    ensures ok { IfOk result (λ v. AreLinesOf ask.now.flow ask.now.states
+    ensures ok { IfOk result (λ v. AreLinesOf ask.now.flow ask.now.states ask.now.memory
         (endings_given order first.now (option_copied second.entry) list.entry.text.now list.entry.taking ask.now) v.items) }
     ensures err { IfErr result (λ e. LacksLines ask.now.states ask.now.work ask.now.memory
         (endings_given order first.now (option_copied second.entry) list.entry.text.now list.entry.taking ask.now) e) }
@@ -131,7 +131,7 @@ fn lines_by_start(
     requires { start_of list.text.now ≡ Ok start.now }
     ensures ok { IfOk result (λ v. AreAllLines
         (endings_given order first.now (option_copied second.entry) list.entry.text.now list.entry.taking ask.now)
-        ask.now.flow ask.now.states count v.items) }
+        ask.now.flow ask.now.states ask.now.memory count v.items) }
     ensures err { IfErr result (λ e. RefusesTurn
         (endings_given order first.now (option_copied second.entry) list.entry.text.now list.entry.taking ask.now)
         ask.now.flow ask.now.states ask.now.work ask.now.memory count e) }
@@ -160,7 +160,7 @@ fn lines_in_turn(
 ) -> Result<Vec<u8>, RehearsalError>
     ensures ok { IfOk result (λ v. AreAllLines
         (endings_given order first.now (option_copied second.entry) list.entry.text.now list.entry.taking ask.now)
-        ask.now.flow ask.now.states count v.items) }
+        ask.now.flow ask.now.states ask.now.memory count v.items) }
     ensures err { IfErr result (λ e. RefusesTurn
         (endings_given order first.now (option_copied second.entry) list.entry.text.now list.entry.taking ask.now)
         ask.now.flow ask.now.states ask.now.work ask.now.memory count e) }
@@ -194,7 +194,7 @@ pub fn endings_bytes<O: Out>(
 ) -> Result<(), RehearsalError>
     ensures ok { IfOk result (λ _. TellsEndings
         (endings_given order first.now (option_copied second.entry) list.entry.text.now list.entry.taking ask.now)
-        ask.now.flow ask.now.states (O.sink out.old) (O.sink out.new)) }
+        ask.now.flow ask.now.states ask.now.memory (O.sink out.old) (O.sink out.new)) }
     ensures err { IfErr result
         (λ e. RefusesEndings (endings_given order first.now (option_copied second.entry)
         list.entry.text.now list.entry.taking ask.now) ask.now.flow ask.now.states ask.now.work ask.now.memory (O.sink out.old) (O.sink out.new) e) }

@@ -6,7 +6,7 @@ use Rattle.ubtool.specs.declared.fault.ProgramFault.TheVariants.{Shared}
 use Rattle.ubtool.specs.EndingsOfFiles.{TellsFrom}
 use Rattle.tool_words.specs.CommandAnswers.{inputs_shown}
 use Rattle.tool_steps.specs.Images.{copies}
-use Rattle.ubtool.specs.EndingsOfFiles.{all_asked}
+use Rattle.ubtool.specs.EndingsOfFiles.{all_asked, bytes_allowed}
 use Rattle.ubtool.specs.Given.{given_by, script_of}
 use Rattle.ubtool.specs.RehearsingFiles.{LeavesOutput}
 use Rattle.ubtool.proofs.EndingsTurnLemmas.{told-sound}
@@ -42,7 +42,7 @@ returns-in-Err-clause-told g c =
 pub returns-in-Ok-clause-output : goal.returns-in-Ok-clause-output
 returns-in-Ok-clause-output g c =
     let what = c.args.what in
-    told-sound (given_by c.args.order (copies c.in_ok-sources.sources.images) c.in_ok-sources.sources.device_list.items c.args.inputs.taking (script_of c.in_ok-sources.sources) (all_asked what)) what.flow what.states (g.O.Out.sink c.args.out.now) (g.O.Out.sink c.endings_of_sources.new.out) c.in-Ok.ensures
+    told-sound (given_by c.args.order (copies c.in_ok-sources.sources.images) c.in_ok-sources.sources.device_list.items c.args.inputs.taking (script_of c.in_ok-sources.sources) (all_asked what)) what.flow what.states (bytes_allowed what) (g.O.Out.sink c.args.out.now) (g.O.Out.sink c.endings_of_sources.new.out) c.in-Ok.ensures
 
 pub returns-in-Err-clause-output : goal.returns-in-Err-clause-output
 returns-in-Err-clause-output g c =

@@ -6,4 +6,4 @@ use Rattle.ubtool.proofs.image_endings.lines_by_start.Given as goal
 
 -- the lines of the alternatives so far
 abbrev pub invariant-loop-place : goal.invariant-loop-place
-invariant-loop-place l = (parts : List Text) × AreInOrder (endings_given l.fn.order l.fn.first (option_copied l.fn.second) l.fn.list.text.now l.fn.list.taking l.fn.ask) l.fn.ask.flow l.fn.ask.states l.place parts l.text.items
+invariant-loop-place l = (parts : List Text) × AreInOrder (endings_given l.fn.order l.fn.first (option_copied l.fn.second) l.fn.list.text.now l.fn.list.taking l.fn.ask) l.fn.ask.flow l.fn.ask.states l.fn.ask.memory l.place parts l.text.items
