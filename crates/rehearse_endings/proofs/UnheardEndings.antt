@@ -4,11 +4,11 @@ use Rattle.rehearse_terms.specs.Outcomes.{OutcomeWord, WordKind, runs_within}
 use Rattle.rehearse_terms.specs.State.{Text, LoggedCommand}
 use Rattle.rehearse_rules.specs.Execution.{Answer, Normal, Exit, Ended, Dry}
 use Rattle.rehearse_rules.specs.Expected.{asked_in, unexpected_of}
-use Rattle.rehearse_rules.specs.Runs.{Task, run_on, unheard, state_of, kind, all_runs, unexpected}
+use Rattle.rehearse_rules.specs.Runs.{Task, run_on, unheard, kind, all_runs, unexpected}
 use Rattle.rehearse_reads.specs.Alike as alike
 use Rattle.rehearse_reads.specs.Alike.{ComeToSame}
 use Rattle.rehearse_reads.proofs.UnheardRuns.{unheard_runs_go_alike}
-use Rattle.rehearse_states.specs.Endings.{RunEnd, end_of, endings, gather}
+use Rattle.rehearse_states.specs.Endings.{end_of, endings, gather}
 use Rattle.rehearse_states.specs.Flow.{Node, IsFlow, ended_with, seen_of}
 
 ended_alike : (a : Answer) → alike.ended_with a ≡ ended_with a

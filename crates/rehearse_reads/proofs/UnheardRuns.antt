@@ -6,7 +6,7 @@ use Rattle.rehearse_terms.specs.declared.written.Written.{Written}
 use Rattle.rehearse_terms.specs.declared.written.Written.TheVariants.{Dropped}
 use Rattle.rehearse_rules.specs.Execution.{Limits, Answer, Normal, Exit, Ended, Dry, Ending, End, CutDevices, CutSteps, Unknown, Syntax, Unsupported, Panic, Size, Finished}
 use Rattle.rehearse_rules.specs.Runs.{Task, run_on, unheard, state_of, ending_of}
-use Rattle.rehearse_reads.specs.Keys.{Key, Environment, Local, AnswerTo, Succeeded, Status, Access, Reads, Writes, IsAmong, AreAmong, AgreeAt, keys_read, known_after}
+use Rattle.rehearse_reads.specs.Keys.{Key, Environment, Local, AnswerTo, Succeeded, Status, Access, Reads, Writes, IsAmong, AgreeAt, keys_read, known_after}
 use Rattle.rehearse_reads.specs.Accesses.{run_text_accesses}
 use Rattle.rehearse_reads.specs.Alike.{ended_with, IsCutBy, IsCutHere, HaveSameEnd, EndAlike, same_end, end_cut, end_beyond}
 use Rattle.rehearse_reads.specs.Laws.{UnheardRunsGoAlike}

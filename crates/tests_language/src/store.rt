@@ -6,6 +6,7 @@ use crate::case::Case;
 use crate::language::row_of;
 use bootstore_state::{At, Frame, FrameKind, LogEntry, Store, StoreError};
 use hushlang::Script;
+use rehearse_terms::Written;
 use std::alloc::{AllocError, Global};
 use std::fmt::Write;
 use std::rc::Rc;
@@ -30,8 +31,8 @@ const FURTHER: At = At {
 /// Begins both stores anew, with the variables of a case.
 fn start(case: &mut Case) -> anyhow::Result<String> {
     let env = env_of(case)?;
-    case.stores.0.start(&env)?;
-    case.stores.1.start(&env)?;
+    case.stores.0.start(&env, Written::Kept)?;
+    case.stores.1.start(&env, Written::Kept)?;
     Ok(String::new(case.alloc))
 }
 
@@ -178,7 +179,10 @@ fn show_one<S: Store>(alloc: Global, store: &S) -> anyhow::Result<String> {
     let variables = variables_of(alloc, store)?;
     let env = shown(alloc, store.get_env(b"a").unwrap_or(b"|"))?;
     let local = shown(alloc, store.get_local(b"a").unwrap_or(b"|"))?;
-    let (text, log) = (shown(alloc, store.text())?, log_of(alloc, store)?);
+    let (text, log) = (
+        shown(alloc, store.text().unwrap_or(b""))?,
+        log_of(alloc, store)?,
+    );
     let (status, steps, begun) = (store.get_status(), store.steps(), store.begun());
     let top = top_of(alloc, store)?;
     Ok(format!(in alloc;

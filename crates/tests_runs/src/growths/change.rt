@@ -3,6 +3,7 @@
 use bootstore_state::{At, Frame, FrameKind, LogEntry, Store, StoreError};
 use envtools::{Env, EnvError};
 use hushlang::Script;
+use rehearse_terms::Written;
 use std::alloc::{AllocError, Global};
 use std::rc::Rc;
 
@@ -113,7 +114,7 @@ pub(crate) fn make<S: Store>(
     change: Change,
 ) -> Result<(), StoreError> {
     match change {
-        Change::Start => store.start(&parts.env),
+        Change::Start => store.start(&parts.env, Written::Kept),
         Change::Mark => store.mark(),
         Change::SetA => store.set_env(b"a", Some(b"1")),
         Change::DeleteA => store.set_env(b"a", None),

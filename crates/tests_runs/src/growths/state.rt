@@ -25,7 +25,7 @@ pub(crate) fn print_state<S: Store>(rt: &impl Print, store: &S) -> io::Result<()
 /// Prints the text, and the value of the variable `x` of the shell.
 fn print_texts<S: Store>(rt: &impl Print, store: &S) -> io::Result<()> {
     print!(rt; " text [")?;
-    print_bytes(rt, store.text())?;
+    print_bytes(rt, store.text().unwrap_or(b""))?;
     print!(rt; "] local x [")?;
     print_bytes(rt, store.get_local(b"x").unwrap_or(b"unset"))?;
     print!(rt; "]")
