@@ -112,3 +112,10 @@ What runs write is dropped: a loop that writes a hundred megabytes, in 20 MiB.
   $ (ulimit -v 20480; ubtool endings -c writing.config -d devices --steps 3000)
   ends 1 first . fewest 0 . cut steps
   all 1 states 0
+
+Texts that run each other as their last command: a thousand states in 2 MiB, since few frames are kept.
+
+  $ printf '%s\n' 'a=load; run b' 'b=load; run a' 'bootcmd=run a' | lines_image turning
+  $ ubtool endings -c turning.config -d devices --memory 2 | sed 's/ first .*//'
+  ends >=340282366920938463463374607431768211455
+  all >=340282366920938463463374607431768211455 states 1000
