@@ -6,5 +6,6 @@ mod FromBothEndsLemmas
 mod KeptLemmas
 mod LawLemmas
 mod TellingLemmas
+mod UnheardCauses
 mod CausesExamples
 mod KeepingExamples

@@ -70,7 +70,7 @@ fn causes_in<S: Store>(
         name: ask.name,
         text: ask.text,
     };
-    let mut runs = Runs::<S>::of(alloc, env, devices, source, ask.bounds)?;
+    let mut runs = Runs::<S>::unheard(alloc, env, devices, source, ask.bounds)?;
     let causes = least_of(alloc, &mut runs)?;
     match reported(alloc, ask.check, causes) {
         Ok(told) => Ok(told),

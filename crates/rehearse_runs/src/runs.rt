@@ -113,6 +113,7 @@ impl<'a, S: Store> Runs<'a, S> {
     ghost use Rattle.rehearse_rules.specs.declared.rehearse_error.RehearseError.TheVariants.{NoSuchVariable};
     ghost use Rattle.rehearse_runs.specs.Giving.{Advances, IsView, Lent};
     ghost use Rattle.rehearse_runs.specs.Behind.{GoesOnBehind, RefusesWord};
+    ghost use Rattle.rehearse_rules.specs.Runs.{unheard};
 
     /// The runs of the text of a variable. Takes no memory. Errors: `NoSuchVariable`.
     pub fn new(
@@ -156,6 +157,38 @@ impl<'a, S: Store> Runs<'a, S> {
         };
         Ok(Runs {
             rehearsal,
+            start: None,
+            store: S::new(alloc),
+            word: Bytes::new(),
+            asks: Vec::new(alloc),
+            has_given: false,
+            phase: Phase::Fresh,
+        })
+    }
+
+    /// The same runs, with what they write dropped. Takes no memory. Errors: `NoSuchVariable`.
+    pub fn unheard(
+        alloc: Global,
+        env: &'a Env,
+        devices: &'a Devices,
+        source: Source<'a>,
+        bounds: Bounds,
+    ) -> Result<Self, RehearseError>
+        ensures ok { IfOk result (λ r. r
+            ≡ new_runs (unheard (task_from env.now devices.now (source_shown source.entry) bounds))) }
+        ensures found { OnOk result (task_found env.now devices.now (source_shown source.entry) bounds
+            ≡ Some (task_from env.now devices.now (source_shown source.entry) bounds)) }
+        ensures err { IfErr result
+            (λ e. (e ≡ NoSuchVariable) × (text_in env.now (source_shown source.entry) ≡ None)) }
+        ensures missing { OnErr result
+            (task_found env.now devices.now (source_shown source.entry) bounds ≡ None) }
+    {
+        let Some(rehearsal) = rehearsal_of(alloc, env, devices, source, bounds) else {
+            return Err(RehearseError::NoSuchVariable);
+        };
+        let quiet = rehearsal.unheard();
+        Ok(Runs {
+            rehearsal: quiet,
             start: None,
             store: S::new(alloc),
             word: Bytes::new(),
