@@ -1,5 +1,5 @@
 -- The states that the table holds, and how many bytes they count.
-use Rattle.std.proofs.Common.{ℕ, ◌+◌, ◌≤◌, ◌<◌, List, [], ◌∷◌, ◌++◌, length, reverse, map, sum_by, refl, sym, ap, subst, ◌∙◌, ◌≡◌, arith}
+use Rattle.std.proofs.Common.{ℕ, ◌+◌, ◌<◌, List, [], ◌∷◌, ◌++◌, length, reverse, map, sum_by, refl, sym, ap, subst, ◌∙◌, ◌≡◌, arith}
 use Rattle.std.specs.List.{AllByRecursion}
 use Rattle.std.proofs.lemmas.List.{length-map, length-reverse, map-append}
 use Rattle.std.proofs.lemmas.List.Sums.{sum_by-append, sum_by-cons}
@@ -13,7 +13,7 @@ use Rattle.rehearse_frames.specs.KeysToCome.{AreEnoughAt}
 use Rattle.rehearse_reports.specs.Known.{AllHold, keys_of}
 use Rattle.rehearse_reports.specs.declared.known.Known.{Known}
 use Rattle.rehearse_states.specs.Summaries.{Summary}
-use Rattle.rehearse_endings.specs.Held.{AreHeld, ComesToBytes, HasNoRoom, Held, HoldsStates, IsHeld, most_held, size_of, size_of_entry, size_of_held}
+use Rattle.rehearse_endings.specs.Held.{ComesToBytes, HasNoRoom, Held, HoldsStates, IsHeld, most_held, size_of, size_of_entry, size_of_held}
 use Rattle.rehearse_endings.specs.Searching.{SummedFrom}
 use Rattle.rehearse_endings.specs.States.{AreApart, AreKeptAs, Asked, HasEntered, Searched}
 use Rattle.rehearse_endings.specs.declared.table.Entry.{Entry}

@@ -1,5 +1,5 @@
 -- What is counted for each kind of thing that is known, and for a state, computed.
-use Rattle.std.proofs.Common.{◌≡◌, ℕ, List, [], ◌∷◌, Option, Some, None, Vec, Global, codes, refl, true, false}
+use Rattle.std.proofs.Common.{◌≡◌, ℕ, [], ◌∷◌, Some, None, Vec, Global, codes, refl, true, false}
 use Rattle.rehearse_endings.specs.Held.{size_of, size_of_known}
 use Rattle.bootstore_state.specs.Moment.{RunningFrame}
 use Rattle.rehearse_reports.specs.declared.known.Known.TheVariants.{Environment, Local, AnswerTo, Succeeded, Status}
