@@ -106,9 +106,9 @@ and so if the way to each goes now by a success and now by a failure
   $ (ulimit -v 20480; ubtool endings -c turns.config -d devices) | tail -n 1
   all 401 states 400
 
-What runs write is dropped: a loop that writes a hundred megabytes, in 20 MiB.
+What runs write is dropped: a loop that writes more than 70 megabytes, in 20 MiB.
 
-  $ { printf 'bootcmd=while true; do echo $x; done\nx=' && yes x | head -n 100000 | tr -d '\n' && echo; } | lines_image writing
+  $ { printf 'bootcmd=while true; do echo $x; done\nx=' && yes x | head -n 50000 | tr -d '\n' && echo; } | lines_image writing
   $ (ulimit -v 20480; ubtool endings -c writing.config -d devices --steps 3000)
   ends 1 first . fewest 0 . cut steps
   all 1 states 0
