@@ -58,6 +58,22 @@ the fields of a `for`, in a text
   endings --steps 1000000: t
   rehearse --steps 1000000: t
 
+a loop that prints
+  $ loop 'echo x; setenv a 1; setenv a 2'
+  $ both 70 71 72 999998 999999 1000000
+  endings --steps 70: 2
+  rehearse --steps 70: 2
+  endings --steps 71: 2
+  rehearse --steps 71: 2
+  endings --steps 72: 1
+  rehearse --steps 72: 1
+  endings --steps 999998: 2
+  rehearse --steps 999998: 2
+  endings --steps 999999: 2
+  rehearse --steps 999999: 2
+  endings --steps 1000000: 1
+  rehearse --steps 1000000: 1
+
 a loop that counts to ten
   $ loop 'if test $a = xxxxxxxxxx; then setenv a ""; fi; setenv a x$a'
   $ both 200 201 202 203 999999 1000000
