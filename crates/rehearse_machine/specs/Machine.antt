@@ -1,5 +1,5 @@
 -- What the machine promises: where a text stops, and what is still to come there for every rest of the word. Ours.
-use Rattle.std.specs.Prelude.{◌≡◌, ◌≤◌, [], ◌∷◌}
+use Rattle.std.specs.Prelude.{◌≡◌, ◌≤◌, [], ◌∷◌, Option, Some, None}
 use Rattle.bootstore_state.specs.Moment.{Moment}
 use Rattle.bootstore_state.specs.Record.{Record}
 use Rattle.rehearse_terms.specs.Outcomes.{Outcome, OutcomeWord}
@@ -8,10 +8,12 @@ use Rattle.rehearse_rules.specs.Execution.{Limits, Request}
 pub use Rattle.rehearse_rules.specs.Execution.{outcome_when}
 use Rattle.rehearse_machine.specs.Places.{AskOn, next_of}
 use Rattle.rehearse_machine.specs.AskingCommand.{found_again}
-use Rattle.rehearse_machine.specs.Came.{Came, Over, Wants}
+use Rattle.rehearse_machine.specs.Came.{Came, Over, Wants, settled}
 use Rattle.rehearse_machine.specs.Meaning.{comes_to}
-use Rattle.rehearse_machine.specs.Turning.{IsSound, IsSoundStep, step_comes}
+use Rattle.rehearse_machine.specs.Turning.{IsSound, IsSoundStep, step_comes, to_come}
 use Rattle.rehearse_rules.specs.EndingsShown.{halt_shown}
+use Rattle.rehearse_rules.specs.Runs.{Task, run_on}
+use Rattle.rehearse_rules.specs.declared.halt.Halt.{Halt}
 use Rattle.rehearse_machine.specs.MovesShown.{request_shown}
 use Rattle.rehearse_machine.specs.declared.ask.Step.{Step}
 use Rattle.rehearse_machine.specs.declared.ask.Step.TheVariants as steps
@@ -57,6 +59,11 @@ abbrev pub Stops : Limits → Stop → (f : OutcomeWord → Came) → Moment →
 Stops limits Asks f m =
     IsAsking limits m × ((w : OutcomeWord) → f w ≡ asked_at limits m w) × (f [] ≡ Wants (state_at m []))
 Stops limits (Ends halt) f m = (w : OutcomeWord) → f w ≡ Over (halt_shown halt) (state_at m w)
+
+-- a text was started: it runs from this moment on, or the run has ended there
+abbrev pub Starts : Task → (ended : Option Halt) → Moment → Type 0
+Starts task None m = IsSound m × ((w : OutcomeWord) → to_come task.limits m w ≡ settled (run_on task w))
+Starts task (Some halt) m = (w : OutcomeWord) → settled (run_on task w) ≡ Over (halt_shown halt) (state_at m w)
 
 -- the device command that asks at a moment is this one
 unfoldable pub IsAsked : Limits → Request → Moment → Type 0

@@ -6,7 +6,7 @@ ghost use Rattle.rehearse_rules.specs.Runs.{run_on};
 ghost use Rattle.rehearse_machine.specs.Came.{settled};
 ghost use Rattle.rehearse_machine.specs.MovesShown.{Keeps, limits_of, request_shown};
 ghost use Rattle.rehearse_machine.specs.Turning.{IsSound, to_come};
-ghost use Rattle.rehearse_machine.specs.Machine.{HasAsk, IsAsked, IsAsking, Stops, TakesOutcome, asked_at, outcome_when, stop_of};
+ghost use Rattle.rehearse_machine.specs.Machine.{HasAsk, IsAsked, IsAsking, Starts, Stops, TakesOutcome, asked_at, outcome_when, stop_of};
 ghost use Rattle.rehearse_machine.specs.Tasks.{source_shown, task_in, text_by};
 
 use crate::ask::{Ask, Step};
@@ -41,18 +41,6 @@ pub enum Stopped<'a> {
     Asks(Ask<'a>),
     /// The run has ended.
     Ends(Halt),
-}
-
-impl<'a> Stopped<'a> {
-    /// The same without the command.
-    pub fn stop(self) -> Stop
-        ensures { result ≡ stop_of self.entry }
-    {
-        match self {
-            Stopped::Asks(_) => Stop::Asks,
-            Stopped::Ends(halt) => Stop::Ends(halt),
-        }
-    }
 }
 
 /// What a rehearsal borrows.
@@ -166,6 +154,38 @@ fn text_of<'s, S: Store>(store: &'s S, source: Source<'s>) -> &'s [u8]
     }
 }
 
+/// Starts the text that is given, or else that of the variable: it runs from here, or the run has ended
+/// so. A variable that is not set is run as the empty text. Errors: `Memory`.
+pub fn start<S: Store>(rehearsal: &Rehearsal<'_>, store: &mut S) -> Result<Option<Halt>, StoreError>
+    ensures starts { IfOk result
+        (λ ended. Starts (task_in rehearsal.now) ended (S.record_of store.new).present) }
+    ensures marks { OnOk result ((S.record_of store.new).marked ≡ []) }
+    ensures begun { OnOk result ((S.record_of store.new).begun ≡ (S.record_of store.old).begun) }
+    ensures steps { OnOk result ((S.record_of store.new).present.steps ≡ 0) }
+{
+    let shell = rehearsal.bounds.shell();
+    store.start(rehearsal.env, rehearsal.written)?;
+    let text_found = text_of(store, rehearsal.source);
+    match read_first(rehearsal.alloc, shell, text_found)? {
+        TextRead::Runs(script) => {
+            store.push(text(Rc::new(rehearsal.alloc, script)?))?;
+            Ok(None)
+        }
+        TextRead::Fails => {
+            store.set_status(1)?;
+            Ok(Some(Halt::End(1)))
+        }
+        TextRead::Panics => {
+            let name = Vec::from_slice(rehearsal.alloc, rehearsal.source.name)?;
+            Ok(Some(Halt::Panic(name)))
+        }
+        TextRead::Unread => {
+            let name = Vec::from_slice(rehearsal.alloc, rehearsal.source.name)?;
+            Ok(Some(unread(shell, name)))
+        }
+    }
+}
+
 /// Starts the text that is given, or else that of the variable, and goes on until a device command
 /// asks, or the run ends. A variable that is not set is run as the empty text. Errors: `Memory`.
 pub fn begin<'a, S: Store>(
@@ -186,26 +206,9 @@ pub fn begin<'a, S: Store>(
     ensures within { OnOk result ((S.record_of store.new).present.steps ≤ most_steps) }
 {
     let _bound = rehearsal.bounds.steps();
-    let shell = rehearsal.bounds.shell();
-    store.start(rehearsal.env, rehearsal.written)?;
-    let text_found = text_of(store, rehearsal.source);
-    match read_first(rehearsal.alloc, shell, text_found)? {
-        TextRead::Runs(script) => {
-            store.push(text(Rc::new(rehearsal.alloc, script)?))?;
-            go_on(rehearsal, store)
-        }
-        TextRead::Fails => {
-            store.set_status(1)?;
-            Ok(Stopped::Ends(Halt::End(1)))
-        }
-        TextRead::Panics => {
-            let name = Vec::from_slice(rehearsal.alloc, rehearsal.source.name)?;
-            Ok(Stopped::Ends(Halt::Panic(name)))
-        }
-        TextRead::Unread => {
-            let name = Vec::from_slice(rehearsal.alloc, rehearsal.source.name)?;
-            Ok(Stopped::Ends(unread(shell, name)))
-        }
+    match start(rehearsal, store)? {
+        None => go_on(rehearsal, store),
+        Some(halt) => Ok(Stopped::Ends(halt)),
     }
 }
 
