@@ -1,9 +1,9 @@
--- Moves one after another, and rounds of a loop.
+-- Moves one after another, stretches, and rounds of a loop.
 use Rattle.std.proofs.Common.{◌≡◌, ◌∙◌, refl, sym, ap, subst, ℕ, zero, suc, ◌+◌, ◌*◌, ◌≤◌, inl, inr, arith, suc-mul, zero-mul, Bool, true, false, not, List, [], ◌∷◌, ◌++◌, filter, cond}
 use Rattle.rehearse_terms.specs.State.{State}
-use Rattle.rehearse_rules.specs.Execution.{Limits}
+use Rattle.rehearse_rules.specs.Execution.{Limits, Answer, Normal}
 use Rattle.rehearse_machine.specs.Frames.{Frame, Next, Go, Ask, Stop, move}
-use Rattle.rehearse_machine.specs.Meaning.{AreProperFrames, IsProperNext}
+use Rattle.rehearse_machine.specs.Meaning.{with, continue, AreProperFrames, IsProperNext}
 use Rattle.rehearse_machine.specs.MoveCounts.{weight}
 use Rattle.rehearse_machine.proofs.MoveMeaning.{move-is}
 use Rattle.rehearse_machine.proofs.ProperMoves.{move-proper}
@@ -11,9 +11,9 @@ use Rattle.rehearse_machine.proofs.ProgressLemmas.{Progress, move_progress}
 use Rattle.rehearse_reads.specs.Keys.{Key, Access, Reads, Writes, IsAmong, AreAmong, same_key, keys_in_front}
 use Rattle.rehearse_reads.proofs.KeysRead.{stretches_join, more_keys_in_front, all_right, all_of_more, all_itself}
 use Rattle.rehearse_frames.specs.KeysToCome.{AreEnough, state_in}
-use Rattle.rehearse_frames.specs.Laws.{LoopsGoOn}
-use Rattle.rehearse_frames.specs.Loops.{later, moved_on, after_moves, of_next_move, of_moves, ComesAfter}
-use Rattle.rehearse_frames.proofs.EnoughKeys.{keys_of_moves, more_keys_are_enough}
+use Rattle.rehearse_frames.specs.Laws.{MovesAreStretches, AlikeFramesAreStretches, StretchesJoin, LoopsGoOn}
+use Rattle.rehearse_frames.specs.Loops.{later, moved_on, after_moves, of_next_move, of_moves, ComesAfter, Stretch}
+use Rattle.rehearse_frames.proofs.EnoughKeys.{keys_of_moves, keys_of_alike_frames, more_keys_are_enough}
 use Rattle.rehearse_frames.proofs.OtherSteps.{next_later, moves_later}
 
 -- ---- the same accesses once more need no more keys in front
@@ -119,23 +119,50 @@ module _ (limits : Limits) where
             ∙ ap (λ (xs : List Access). of_moves limits count next ++ xs) one.1,
       )
 
+  -- ---- stretches
+
+  pub moves_stretch : (count : ℕ) (fs gs : List Frame) (s t : State) → AreProperFrames fs → after_moves limits count (Go fs s) ≡ Go gs t → Stretch limits fs s gs t (of_moves limits count (Go fs s))
+  moves_stretch count fs gs s t p leads = record {
+    goes = λ before room.
+        let there : (state_in (after_moves limits count (Go fs s))).steps ≡ t.steps = ap (λ (x : Next). (state_in x).steps) leads in
+        let same = after_later count before (Go fs s) p (omega arith) in
+        let from : Next = Go fs (later before s) in
+        let end : after_moves limits count from ≡ Go gs (later before t) = same.0 ∙ ap (next_later before) leads in
+        subst (λ (x : Next). ComesAfter limits from x (of_moves limits count (Go fs s))) end (subst (λ (xs : List Access). ComesAfter limits from (after_moves limits count from) xs) same.1 (moves_come count from p));
+  }
+
+  pub alike_stretch : (fs gs : List Frame) (s : State) → ((a : Answer) → continue limits fs a ≡ continue limits gs a) → Stretch limits fs s gs s []
+  alike_stretch fs gs s alike = record {
+    goes = λ before room. record {
+      comes = λ w. sym (alike (Normal (with w (later before s))));
+      enough = λ wanted keys h. keys_of_alike_frames limits wanted gs fs (later before s) keys (λ a. sym (alike a)) h;
+    };
+  }
+
+  pub stretches_then : (fs gs hs : List Frame) (s t u : State) (xs ys : List Access) → t.steps ≤ u.steps → Stretch limits fs s gs t xs → Stretch limits gs t hs u ys → Stretch limits fs s hs u (xs ++ ys)
+  stretches_then fs gs hs s t u xs ys grown a b = record {
+    goes = λ before room. comes_then (Go fs (later before s)) (Go gs (later before t)) (Go hs (later before u)) xs ys (a.goes before (omega arith)) (b.goes before room);
+  }
+
+  -- with no steps before it
+  pub stretch_comes : (fs gs : List Frame) (s t : State) (xs : List Access) → t.steps ≤ limits.step_bound → Stretch limits fs s gs t xs → ComesAfter limits (Go fs s) (Go gs t) xs
+  stretch_comes fs gs s t xs room stretch =
+      let first : s.steps + zero ≡ s.steps = omega arith in
+      let last : t.steps + zero ≡ t.steps = omega arith in
+      subst (λ (k : ℕ). ComesAfter limits (Go fs (record s { steps = k })) (Go gs t) xs) first
+      (subst (λ (k : ℕ). ComesAfter limits (Go fs (later zero s)) (Go gs (record t { steps = k })) xs) last (stretch.goes zero (omega arith)))
+
   -- ---- rounds
 
-  module _ (count steps : ℕ) (fs : List Frame) (s : State) (p : AreProperFrames fs) (round : after_moves limits count (Go fs s) ≡ Go fs (later steps s)) where
-    abbrev accesses : List Access
-    accesses = of_moves limits count (Go fs s)
-
+  module _ (steps : ℕ) (fs : List Frame) (s : State) (accesses : List Access) (stretch : Stretch limits fs s fs (later steps s) accesses) where
     abbrev at : ℕ → Next
     at n = Go fs (later n s)
 
     -- one round, begun some steps later
     round_later : (n : ℕ) → s.steps + (n + steps) ≤ limits.step_bound → ComesAfter limits (at n) (at (n + steps)) accesses
     round_later n room =
-        let there : (state_in (after_moves limits count (Go fs s))).steps ≡ s.steps + steps = ap (λ (x : Next). (state_in x).steps) round in
-        let same = after_later count n (Go fs s) p (omega arith) in
         let total : s.steps + steps + n ≡ s.steps + (n + steps) = omega arith in
-        let end : after_moves limits count (at n) ≡ at (n + steps) = same.0 ∙ ap (next_later n) round ∙ ap (λ (k : ℕ). Go fs (record s { steps = k })) total in
-        subst (λ (x : Next). ComesAfter limits (at n) x accesses) end (subst (λ (xs : List Access). ComesAfter limits (at n) (after_moves limits count (at n)) xs) same.1 (moves_come count (at n) p))
+        subst (λ (k : ℕ). ComesAfter limits (at n) (Go fs (record s { steps = k })) accesses) total (stretch.goes n (omega arith))
 
     -- the same again
     round_after : (n : ℕ) → ComesAfter limits (Go fs s) (at n) accesses → ComesAfter limits (at n) (at (n + steps)) accesses → ComesAfter limits (Go fs s) (at (n + steps)) accesses
@@ -146,20 +173,26 @@ module _ (limits : Limits) where
           (a.enough wanted (keys_in_front accesses keys) (b.enough wanted keys h)) (once_more accesses keys);
     }
 
-    first_round : ComesAfter limits (Go fs s) (at steps) accesses
-    first_round = subst (λ (x : Next). ComesAfter limits (Go fs s) x (of_moves limits count (Go fs s))) round (moves_come count (Go fs s) p)
-
     rounds_come : (rounds : ℕ) → s.steps + (rounds * steps + steps) ≤ limits.step_bound → ComesAfter limits (Go fs s) (at (rounds * steps + steps)) accesses
     rounds_come zero room =
         let one : steps ≡ zero * steps + steps = omega (arith, zero-mul steps) in
-        subst (λ (n : ℕ). ComesAfter limits (Go fs s) (at n) accesses) one first_round
+        subst (λ (n : ℕ). ComesAfter limits (Go fs s) (at n) accesses) one (stretch_comes fs fs s (later steps s) accesses (omega (arith, zero-mul steps)) stretch)
     rounds_come (suc rounds) room =
         let total : rounds * steps + steps + steps ≡ suc rounds * steps + steps = omega (arith, suc-mul rounds steps) in
         subst (λ (n : ℕ). ComesAfter limits (Go fs s) (at n) accesses) total
         (round_after (rounds * steps + steps) (rounds_come rounds (let t = total in omega arith)) (round_later (rounds * steps + steps) (let t = total in omega arith)))
 
-    all_rounds : (rounds : ℕ) → s.steps + (rounds * steps + steps) ≤ limits.step_bound → ComesAfter limits (Go fs s) (Go fs (later (rounds * steps + steps) s)) (of_moves limits count (Go fs s))
+    all_rounds : (rounds : ℕ) → s.steps + (rounds * steps + steps) ≤ limits.step_bound → ComesAfter limits (Go fs s) (Go fs (later (rounds * steps + steps) s)) accesses
     all_rounds = rounds_come
 
+pub moves_are_stretches : MovesAreStretches
+moves_are_stretches limits count fs gs s t p leads = moves_stretch limits count fs gs s t p leads
+
+pub alike_frames_are_stretches : AlikeFramesAreStretches
+alike_frames_are_stretches limits fs gs s alike = alike_stretch limits fs gs s alike
+
+pub stretches_in_turn : StretchesJoin
+stretches_in_turn limits fs gs hs s t u first second grown a b = stretches_then limits fs gs hs s t u first second grown a b
+
 pub loops_go_on : LoopsGoOn
-loops_go_on limits count steps rounds fs s p round room = all_rounds limits count steps fs s p round rounds room
+loops_go_on limits steps rounds fs s accesses stretch room = all_rounds limits steps fs s accesses stretch rounds room

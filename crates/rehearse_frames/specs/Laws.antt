@@ -18,7 +18,7 @@ use Rattle.rehearse_frames.specs.ToCome.{names_read, of_frames, of_next}
 use Rattle.rehearse_frames.specs.KeysToCome.{AreEnough, AreEnoughIf, AreEnoughFrom, AreEnoughAfter, AreEnoughAt, AreAtOnePlace}
 use Rattle.rehearse_frames.specs.MoveAccesses.{of_move}
 use Rattle.rehearse_frames.specs.AlikeFutures.{CameAlike}
-use Rattle.rehearse_frames.specs.Loops.{later, after_moves, of_moves, ComesAfter}
+use Rattle.rehearse_frames.specs.Loops.{later, after_moves, of_moves, ComesAfter, Stretch}
 
 -- what frames read and write is what one move reads and writes, and then what is to come after it
 abbrev pub MovesComeFirst : Type 0
@@ -114,9 +114,24 @@ KeysOfOutcomes = (limits : Limits) (wanted : List Text) (m : Moment) (asking : A
 
 -- ---- loops
 
--- Moves that come back to the same frames and the same state, only some steps later, do so again, one round after another, as
--- far as the bound allows. All rounds together read and write what one of them does.
+-- moves are a stretch
+abbrev pub MovesAreStretches : Type 0
+MovesAreStretches = (limits : Limits) (count : ℕ) (fs gs : List Frame) (s t : State) → AreProperFrames fs →
+    after_moves limits count (Go fs s) ≡ Go gs t → Stretch limits fs s gs t (of_moves limits count (Go fs s))
+
+-- so are frames that are taken for others, if they make the same of every answer
+abbrev pub AlikeFramesAreStretches : Type 0
+AlikeFramesAreStretches = (limits : Limits) (fs gs : List Frame) (s : State) →
+    ((a : Answer) → continue limits fs a ≡ continue limits gs a) → Stretch limits fs s gs s []
+
+-- and one stretch after another
+abbrev pub StretchesJoin : Type 0
+StretchesJoin = (limits : Limits) (fs gs hs : List Frame) (s t u : State) (first second : List Access) → t.steps ≤ u.steps →
+    Stretch limits fs s gs t first → Stretch limits gs t hs u second → Stretch limits fs s hs u (first ++ second)
+
+-- A stretch that comes back to the same frames and the same state, only some steps later, does so again, one round after
+-- another, as far as the bound allows. All rounds together read and write what one of them does.
 abbrev pub LoopsGoOn : Type 0
-LoopsGoOn = (limits : Limits) (count steps rounds : ℕ) (fs : List Frame) (s : State) → AreProperFrames fs →
-    after_moves limits count (Go fs s) ≡ Go fs (later steps s) → s.steps + (rounds * steps + steps) ≤ limits.step_bound →
-    ComesAfter limits (Go fs s) (Go fs (later (rounds * steps + steps) s)) (of_moves limits count (Go fs s))
+LoopsGoOn = (limits : Limits) (steps rounds : ℕ) (fs : List Frame) (s : State) (accesses : List Access) →
+    Stretch limits fs s fs (later steps s) accesses → s.steps + (rounds * steps + steps) ≤ limits.step_bound →
+    ComesAfter limits (Go fs s) (Go fs (later (rounds * steps + steps) s)) accesses

@@ -1,9 +1,9 @@
--- Moves one after another, what they read and write, and moves that come back to where they began. Ours.
-use Rattle.std.specs.Prelude.{◌≡◌, ℕ, zero, suc, ◌+◌, List, [], ◌++◌}
+-- Moves one after another, what they read and write, and stretches of a run. Ours.
+use Rattle.std.specs.Prelude.{◌≡◌, ℕ, zero, suc, ◌+◌, ◌≤◌, List, [], ◌++◌}
 use Rattle.rehearse_terms.specs.Outcomes.{OutcomeWord}
 use Rattle.rehearse_terms.specs.State.{Text, State}
 use Rattle.rehearse_rules.specs.Execution.{Limits}
-use Rattle.rehearse_machine.specs.Frames.{Next, Go, Ask, Stop, move}
+use Rattle.rehearse_machine.specs.Frames.{Frame, Next, Go, Ask, Stop, move}
 use Rattle.rehearse_machine.specs.Meaning.{comes_to}
 use Rattle.rehearse_reads.specs.Keys.{Key, Access, keys_in_front}
 use Rattle.rehearse_frames.specs.MoveAccesses.{of_move}
@@ -40,3 +40,9 @@ module _ (limits : Limits) where
     pub comes : (w : OutcomeWord) → comes_to limits w second ≡ comes_to limits w first
     pub enough : (wanted : List Text) (keys : List Key) → AreEnough limits wanted second keys →
         AreEnough limits wanted first (keys_in_front accesses keys)
+
+  -- a stretch of a run from one place to another: however many steps were begun before it, it goes the same way, as far as the
+  -- bound allows
+  pub record Stretch (fs : List Frame) (s : State) (gs : List Frame) (t : State) (accesses : List Access) : Type 0 where
+    pub goes : (before : ℕ) → t.steps + before ≤ limits.step_bound →
+        ComesAfter (Go fs (later before s)) (Go gs (later before t)) accesses

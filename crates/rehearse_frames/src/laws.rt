@@ -1,6 +1,6 @@
 //! Laws of what frames still read. A call of one does nothing: its contract is the law.
 
-ghost use Rattle.rehearse_frames.specs.Laws.{AskedAlike, FramesGoAlike, MovesComeFirst, OutcomesComeFirst};
+ghost use Rattle.rehearse_frames.specs.Laws.{AlikeFramesAreStretches, AskedAlike, FramesGoAlike, MovesAreStretches, MovesComeFirst, OutcomesComeFirst, StretchesJoin};
 ghost use Rattle.rehearse_frames.specs.Laws.{KeysOfAlikeFrames, KeysOfAnswers, KeysOfAsking, KeysOfEnds, KeysOfMoments, KeysOfMoves, KeysOfOutcomes, KeysOfSteps, LoopsGoOn, MomentsGoAlike, MoreKeysAreEnough};
 
 /// What frames still read and write is what their next move reads and writes, and then what is to come
@@ -48,10 +48,15 @@ pub fn moments_go_alike()
     ensures { MomentsGoAlike }
 {}
 
-/// Moves that come back to the same frames and the same state, only some steps later, do so again, one
-/// round after another, as far as the bound on steps allows: the same is to come after each round, and all
-/// rounds together read and write what one of them does.
-#[tactic(auto, using(crate::proofs::LoopLemmas::loops_go_on))]
+/// Moves are a stretch of a run, which goes the same way however many steps were begun before it, as far as
+/// the bound on steps allows; so are frames that are taken for others which make the same of every answer,
+/// and one stretch after another. A stretch that comes back to the same frames and the same state, only some
+/// steps later, does so again, one round after another: the same is to come after each round, and all rounds
+/// together read and write what one of them does.
+#[tactic(auto, using(crate::proofs::LoopLemmas::moves_are_stretches, crate::proofs::LoopLemmas::alike_frames_are_stretches, crate::proofs::LoopLemmas::stretches_in_turn, crate::proofs::LoopLemmas::loops_go_on))]
 pub fn loops_go_on()
-    ensures { LoopsGoOn }
+    ensures moves { MovesAreStretches }
+    ensures alike { AlikeFramesAreStretches }
+    ensures join { StretchesJoin }
+    ensures rounds { LoopsGoOn }
 {}
