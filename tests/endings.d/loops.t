@@ -97,3 +97,11 @@ a loop that counts, and comes back to no state
   rehearse --steps 200: xx
   endings --steps 10001: xxxxx
   rehearse --steps 10001: xxxxx
+
+texts that run each other
+  $ printf '%s\n' 'bootcmd=load; run b' 'b=setenv a 1; run c' 'c=setenv a 2; setenv a 3; run b' | lines_image loop
+  $ both 100 101 102 103 104 105 999998 999999 1000000
+
+a loop in front of the first device command
+  $ printf '%s\n' 'bootcmd=while true; do setenv a 1; setenv a 2; done; load' | lines_image loop
+  $ both 100 101 102 999998 999999 1000000

@@ -26,8 +26,8 @@ use crate::keys::{keys_at_end, keys_of_both};
 use crate::sum_error::SumError;
 use crate::table::{Future, Table};
 use bootstore_state::Store;
-use rehearse_machine::{Rehearsal, Stop, begin};
-use rehearse_reports::{Key, Reported, keys_of, known_at, resume_reported};
+use rehearse_machine::{Rehearsal, Stop};
+use rehearse_reports::{Key, Reported, begin_watched, keys_of, known_at, resume_reported};
 use rehearse_states::{
     Node, Row, Summary, copy_frames, hash_of, of_end, of_sides, rows_of, run_end_of, words_at,
 };
@@ -142,8 +142,8 @@ fn begin_text<S: Store>(rehearsal: &Rehearsal<'_>, store: &mut S) -> Result<Stop
     ensures within { OnOk result ((S.record_of store.new).present.steps ≤ most_steps) }
     ensures err { IfErr result (λ e. (e ≢ States) × (e ≢ Steps) × (e ≢ Bytes)) }
 {
-    let stopped = begin(rehearsal, store)?;
-    Ok(stopped.stop())
+    let stop = begin_watched(rehearsal, store)?;
+    Ok(stop)
 }
 
 /// What is to come of a text that has stopped: the summary, and keys that are enough for it. States that

@@ -10,7 +10,7 @@ use Rattle.rehearse_machine.specs.MovesShown.{next_shown}
 use Rattle.rehearse_machine.specs.Places.{next_of, frames_of}
 use Rattle.rehearse_machine.specs.declared.ask.Step.{Step}
 use Rattle.rehearse_reads.specs.Keys.{Access}
-use Rattle.rehearse_frames.specs.Loops.{after_moves, of_moves}
+use Rattle.rehearse_frames.specs.Loops.{after_moves, of_moves, Stretch}
 use Rattle.rehearse_reports.specs.Reports.{Reports}
 
 -- where a moment goes on
@@ -22,6 +22,12 @@ pub record MovesTo (limits : Limits) (m : Moment) (step : Step) (n : Moment) (ol
   pub count : ℕ
   pub leads : after_moves limits count (goes_at m) ≡ next_of (next_shown step n [])
   pub reported : Reports old new (of_moves limits count (goes_at m))
+
+-- a stretch leads from a moment to another one, and a report goes on with what it reads and writes
+pub record LeadsOn (limits : Limits) (m n : Moment) (old new : List Access) : Type 0 where
+  pub accesses : List Access
+  pub stretch : Stretch limits (frames_of m.frames) (state_at m []) (frames_of n.frames) (state_at n []) accesses
+  pub reported : Reports old new accesses
 
 -- the moment is the first one again, but for the count of steps
 pub record IsBack (first again : Moment) : Type 0 where

@@ -16,7 +16,7 @@ use crate::reported::Reported;
 use bootstore_state::{Store, StoreError, copy_of};
 use device_list::Devices;
 use hushlang::Fields;
-use rehearse_machine::{Step, drop_ended, may_drop, step};
+use rehearse_machine::{Step, drop_ended, step};
 use rehearse_terms::RunBounds;
 use std::alloc::Global;
 
@@ -76,9 +76,10 @@ fn reported_turn<'d, S: Store>(
     }
 }
 
-/// Makes turns, with reports, until more than so many steps are begun, ended texts may be dropped, an
-/// outcome is asked for, or the run is over. If a turn comes back to the moment at which the first one began, the loop has no end: the steps
-/// of its further rounds are begun at once. Errors: `Memory`.
+/// Makes turns, with reports, until more than so many steps are begun, an outcome is asked for, or the run
+/// is over. Ended texts that change nothing are dropped. If a turn comes back to the moment at which the
+/// first one began, the loop has no end: the steps of its further rounds are begun at once. Errors:
+/// `Memory`.
 fn watched_turns<'d, S: Store>(
     alloc: Global,
     reported: &mut Reported,
@@ -102,9 +103,7 @@ fn watched_turns<'d, S: Store>(
     'turns: loop {
         match reported_turn(alloc, reported, store, fields, devices, bounds)? {
             Step::Going => {
-                if may_drop(store.frames()) {
-                    return Ok(Step::Going);
-                }
+                drop_ended(store)?;
                 let steps = store.steps() - first.steps;
                 if is_back(&first, store, &reported.written) {
                     begin_rounds(store, steps, bounds)?;
@@ -167,16 +166,11 @@ pub(crate) fn reported_drive<'d, S: Store>(
         (S.record_of store.old).present step (S.record_of store.new).present
         (accesses_shown reported.old) (accesses_shown reported.new)) }
 {
-    let mut before = store.steps();
+    let before = store.steps();
     'turns: loop {
         let so_far = store.steps().saturating_sub(before);
         match next_turns(alloc, reported, store, fields, devices, bounds, so_far)? {
-            Step::Going => {
-                if may_drop(store.frames()) {
-                    before = store.steps();
-                }
-                drop_ended(store)?;
-            }
+            Step::Going => drop_ended(store)?,
             Step::Asks(ask) => return Ok(Step::Asks(ask)),
             Step::Ends(halt) => return Ok(Step::Ends(halt)),
         }

@@ -20,4 +20,4 @@ pub use asked::report_asked;
 pub use key::Key;
 pub use known::{Known, all_hold, keys_of, known_at};
 pub use reported::{Reported, together};
-pub use resuming::resume_reported;
+pub use resuming::{begin_watched, resume_reported};

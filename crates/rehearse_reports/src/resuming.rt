@@ -1,6 +1,8 @@
-//! A rehearsal that is continued with an outcome, and reports what it reads and writes.
+//! A rehearsal that is begun, or continued with an outcome, and reports what it reads and writes.
 ghost use Rattle.std.specs.Prelude.{◌≡◌, ◌+◌, ◌<◌, ◌≤◌, ◌^◌, ◌∷◌, [], OnOk, IfOk};
 ghost use Rattle.rehearse_terms.specs.Bounds.{most_steps};
+ghost use Rattle.rehearse_rules.specs.Runs.{run_on};
+ghost use Rattle.rehearse_machine.specs.Came.{settled};
 ghost use Rattle.rehearse_machine.specs.MovesShown.{Keeps, limits_of};
 ghost use Rattle.rehearse_machine.specs.Turning.{IsSound, to_come};
 ghost use Rattle.rehearse_machine.specs.Machine.{Stops, IsAsking, TakesOutcome, asked_at, outcome_when};
@@ -13,7 +15,7 @@ use crate::outcomes::report_outcome;
 use crate::reported::Reported;
 use bootstore_state::{Store, StoreError};
 use hushlang::Fields;
-use rehearse_machine::{Rehearsal, Step, Stop, answer, find_again};
+use rehearse_machine::{Rehearsal, Step, Stop, answer, find_again, start};
 
 /// Goes on until a device command asks, or the run ends, and reports it. Errors: `Memory`.
 fn go_on<S: Store>(
@@ -50,6 +52,26 @@ fn go_on<S: Store>(
         Step::Going => unreachable!(),
         Step::Asks(_) => Ok(Stop::Asks),
         Step::Ends(halt) => Ok(Stop::Ends(halt)),
+    }
+}
+
+/// Does what `begin` of the machine does. A loop without an end is cut at once. Errors: `Memory`.
+pub fn begin_watched<S: Store>(rehearsal: &Rehearsal<'_>, store: &mut S) -> Result<Stop, StoreError>
+    requires { (S.record_of store.old).begun + most_steps + 1 < 2 ^ 64 }
+    ensures stops { IfOk result
+        (λ stop. Stops (task_in rehearsal.now).limits stop
+        (λ w. settled (run_on (task_in rehearsal.now) w)) (S.record_of store.new).present) }
+    ensures marks { OnOk result ((S.record_of store.new).marked ≡ []) }
+    ensures begun { OnOk result
+        ((S.record_of store.new).begun ≡ (S.record_of store.old).begun +
+        (S.record_of store.new).present.steps) }
+    ensures within { OnOk result ((S.record_of store.new).present.steps ≤ most_steps) }
+{
+    let _bound = rehearsal.bounds.steps();
+    let mut unread = Reported::new(rehearsal.alloc);
+    match start(rehearsal, store)? {
+        None => go_on(rehearsal, &mut unread, store),
+        Some(halt) => Ok(Stop::Ends(halt)),
     }
 }
 

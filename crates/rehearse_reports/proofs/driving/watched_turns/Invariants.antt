@@ -2,15 +2,14 @@ use Rattle.std.proofs.Common.{◌-◌, ◌≡◌}
 use Rattle.bootstore_state.specs.Present.{moment_of}
 use Rattle.rehearse_machine.specs.MovesShown.{limits_of}
 use Rattle.rehearse_machine.specs.Turning.{Comes_on}
-use Rattle.rehearse_machine.specs.declared.ask.Step.TheVariants as steps
-use Rattle.rehearse_reports.specs.Looping.{MovesTo}
+use Rattle.rehearse_reports.specs.Looping.{LeadsOn}
 use Rattle.rehearse_reports.specs.ReportsShown.{accesses_shown}
 use Rattle.rehearse_reports.proofs.driving.watched_turns.Given as goal
 
 abbrev pub invariant-turns : goal.invariant-turns
 invariant-turns g l =
     Comes_on (limits_of l.devices l.bounds) (g.S.Store.record_of l.fn.store) (g.S.Store.record_of l.store)
-    × MovesTo (limits_of l.devices l.bounds) (g.S.Store.record_of l.fn.store).present steps.Going (g.S.Store.record_of l.store).present (accesses_shown l.fn.reported) (accesses_shown l.reported)
+    × LeadsOn (limits_of l.devices l.bounds) (g.S.Store.record_of l.fn.store).present (g.S.Store.record_of l.store).present (accesses_shown l.fn.reported) (accesses_shown l.reported)
     × (moment_of l.first ≡ (g.S.Store.record_of l.fn.store).present)
 
 abbrev pub decreases-turns : goal.decreases-turns
