@@ -1,9 +1,9 @@
 -- Frames that have nothing left to do: what they make of an answer, and frames without some of them.
-use Rattle.std.proofs.Common.{ℕ, zero, suc, Bool, true, false, not, ◌&&◌, ◌||◌, List, [], ◌∷◌, ◌++◌, drop, Option, Some, None, refl, sym, ap, subst, ◌∙◌, ◌≡◌, nat_eq}
+use Rattle.std.proofs.Common.{ℕ, zero, suc, Bool, true, false, not, ◌&&◌, ◌||◌, List, [], ◌∷◌, ◌++◌, drop, Option, Some, None, refl, sym, ap, subst, ◌∙◌, ◌≡◌, ◌⊎◌, inl, inr, nat_eq}
 use Rattle.std.specs.Prelude.{is_some, option_and_then, slice_get}
 use Rattle.std.proofs.lemmas.Bool.{and_parts, eqb-true, not-true}
 use Rattle.hushlang.specs.Tree as tree
-use Rattle.hushlang.specs.Tree.{Script, AndOr, Joined}
+use Rattle.hushlang.specs.Tree.{Script, AndOr, Joined, Command}
 use Rattle.bootstore_state.specs.declared.frame.At.{At}
 use Rattle.bootstore_state.specs.declared.frame.FrameKind.{FrameKind}
 use Rattle.bootstore_state.specs.declared.frame.FrameKind.TheVariants as kinds
@@ -13,17 +13,22 @@ use Rattle.rehearse_terms.specs.State.{Text, State}
 use Rattle.rehearse_terms.specs.declared.shell.Shell.{Shell}
 use Rattle.rehearse_terms.specs.declared.shell.Shell.TheVariants.{Profile, Old2023, Old2025, Modern2025}
 use Rattle.rehearse_rules.specs.ByShell.{status_of_text}
-use Rattle.rehearse_rules.specs.Execution.{Limits, Answer, Normal, Exit, Ended, Dry, set_status, text_failed}
-use Rattle.rehearse_machine.specs.Frames.{Frame, Lists, Linked, RunText}
-use Rattle.rehearse_machine.specs.Places.{list_at, drop_lists, joined_at, drop_joined, second, command_in, from_command, from_turn, past_lists, script_frames, run_frame, frames_by, frames_of}
-use Rattle.rehearse_machine.specs.Meaning.{resume, continue, AreProperFrames}
-use Rattle.rehearse_machine.specs.EndedTexts.{is_text, is_run, has_more, has_command, has_ended, has_run_all, begins, below_ended, below_three, may_drop, without_two, lightened, with_fewer, GoOnAlike, DropsEnded}
+use Rattle.rehearse_rules.specs.Execution.{Limits, Answer, Normal, Exit, Ended, Dry, set_status, text_failed, run_all}
+use Rattle.rehearse_machine.specs.Frames.{Frame, Lists, Linked, RunNames, RunText, CommandEnd}
+use Rattle.rehearse_machine.specs.Places.{list_at, drop_lists, joined_at, drop_joined, second, command_in, phase, from_command, from_turn, past_lists, script_frames, run_frame, frames_by, frames_of}
+use Rattle.rehearse_machine.specs.Meaning.{full, resume, continue, AreProperFrames}
+use Rattle.rehearse_machine.specs.EndedTexts.{is_text, is_block, is_run, is_over, is_between, next_command, has_more, has_command, is_at_end, has_ended, is_done, has_run_all, begins, below_blocks, below_text, below_ended, below_three, may_drop, without_text, lightened, with_fewer, GoOnAlike, DropsEnded}
+use Rattle.rehearse_machine.proofs.RunAnswers.{HasNoExit, no_compound, of_text_end, of_run}
 
 -- ---- tests
 
 neither : (b c : Bool) → b || c ≡ false → (b ≡ false) × (c ≡ false)
 neither true c e = absurd (let f = e in cc)
 neither false c e = (refl, e)
+
+one_of : (b c : Bool) → b || c ≡ true → (b ≡ true) ⊎ (c ≡ true)
+one_of true c e = inl refl
+one_of false c e = inr e
 
 -- ---- parts of a script behind its last command
 
@@ -44,6 +49,28 @@ no_names [] zero e = refl
 no_names [] (suc k) e = refl
 no_names (x ∷ xs) zero e = absurd (let f = e in cc)
 no_names (x ∷ xs) (suc k) e = no_names xs k e
+
+-- a command that is over
+phase_over : (o : Option Command) → phase o 1 1 ≡ CommandEnd
+phase_over None = refl
+phase_over (Some (tree.Simple words)) = refl
+phase_over (Some (tree.Assign values)) = refl
+phase_over (Some (tree.If arms)) = refl
+phase_over (Some (tree.Loop until c b)) = refl
+phase_over (Some (tree.For name words body)) = refl
+
+module _ (list : AndOr) (at : At) where
+  next_when : (b : Bool) → is_over at ≡ b → next_command list at ≡ elim b [ true ↦ command_in list (suc at.command) | false ↦ command_in list at.command ]
+  next_when b e = ap (λ (x : Bool). elim x [ true ↦ command_in list (suc at.command) | false ↦ command_in list at.command ]) e
+
+  not_over : at.turn ≡ 0 → is_over at ≡ false
+  not_over z = ap (λ (n : ℕ). nat_eq n 2 && nat_eq at.last 1) z
+
+  none_here : at.turn ≡ 0 → is_some (next_command list at) ≡ false → is_some (command_in list at.command) ≡ false
+  none_here z e = sym (ap (λ (o : Option Command). is_some o) (next_when false (not_over z))) ∙ e
+
+  none_behind : is_over at ≡ true → is_some (next_command list at) ≡ false → is_some (command_in list (suc at.command)) ≡ false
+  none_behind t e = sym (ap (λ (o : Option Command). is_some o) (next_when true t)) ∙ e
 
 -- ---- what these frames make of an answer
 
@@ -109,26 +136,67 @@ module _ (limits : Limits) where
       ∙ ap (λ (x : Answer). continue limits (Lists tree.Empty ∷ fs) x) (no_link a)
       ∙ ap (continue limits fs) (no_list a)
 
-  script_ended : (o after : Option AndOr) (at : At) (rest : Script) → at.turn ≡ 0 → has_more o at.command after ≡ false → (is_some after ≡ false → rest ≡ tree.Empty) → (fs : List Frame) (a : Answer) → continue limits (script_frames o at rest ++ fs) a ≡ continue limits fs a
-  script_ended None after at rest z e r fs a =
+  -- in no command
+  script_here : (o after : Option AndOr) (at : At) (rest : Script) → at.turn ≡ 0 → has_more o at after ≡ false → (is_some after ≡ false → rest ≡ tree.Empty) → (fs : List Frame) (a : Answer) → continue limits (script_frames o at rest ++ fs) a ≡ continue limits fs a
+  script_here None after at rest z e r fs a =
       ap (λ (n : ℕ). continue limits (past_lists n ++ fs) a) z ∙ ap (continue limits fs) (no_list a)
-  script_ended (Some list) after at rest z e r fs a =
-      let none = neither (is_some (command_in list at.command)) (is_some after) e in
+  script_here (Some list) after at rest z e r fs a =
+      let none = neither (is_some (next_command list at)) (is_some after) e in
       ap (λ (n : ℕ). continue limits (from_turn list at n rest ++ fs) a) z
-      ∙ command_ended list at.command rest none.0 (r none.1) fs a
+      ∙ command_ended list at.command rest (none_here list at z none.0) (r none.1) fs a
 
-  text_by : (kind : FrameKind) (f : RunningFrame) → is_text kind ≡ true → f.place.turn ≡ 0 → has_command f ≡ false → (fs : List Frame) (a : Answer) → continue limits (frames_by kind f ++ fs) a ≡ continue limits fs a
-  text_by kinds.Text f k z e fs a =
-      script_ended (list_at f.script f.place.list) (list_at f.script (suc f.place.list)) f.place (drop_lists (suc f.place.list) f.script) z e (no_lists f.script (suc f.place.list)) fs a
-  text_by kinds.Block f k z e fs a = absurd (let g = k in cc)
-  text_by kinds.For f k z e fs a = absurd (let g = k in cc)
-  text_by kinds.Run f k z e fs a = absurd (let g = k in cc)
+  -- in a command that is over
+  script_over : (o after : Option AndOr) (at : At) (rest : Script) → is_over at ≡ true → has_more o at after ≡ false → (is_some after ≡ false → rest ≡ tree.Empty) → (fs : List Frame) (a : Answer) → HasNoExit a → continue limits (script_frames o at rest ++ fs) a ≡ continue limits fs a
+  script_over None after at rest t e r fs a h =
+      let parts = and_parts (nat_eq at.turn 2) (nat_eq at.last 1) t in
+      ap (λ (n : ℕ). continue limits (past_lists n ++ fs) a) (eqb-true at.turn 2 parts.0)
+      ∙ ap (continue limits fs) (no_compound limits.shell a h)
+  script_over (Some list) after at rest t e r fs a h =
+      let parts = and_parts (nat_eq at.turn 2) (nat_eq at.last 1) t in
+      let none = neither (is_some (next_command list at)) (is_some after) e in
+      let later = from_command list (suc at.command) rest ++ fs in
+      ap (λ (n : ℕ). continue limits (from_turn list at n rest ++ fs) a) (eqb-true at.turn 2 parts.0)
+      ∙ ap (λ (n : ℕ). continue limits (phase (command_in list at.command) 1 n ∷ later) a) (eqb-true at.last 1 parts.1)
+      ∙ ap (λ (x : Frame). continue limits (x ∷ later) a) (phase_over (command_in list at.command))
+      ∙ ap (continue limits later) (no_compound limits.shell a h)
+      ∙ command_ended list (suc at.command) rest (none_behind list at t none.0) (r none.1) fs a
 
-  text_ended : (f : RunningFrame) → has_ended f ≡ true → (fs : List Frame) (a : Answer) → continue limits (frames_by f.kind f ++ fs) a ≡ continue limits fs a
-  text_ended f e =
-      let outer = and_parts (is_text f.kind && nat_eq f.place.turn 0) (not (has_command f)) e in
-      let inner = and_parts (is_text f.kind) (nat_eq f.place.turn 0) outer.0 in
-      text_by f.kind f inner.0 (eqb-true f.place.turn 0 inner.1) (not-true (has_command f) outer.1)
+  script_ended : (o after : Option AndOr) (at : At) (rest : Script) → (nat_eq at.turn 0 ≡ true) ⊎ (is_over at ≡ true) → has_more o at after ≡ false → (is_some after ≡ false → rest ≡ tree.Empty) → (fs : List Frame) (a : Answer) → HasNoExit a → continue limits (script_frames o at rest ++ fs) a ≡ continue limits fs a
+  script_ended o after at rest (inl z) e r fs a h = script_here o after at rest (eqb-true at.turn 0 z) e r fs a
+  script_ended o after at rest (inr t) e r fs a h = script_over o after at rest t e r fs a h
+
+  at_end : (f : RunningFrame) → is_at_end f ≡ true → (fs : List Frame) (a : Answer) → HasNoExit a → continue limits (script_frames (list_at f.script f.place.list) f.place (drop_lists (suc f.place.list) f.script) ++ fs) a ≡ continue limits fs a
+  at_end f e fs a h =
+      let tests = and_parts (is_between f.place) (not (has_command f)) e in
+      script_ended (list_at f.script f.place.list) (list_at f.script (suc f.place.list)) f.place (drop_lists (suc f.place.list) f.script)
+      (one_of (nat_eq f.place.turn 0) (is_over f.place) tests.0) (not-true (has_command f) tests.1) (no_lists f.script (suc f.place.list)) fs a h
+
+  text_by : (kind : FrameKind) (f : RunningFrame) → is_text kind ≡ true → is_at_end f ≡ true → (fs : List Frame) (a : Answer) → HasNoExit a → continue limits (frames_by kind f ++ fs) a ≡ continue limits fs a
+  text_by kinds.Text f k e fs a h = at_end f e fs a h
+  text_by kinds.Block f k e fs a h = absurd (let g = k in cc)
+  text_by kinds.For f k e fs a h = absurd (let g = k in cc)
+  text_by kinds.Run f k e fs a h = absurd (let g = k in cc)
+
+  text_ended : (f : RunningFrame) → has_ended f ≡ true → (fs : List Frame) (a : Answer) → HasNoExit a → continue limits (frames_by f.kind f ++ fs) a ≡ continue limits fs a
+  text_ended f e = let tests = and_parts (is_text f.kind) (is_at_end f) e in text_by f.kind f tests.0 tests.1
+
+  block_by : (kind : FrameKind) (f : RunningFrame) → is_block kind ≡ true → is_at_end f ≡ true → (fs : List Frame) (a : Answer) → HasNoExit a → continue limits (frames_by kind f ++ fs) a ≡ continue limits fs a
+  block_by kinds.Text f k e fs a h = absurd (let g = k in cc)
+  block_by kinds.Block f k e fs a h = at_end f e fs a h
+  block_by kinds.For f k e fs a h = absurd (let g = k in cc)
+  block_by kinds.Run f k e fs a h = absurd (let g = k in cc)
+
+  block_done : (f : RunningFrame) → is_done f ≡ true → (fs : List Frame) (a : Answer) → HasNoExit a → continue limits (frames_by f.kind f ++ fs) a ≡ continue limits fs a
+  block_done f e = let tests = and_parts (is_block f.kind) (is_at_end f) e in block_by f.kind f tests.0 tests.1
+
+  block_goes : (f : RunningFrame) (fs : List RunningFrame) (b : Bool) → is_done f ≡ b → (a : Answer) → HasNoExit a → continue limits (frames_of (below_blocks fs)) a ≡ continue limits (frames_of fs) a
+      → continue limits (frames_of (elim b [ true ↦ below_blocks fs | false ↦ f ∷ fs ])) a ≡ continue limits (frames_of (f ∷ fs)) a
+  block_goes f fs true e a h k = k ∙ sym (block_done f e (frames_of fs) a h)
+  block_goes f fs false e a h k = refl
+
+  blocks_go : (fs : List RunningFrame) (a : Answer) → HasNoExit a → continue limits (frames_of (below_blocks fs)) a ≡ continue limits (frames_of fs) a
+  blocks_go [] a h = refl
+  blocks_go (f ∷ fs) a h = block_goes f fs (is_done f) refl a h (blocks_go fs a h)
 
   names_over : (turn : ℕ) (names : List Text) → not (nat_eq turn 0) ≡ true → is_some (slice_get names turn) ≡ false → run_frame turn names ≡ RunText []
   names_over zero names z e = absurd (let f = z in cc)
@@ -146,58 +214,77 @@ module _ (limits : Limits) where
       let inner = and_parts (not (is_some (slice_get f.words f.place.turn))) (is_run f.kind) outer.0 in
       run_by f.kind f inner.1 outer.1 (not-true (is_some (slice_get f.words f.place.turn)) inner.0)
 
-  pair_ended : (text run : RunningFrame) (fs : List RunningFrame) → has_ended text ≡ true → has_run_all run ≡ true → (a : Answer) → continue limits (frames_of (text ∷ run ∷ fs)) a ≡ continue limits (frames_of fs) (behind_text a)
-  pair_ended text run fs e k a =
-      text_ended text e (frames_of (run ∷ fs)) a
+  pair_ended : (text run : RunningFrame) (fs : List RunningFrame) → has_ended text ≡ true → has_run_all run ≡ true → (a : Answer) → HasNoExit a → continue limits (frames_of (text ∷ run ∷ fs)) a ≡ continue limits (frames_of fs) (behind_text a)
+  pair_ended text run fs e k a h =
+      text_ended text e (frames_of (run ∷ fs)) a h
       ∙ ap (λ (x : List Frame). continue limits (x ++ frames_of fs) a) (run_ended run k)
 
   chosen : (b : Bool) (x y : List RunningFrame) → elim b [ true ↦ Some x | false ↦ None ] ≡ Some y → (b ≡ true) × (x ≡ y)
   chosen true x y e = (refl, (let f = e in cc))
   chosen false x y e = absurd (let f = e in cc)
 
-  below_is : (fs below : List RunningFrame) → below_ended fs ≡ Some below → without_first (without_first fs) ≡ below
-  below_is [] below e = absurd (let f = e in cc)
-  below_is (text ∷ []) below e = absurd (let f = e in cc)
-  below_is (text ∷ run ∷ fs) below e = (chosen (has_ended text && has_run_all run) fs below e).1
+  text_is : (fs below : List RunningFrame) → below_text fs ≡ Some below → without_first (without_first fs) ≡ below
+  text_is [] below e = absurd (let f = e in cc)
+  text_is (text ∷ []) below e = absurd (let f = e in cc)
+  text_is (text ∷ run ∷ fs) below e = (chosen (has_ended text && has_run_all run) fs below e).1
 
-  below_goes : (fs below : List RunningFrame) → below_ended fs ≡ Some below → (a : Answer) → continue limits (frames_of fs) a ≡ continue limits (frames_of below) (behind_text a)
-  below_goes [] below e a = absurd (let f = e in cc)
-  below_goes (text ∷ []) below e a = absurd (let f = e in cc)
-  below_goes (text ∷ run ∷ fs) below e a =
+  text_goes : (fs below : List RunningFrame) → below_text fs ≡ Some below → (a : Answer) → HasNoExit a → continue limits (frames_of fs) a ≡ continue limits (frames_of below) (behind_text a)
+  text_goes [] below e a h = absurd (let f = e in cc)
+  text_goes (text ∷ []) below e a h = absurd (let f = e in cc)
+  text_goes (text ∷ run ∷ fs) below e a h =
       let found = chosen (has_ended text && has_run_all run) fs below e in
       let tests = and_parts (has_ended text) (has_run_all run) found.0 in
-      pair_ended text run fs tests.0 tests.1 a ∙ ap (λ (x : List RunningFrame). continue limits (frames_of x) (behind_text a)) found.1
+      pair_ended text run fs tests.0 tests.1 a h ∙ ap (λ (x : List RunningFrame). continue limits (frames_of x) (behind_text a)) found.1
 
-  module _ (fs : List RunningFrame) (a : Answer) where
-    third_goes : (two three : List RunningFrame) (o : Option (List RunningFrame)) → below_ended fs ≡ Some two → below_ended two ≡ Some three → below_ended three ≡ o → is_some o ≡ true → continue limits (frames_of (without_first (without_first fs))) a ≡ continue limits (frames_of fs) a
-    third_goes two three None e k h some = absurd (let f = some in cc)
-    third_goes two three (Some rest) e k h some =
-        ap (λ (x : List RunningFrame). continue limits (frames_of x) a) (below_is fs two e)
-        ∙ below_goes two three k a ∙ below_goes three rest h (behind_text a)
-        ∙ sym (below_goes fs two e a ∙ below_goes two three k (behind_text a) ∙ below_goes three rest h (behind_text (behind_text a)) ∙ ap (continue limits (frames_of rest)) (thrice a))
+  below_goes : (fs below : List RunningFrame) → below_ended fs ≡ Some below → (a : Answer) → HasNoExit a → continue limits (frames_of fs) a ≡ continue limits (frames_of below) (behind_text a)
+  below_goes fs below e a h = sym (blocks_go fs a h) ∙ text_goes (below_blocks fs) below e a h
 
-    second_goes : (two : List RunningFrame) (o : Option (List RunningFrame)) → below_ended fs ≡ Some two → below_ended two ≡ o → is_some (option_and_then below_ended o) ≡ true → continue limits (frames_of (without_first (without_first fs))) a ≡ continue limits (frames_of fs) a
+  -- an ended text and its `run` never answer that `exit` leaves a text
+  stays : (a : Answer) → HasNoExit (behind_text a)
+  stays a = of_text_end limits a (run_all limits (full limits) []) (λ s. tt)
+
+  module _ (fs : List RunningFrame) (a : Answer) (h : HasNoExit a) where
+    abbrev fewer : List RunningFrame
+    fewer = without_first (without_first (below_blocks fs))
+
+    third_goes : (two three : List RunningFrame) (o : Option (List RunningFrame)) → below_ended fs ≡ Some two → below_ended two ≡ Some three → below_ended three ≡ o → is_some o ≡ true → continue limits (frames_of fewer) a ≡ continue limits (frames_of fs) a
+    third_goes two three None e k g some = absurd (let f = some in cc)
+    third_goes two three (Some rest) e k g some =
+        ap (λ (x : List RunningFrame). continue limits (frames_of x) a) (text_is (below_blocks fs) two e)
+        ∙ below_goes two three k a h ∙ below_goes three rest g (behind_text a) (stays a)
+        ∙ sym (below_goes fs two e a h ∙ below_goes two three k (behind_text a) (stays a) ∙ below_goes three rest g (behind_text (behind_text a)) (stays (behind_text a))
+        ∙ ap (continue limits (frames_of rest)) (thrice a))
+
+    second_goes : (two : List RunningFrame) (o : Option (List RunningFrame)) → below_ended fs ≡ Some two → below_ended two ≡ o → is_some (option_and_then below_ended o) ≡ true → continue limits (frames_of fewer) a ≡ continue limits (frames_of fs) a
     second_goes two None e k some = absurd (let f = some in cc)
     second_goes two (Some three) e k some = third_goes two three (below_ended three) e k refl some
 
-    first_goes : (o : Option (List RunningFrame)) → below_ended fs ≡ o → is_some (option_and_then below_ended (option_and_then below_ended o)) ≡ true → continue limits (frames_of (without_first (without_first fs))) a ≡ continue limits (frames_of fs) a
+    first_goes : (o : Option (List RunningFrame)) → below_ended fs ≡ o → is_some (option_and_then below_ended (option_and_then below_ended o)) ≡ true → continue limits (frames_of fewer) a ≡ continue limits (frames_of fs) a
     first_goes None e some = absurd (let f = some in cc)
     first_goes (Some two) e some = second_goes two (below_ended two) e refl some
 
-  above : (xs ys zs : List Frame) → ((a : Answer) → continue limits ys a ≡ continue limits zs a) → (a : Answer) → continue limits (xs ++ ys) a ≡ continue limits (xs ++ zs) a
-  above [] ys zs e a = e a
-  above (x ∷ xs) ys zs e a = above xs ys zs e (resume limits x a)
+  begins_by : (kind : FrameKind) (f : RunningFrame) → is_run kind ≡ true → f.place.turn ≡ 0 → frames_by kind f ≡ RunNames f.words ∷ []
+  begins_by kinds.Text f k z = absurd (let g = k in cc)
+  begins_by kinds.Block f k z = absurd (let g = k in cc)
+  begins_by kinds.For f k z = absurd (let g = k in cc)
+  begins_by kinds.Run f k z = ap (λ (n : ℕ). run_frame n f.words ∷ []) z
 
-  dropped_alike : (fs : List RunningFrame) → may_drop fs ≡ true → (a : Answer) → continue limits (frames_of (without_two fs)) a ≡ continue limits (frames_of fs) a
+  run_begins : (f : RunningFrame) → begins f ≡ true → frames_by f.kind f ≡ RunNames f.words ∷ []
+  run_begins f e = let tests = and_parts (is_run f.kind) (nat_eq f.place.turn 0) e in begins_by f.kind f tests.0 (eqb-true f.place.turn 0 tests.1)
+
+  dropped_alike : (fs : List RunningFrame) → may_drop fs ≡ true → (a : Answer) → continue limits (frames_of (without_text fs)) a ≡ continue limits (frames_of fs) a
   dropped_alike [] e a = refl
   dropped_alike (f ∷ fs) e a =
       let tests = and_parts (begins f) (is_some (below_three fs)) e in
-      above (frames_by f.kind f) (frames_of (without_first (without_first fs))) (frames_of fs) (λ x. first_goes fs x (below_ended fs) refl tests.1) a
+      let run = run_begins f tests.0 in
+      ap (λ (x : List Frame). continue limits (x ++ frames_of (without_first (without_first (below_blocks fs)))) a) run
+      ∙ first_goes fs (resume limits (RunNames f.words) a) (of_run limits f.words a) (below_ended fs) refl tests.1
+      ∙ sym (ap (λ (x : List Frame). continue limits (x ++ frames_of fs) a) run)
 
 -- ---- frames without some of them
 
-pub lightened_by : (fs : List RunningFrame) (b : Bool) → may_drop fs ≡ b → lightened fs ≡ elim b [ true ↦ without_two fs | false ↦ fs ]
-lightened_by fs b e = ap (λ (x : Bool). elim x [ true ↦ without_two fs | false ↦ fs ]) e
+pub lightened_by : (fs : List RunningFrame) (b : Bool) → may_drop fs ≡ b → lightened fs ≡ elim b [ true ↦ without_text fs | false ↦ fs ]
+lightened_by fs b e = ap (λ (x : Bool). elim x [ true ↦ without_text fs | false ↦ fs ]) e
 
 lightened_alike : (fs : List RunningFrame) (b : Bool) → may_drop fs ≡ b → GoOnAlike (lightened fs) fs
 lightened_alike fs true e limits a =
@@ -216,10 +303,19 @@ proper_rest : (fs : List RunningFrame) → AreProperFrames (frames_of fs) → Ar
 proper_rest [] p = p
 proper_rest (f ∷ fs) p = proper_below (frames_by f.kind f) (frames_of fs) p
 
-dropped_sound : (fs : List RunningFrame) → AreProperFrames (frames_of fs) → AreProperFrames (frames_of (without_two fs))
+block_proper : (f : RunningFrame) (fs : List RunningFrame) (b : Bool) → AreProperFrames (frames_of (f ∷ fs)) → AreProperFrames (frames_of (below_blocks fs)) → AreProperFrames (frames_of (elim b [ true ↦ below_blocks fs | false ↦ f ∷ fs ]))
+block_proper f fs true p k = k
+block_proper f fs false p k = p
+
+blocks_proper : (fs : List RunningFrame) → AreProperFrames (frames_of fs) → AreProperFrames (frames_of (below_blocks fs))
+blocks_proper [] p = p
+blocks_proper (f ∷ fs) p = block_proper f fs (is_done f) p (blocks_proper fs (proper_rest (f ∷ fs) p))
+
+dropped_sound : (fs : List RunningFrame) → AreProperFrames (frames_of fs) → AreProperFrames (frames_of (without_text fs))
 dropped_sound [] p = p
 dropped_sound (f ∷ fs) p =
-    proper_above (frames_by f.kind f) (frames_of fs) (frames_of (without_first (without_first fs))) (λ q. proper_rest (without_first fs) (proper_rest fs q)) p
+    proper_above (frames_by f.kind f) (frames_of fs) (frames_of (without_first (without_first (below_blocks fs))))
+    (λ q. proper_rest (without_first (below_blocks fs)) (proper_rest (below_blocks fs) (blocks_proper fs q))) p
 
 lightened_sound : (fs : List RunningFrame) (b : Bool) → may_drop fs ≡ b → AreProperFrames (frames_of fs) → AreProperFrames (frames_of (lightened fs))
 lightened_sound fs true e p = subst (λ (x : List RunningFrame). AreProperFrames (frames_of x)) (sym (lightened_by fs true e)) (dropped_sound fs p)

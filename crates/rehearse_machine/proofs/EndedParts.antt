@@ -16,8 +16,8 @@ use Rattle.bootstore_state.specs.declared.frame.At.{At}
 use Rattle.bootstore_state.specs.declared.frame.FrameKind.{FrameKind}
 use Rattle.bootstore_state.specs.Moment.{RunningFrame}
 use Rattle.bootstore_state.specs.Record.{Record, changed, with_frame, without_frame, without_first}
-use Rattle.rehearse_machine.specs.Places.{list_at, command_in}
-use Rattle.rehearse_machine.specs.EndedTexts.{is_run, has_more, has_command, has_run_all, may_drop, without_two, with_fewer}
+use Rattle.rehearse_machine.specs.Places.{list_at}
+use Rattle.rehearse_machine.specs.EndedTexts.{is_run, next_command, has_more, has_command, is_done, has_run_all, below_blocks, may_drop, without_text, without_blocks, with_fewer}
 use Rattle.rehearse_machine.proofs.EndedLemmas.{lightened_by}
 
 -- ---- parts that are there
@@ -70,21 +70,20 @@ module _ (f : RunningFrame) where
   after = list_at f.script (suc f.place.list)
 
   pub no_list_here : list_at f.script f.place.list ≡ None → false ≡ has_command f
-  no_list_here e = sym (ap (λ (o : Option AndOr). has_more o f.place.command after) e)
+  no_list_here e = sym (ap (λ (o : Option AndOr). has_more o f.place after) e)
 
-  pub command_here : (l : AndOr) (n : ℕ) (o : Option Command) → list_at f.script f.place.list ≡ Some l → n ≡ f.place.command → o ≡ command_in l n → is_some o ≡ true → true ≡ has_command f
-  command_here l n o e k h some =
-      sym (ap (λ (x : Option AndOr). has_more x f.place.command after) e
-      ∙ ap (λ (x : ℕ). is_some (command_in l x) || is_some after) (sym k)
-      ∙ ap (λ (x : Option Command). is_some x || is_some after) (sym h)
-      ∙ ap (λ (x : Bool). x || is_some after) some)
+  module _ (l : AndOr) (at : At) (o : Option Command) (e : list_at f.script f.place.list ≡ Some l) (here : at ≡ f.place) (is : o ≡ next_command l at) where
+    next_is : is_some o || is_some after ≡ has_command f
+    next_is =
+        sym (ap (λ (x : Option AndOr). has_more x f.place after) e
+        ∙ ap (λ (x : At). is_some (next_command l x) || is_some after) (sym here)
+        ∙ ap (λ (x : Option Command). is_some x || is_some after) (sym is))
 
-  pub list_after : (l : AndOr) (n : ℕ) (o : Option Command) (b : Bool) → list_at f.script f.place.list ≡ Some l → n ≡ f.place.command → o ≡ command_in l n → is_some o ≡ false → b ≡ is_some after → b ≡ has_command f
-  list_after l n o b e k h none is =
-      is ∙ sym (ap (λ (x : Option AndOr). has_more x f.place.command after) e
-      ∙ ap (λ (x : ℕ). is_some (command_in l x) || is_some after) (sym k)
-      ∙ ap (λ (x : Option Command). is_some x || is_some after) (sym h)
-      ∙ ap (λ (x : Bool). x || is_some after) none)
+    pub command_here : is_some o ≡ true → true ≡ has_command f
+    command_here some = sym (ap (λ (x : Bool). x || is_some after) some) ∙ next_is
+
+    pub list_after : (b : Bool) → is_some o ≡ false → b ≡ is_some after → b ≡ has_command f
+    list_after b none last = last ∙ sym (ap (λ (x : Bool). x || is_some after) none) ∙ next_is
 
 -- ---- frames that are dropped
 
@@ -98,13 +97,49 @@ no_top (f ∷ fs) e = absurd (let g = e in cc)
 pub none_there : (old : Record) → None ≡ slice_get old.present.frames 0 → old ≡ changed with_fewer old
 none_there old e = all_stay old (no_top old.present.frames e)
 
-top_kept : (fs : List RunningFrame) (f g : RunningFrame) → Some f ≡ slice_get fs 0 → g ≡ f → g ∷ without_first (without_first (without_first fs)) ≡ without_two fs
+top_kept : (fs : List RunningFrame) (f g : RunningFrame) → Some f ≡ slice_get fs 0 → g ≡ f → g ∷ without_first (without_first (below_blocks (without_first fs))) ≡ without_text fs
 top_kept [] f g e k = absurd (let h = e in cc)
-top_kept (x ∷ xs) f g e k = let same : x ≡ f = (let h = e in cc) in ap (λ (y : RunningFrame). y ∷ without_first (without_first xs)) (k ∙ sym same)
+top_kept (x ∷ xs) f g e k = let same : x ≡ f = (let h = e in cc) in ap (λ (y : RunningFrame). y ∷ without_first (without_first (below_blocks xs))) (k ∙ sym same)
 
-pub two_dropped : (old one two three new : Record) (f g : RunningFrame) → Some f ≡ slice_get old.present.frames 0 → may_drop old.present.frames ≡ true → g ≡ f
-    → one ≡ changed without_frame old → two ≡ changed without_frame one → three ≡ changed without_frame two → new ≡ changed (with_frame g) three → new ≡ changed with_fewer old
-two_dropped old one two three new f g top may same a b c d =
-    d ∙ ap (changed (with_frame g)) (c ∙ ap (changed without_frame) (b ∙ ap (changed without_frame) a))
+pub text_dropped : (old one two three four new : Record) (f g : RunningFrame) → Some f ≡ slice_get old.present.frames 0 → may_drop old.present.frames ≡ true → g ≡ f
+    → one ≡ changed without_frame old → two ≡ changed without_blocks one → three ≡ changed without_frame two → four ≡ changed without_frame three → new ≡ changed (with_frame g) four
+    → new ≡ changed with_fewer old
+text_dropped old one two three four new f g top may same a b c d e =
+    e ∙ ap (changed (with_frame g)) (d ∙ ap (changed without_frame) (c ∙ ap (changed without_frame) (b ∙ ap (changed without_blocks) a)))
     ∙ ap (λ (x : List RunningFrame). record old { present = record old.present { frames = x } })
     (top_kept old.present.frames f g top same ∙ sym (lightened_by old.present.frames true may))
+
+-- ---- blocks at their end
+
+below_when : (x : RunningFrame) (xs : List RunningFrame) (f : RunningFrame) (b : Bool) → Some f ≡ slice_get (x ∷ xs) 0 → is_done f ≡ b → below_blocks (x ∷ xs) ≡ elim b [ true ↦ below_blocks xs | false ↦ x ∷ xs ]
+below_when x xs f b e d =
+    let same : x ≡ f = (let h = e in cc) in
+    ap (λ (c : Bool). elim c [ true ↦ below_blocks xs | false ↦ x ∷ xs ]) (ap is_done same ∙ d)
+
+below_done : (fs : List RunningFrame) (f : RunningFrame) → Some f ≡ slice_get fs 0 → is_done f ≡ true → below_blocks (without_first fs) ≡ below_blocks fs
+below_done [] f e d = refl
+below_done (x ∷ xs) f e d = sym (below_when x xs f true e d)
+
+below_other : (fs : List RunningFrame) (f : RunningFrame) → Some f ≡ slice_get fs 0 → is_done f ≡ false → below_blocks fs ≡ fs
+below_other [] f e d = refl
+below_other (x ∷ xs) f e d = below_when x xs f false e d
+
+below_none : (fs : List RunningFrame) → None ≡ slice_get fs 0 → below_blocks fs ≡ fs
+below_none [] e = refl
+below_none (x ∷ xs) e = absurd (let h = e in cc)
+
+module _ (old now : Record) (so_far : changed without_blocks now ≡ changed without_blocks old) where
+  pub block_dropped : (new : Record) (f : RunningFrame) → Some f ≡ slice_get now.present.frames 0 → is_done f ≡ true → new ≡ changed without_frame now → changed without_blocks new ≡ changed without_blocks old
+  block_dropped new f top is e =
+      ap (changed without_blocks) e
+      ∙ ap (λ (x : List RunningFrame). record now { present = record now.present { frames = x } }) (below_done now.present.frames f top is)
+      ∙ so_far
+
+  all_dropped : below_blocks now.present.frames ≡ now.present.frames → now ≡ changed without_blocks old
+  all_dropped e = sym (ap (λ (x : List RunningFrame). record now { present = record now.present { frames = x } }) e) ∙ so_far
+
+  pub other_left : (f : RunningFrame) → Some f ≡ slice_get now.present.frames 0 → is_done f ≡ false → now ≡ changed without_blocks old
+  other_left f top is = all_dropped (below_other now.present.frames f top is)
+
+  pub none_left : None ≡ slice_get now.present.frames 0 → now ≡ changed without_blocks old
+  none_left none = all_dropped (below_none now.present.frames none)

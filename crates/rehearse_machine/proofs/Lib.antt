@@ -11,6 +11,7 @@ pub mod CommandLemmas
 pub mod ProperMoves
 pub mod ProgressLemmas
 pub mod AskingLemmas
+pub mod RunAnswers
 pub mod EndedLemmas
 pub mod EndedParts
 pub mod TurnLemmas

@@ -17,7 +17,7 @@ use Rattle.bootstore_state.specs.declared.frame.At.{At}
 use Rattle.bootstore_state.specs.Moment.{RunningFrame}
 use Rattle.rehearse_terms.specs.State.{Text, State}
 use Rattle.rehearse_rules.specs.Execution.{Limits}
-use Rattle.rehearse_machine.specs.Places.{GoOn, list_at, command_in, command_at, second, place_begins, place_turn, place_list, phase_move, for_turn, for_move}
+use Rattle.rehearse_machine.specs.Places.{GoOn, list_at, joined_at, command_in, command_at, second, place_begins, place_turn, place_list, phase_move, for_turn, for_move}
 use Rattle.rehearse_machine.proofs.ArmLemmas.{Arm}
 use Rattle.rehearse_machine.proofs.CommandLemmas.{says_if, says_loop, says_simple, says_assign, says_for, Kind, AsSimple, AsAssign, AsIf, AsLoop, AsFor, kind_of}
 use Rattle.rehearse_machine.proofs.ListLemmas.{Join, back, join_some, join_none}
@@ -64,6 +64,17 @@ module _ (l : ListCode) (n : ℕ) where
   no_command items is h past =
       sym (later h ∙ ap (λ (x : List Join). command_in (tree.Starts (view.command l.first) (view.joins (map view.joined x))) (suc (n - 1))) (sym is)
       ∙ ap second (join_none items (n - 1) (slice_get_past items (n - 1) past)))
+
+-- the command behind another one
+module _ (l : ListCode) (n : ℕ) (items : List Join) (is : items ≡ l.rest.items) where
+  behind : command_in (view.list l) (suc n) ≡ second (joined_at (view.joins (map view.joined items)) n)
+  behind = opened l (suc n) ∙ ap (λ (x : List Join). second (joined_at (view.joins (map view.joined x)) n)) (sym is)
+
+  pub command_found_behind : (p : Join) → n < length items → p ≡ get_or items n p → Some (view.command p.1) ≡ command_in (view.list l) (suc n)
+  command_found_behind p within e = sym (behind ∙ ap second (join_some items n p (slice_get_read items (length items) n p refl within e)))
+
+  pub no_command_behind : length items ≤ n → None ≡ command_in (view.list l) (suc n)
+  no_command_behind past = sym (behind ∙ ap second (join_none items n (slice_get_past items n past)))
 
 module _ (l : ListCode) (o : Option AndOr) (at : At) (f : RunningFrame) (found : o ≡ Some (view.list l)) (here : at ≡ f.place) where
   command_here : (c : Option Command) → c ≡ command_in (view.list l) at.command → command_in (view.list l) f.place.command ≡ c

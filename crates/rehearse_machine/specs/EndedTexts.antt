@@ -1,6 +1,8 @@
--- Texts of `run` that have nothing left to do. Of three of them in a row one may be dropped: the same is to come. Ours.
-use Rattle.std.specs.Prelude.{◌≡◌, ℕ, suc, nat_eq, Bool, true, false, not, ◌&&◌, ◌||◌, List, [], ◌∷◌, Option, Some, None, is_some, option_and_then, slice_get}
-use Rattle.hushlang.specs.Tree.{AndOr}
+-- Texts of `run` that have nothing left to do. Of three of them in a row one may be dropped, with the blocks at its end: the same
+-- is to come. Ours.
+use Rattle.std.specs.Prelude.{◌≡◌, suc, nat_eq, Bool, true, false, not, ◌&&◌, ◌||◌, List, [], ◌∷◌, Option, Some, None, is_some, option_and_then, slice_get}
+use Rattle.hushlang.specs.Tree.{AndOr, Command}
+use Rattle.bootstore_state.specs.declared.frame.At.{At}
 use Rattle.bootstore_state.specs.declared.frame.FrameKind.{FrameKind}
 use Rattle.bootstore_state.specs.declared.frame.FrameKind.TheVariants as kinds
 use Rattle.bootstore_state.specs.Moment.{RunningFrame, Moment}
@@ -16,24 +18,50 @@ is_text kinds.Block = false
 is_text kinds.For = false
 is_text kinds.Run = false
 
+abbrev pub is_block : FrameKind → Bool
+is_block kinds.Text = false
+is_block kinds.Block = true
+is_block kinds.For = false
+is_block kinds.Run = false
+
 abbrev pub is_run : FrameKind → Bool
 is_run kinds.Text = false
 is_run kinds.Block = false
 is_run kinds.For = false
 is_run kinds.Run = true
 
--- whether a list, from this command on, or the lists after it have a command
-abbrev pub has_more : Option AndOr → (command : ℕ) → (after : Option AndOr) → Bool
-has_more None command after = false
-has_more (Some list) command after = is_some (command_in list command) || is_some after
+-- whether the command of a place is over, as that of an `if` whose block runs
+abbrev pub is_over : At → Bool
+is_over at = nat_eq at.turn 2 && nat_eq at.last 1
+
+-- whether a place is in no command, or in one that is over
+abbrev pub is_between : At → Bool
+is_between at = nat_eq at.turn 0 || is_over at
+
+-- the next command of a list: that of the place, or the one behind it
+abbrev pub next_command : AndOr → At → Option Command
+next_command list at = elim (is_over at) [ true ↦ command_in list (suc at.command) | false ↦ command_in list at.command ]
+
+-- whether a list, from this place on, or the lists after it have a command
+abbrev pub has_more : Option AndOr → At → (after : Option AndOr) → Bool
+has_more None at after = false
+has_more (Some list) at after = is_some (next_command list at) || is_some after
 
 -- whether a frame has a command of its script left
 abbrev pub has_command : RunningFrame → Bool
-has_command f = has_more (list_at f.script f.place.list) f.place.command (list_at f.script (suc f.place.list))
+has_command f = has_more (list_at f.script f.place.list) f.place (list_at f.script (suc f.place.list))
 
--- a text at its end: what it does next is to leave
+-- a script at its end: what it does next is to leave
+abbrev pub is_at_end : RunningFrame → Bool
+is_at_end f = is_between f.place && not (has_command f)
+
+-- a text at its end
 abbrev pub has_ended : RunningFrame → Bool
-has_ended f = is_text f.kind && nat_eq f.place.turn 0 && not (has_command f)
+has_ended f = is_text f.kind && is_at_end f
+
+-- a block at its end
+abbrev pub is_done : RunningFrame → Bool
+is_done f = is_block f.kind && is_at_end f
 
 -- a `run` that has begun and has no name left: what it does next is to take the status of its last text
 abbrev pub has_run_all : RunningFrame → Bool
@@ -43,11 +71,20 @@ has_run_all f = not (is_some (slice_get f.words f.place.turn)) && is_run f.kind 
 abbrev pub begins : RunningFrame → Bool
 begins f = is_run f.kind && nat_eq f.place.turn 0
 
+-- the frames below the blocks at their end that are innermost
+abbrev pub below_blocks : List RunningFrame → List RunningFrame
+below_blocks [] = []
+below_blocks (f ∷ fs) = elim (is_done f) [ true ↦ below_blocks fs | false ↦ f ∷ fs ]
+
 -- the frames below an ended text and its `run`, if these two are the innermost
+abbrev pub below_text : List RunningFrame → Option (List RunningFrame)
+below_text [] = None
+below_text (text ∷ []) = None
+below_text (text ∷ run ∷ fs) = elim (has_ended text && has_run_all run) [ true ↦ Some fs | false ↦ None ]
+
+-- the same, also if blocks at their end are above them
 abbrev pub below_ended : List RunningFrame → Option (List RunningFrame)
-below_ended [] = None
-below_ended (text ∷ []) = None
-below_ended (text ∷ run ∷ fs) = elim (has_ended text && has_run_all run) [ true ↦ Some fs | false ↦ None ]
+below_ended fs = below_text (below_blocks fs)
 
 -- the frames below three of them
 abbrev pub below_three : List RunningFrame → Option (List RunningFrame)
@@ -58,14 +95,17 @@ abbrev pub may_drop : List RunningFrame → Bool
 may_drop [] = false
 may_drop (f ∷ fs) = begins f && is_some (below_three fs)
 
--- the frames without the two below the innermost
-abbrev pub without_two : List RunningFrame → List RunningFrame
-without_two [] = []
-without_two (f ∷ fs) = f ∷ without_first (without_first fs)
+-- the frames without the two below the innermost, and the blocks at their end above these
+abbrev pub without_text : List RunningFrame → List RunningFrame
+without_text [] = []
+without_text (f ∷ fs) = f ∷ without_first (without_first (below_blocks fs))
 
--- the frames, without an ended text and its `run` if three of them are below a `run` that begins
+-- the frames, without an ended text, its blocks and its `run` if three of them are below a `run` that begins
 abbrev pub lightened : List RunningFrame → List RunningFrame
-lightened fs = elim (may_drop fs) [ true ↦ without_two fs | false ↦ fs ]
+lightened fs = elim (may_drop fs) [ true ↦ without_text fs | false ↦ fs ]
+
+abbrev pub without_blocks : Moment → Moment
+without_blocks m = record m { frames = below_blocks m.frames }
 
 abbrev pub with_fewer : Moment → Moment
 with_fewer m = record m { frames = lightened m.frames }
