@@ -75,7 +75,7 @@ impl Env {
     fn only_set(&self) -> Result<Env, AllocError>
         ensures { IfOk result (λ env. env ≡ filter says.is_set self.now) }
     {
-        let mut env = Env::new(self.allocator());
+        let mut env = Env::with_hasher(self.allocator(), self.hasher());
         for place in 0..self.len() {
             let (name, value) = self.pair(place).unwrap();
             if !value.is_empty() {
@@ -92,7 +92,7 @@ impl Env {
     pub fn imported(&self) -> Result<Env, AllocError>
         ensures { IfOk result (λ env. env ≡ says.imported self.now) }
     {
-        let mut env = Env::new(self.allocator());
+        let mut env = Env::with_hasher(self.allocator(), self.hasher());
         for place in 0..self.len() {
             let (name, value) = self.pair(place).unwrap();
             if is_doubtful(name, value) {

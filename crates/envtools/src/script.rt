@@ -195,7 +195,8 @@ fn reached(env: &Env, text: &[u8]) -> Result<(Env, Result<(), ScriptError>), All
     let alloc = env.allocator();
     let mut list = VariableList::with_pairs(env.pairs()?);
     let applied = apply_script_to_list(alloc, &mut list, text);
-    Ok((Env::of_list(alloc, &list)?, applied))
+    let hasher = env.hasher().with(text);
+    Ok((Env::of_list(alloc, &list, hasher)?, applied))
 }
 
 /// Makes the changes of a script, one on each line. Carriage returns at the end of a line are

@@ -13,7 +13,7 @@ loop-name-init c =
     let Each : List Pair → Type 0 = λ ps. AllByRecursion IsVariable ps in
     let d = faultless_is_data c.args.body.now c.requires in
     record {
-      whole = ap (λ env. fold (λ env p. assigned env p.0 p.1) env (pairs_left c.into_iter-name-iterator.result)) c.new-env.ensures
+      whole = ap (λ env. fold (λ env p. assigned env p.0 p.1) env (pairs_left c.into_iter-name-iterator.result)) c.with_hasher-env.ensures
           ∙ (ap (fold (λ env p. assigned env p.0 p.1) []) left ∙ fold-assigned (pairs_of c.args.body.now));
       each = subst Each (sym left) d.each;
     }

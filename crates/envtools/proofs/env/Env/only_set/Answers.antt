@@ -4,9 +4,17 @@ use Rattle.std.specs.Option.{option_map}
 use Rattle.envimage.specs.Data.{Pair}
 use Rattle.envtools.specs.Environment.{assigned}
 use Rattle.envtools.specs.Importing.{is_set}
+use Rattle.envtools.proofs.DraftLemmas.{IsVariable-at}
 use Rattle.envtools.proofs.ImportLemmas.{set_next, unset_next}
 use Rattle.envtools.proofs.env.Env.only_set.Goals as goal
 use Rattle.envtools.proofs.env.Env.only_set.Goals.{then-not-is_empty+in_ok-assign, else-not-is_empty}
+
+pub assign-requires : goal.assign-requires
+assign-requires c =
+    let p : Pair = (c.unwrap.result.0.now, c.unwrap.result.1.now) in
+    let there : slice_get c.args.self.now c.loop-place.place ≡ Some p =
+    sym c.pair.ensures ∙ ap (option_map (λ p. (p.0.now, p.1.now))) c.unwrap.ensures in
+    IsVariable-at c.args.self.now c.loop-place.place p c.allocator.ensures.each there
 
 pub loop-place-preserved : goal.loop-place-preserved
 loop-place-preserved c =
