@@ -17,6 +17,7 @@ use crate::setting::settings;
 use builtins::is_built_in;
 use commands::{Computed, computes, known_of};
 use indexmap::IndexMap;
+use keyed_hash::KeyedHash;
 use std::alloc::{AllocError, Global};
 use std::marker::Model;
 use text::{Lines, has_nul};
@@ -35,14 +36,17 @@ pub struct Places {
 /// UTF-8's byte order mark.
 const BYTE_ORDER_MARK: [u8; 3] = [0xEF, 0xBB, 0xBF];
 
+/// A map by the names of a list, found by a hash whose key is made from the list.
+pub type ByName<V> = IndexMap<Vec<u8>, V, KeyedHash>;
+
 /// What the list says of each name.
-type Table = IndexMap<Vec<u8>, Listed>;
+type Table = ByName<Listed>;
 
 /// Joins one more `sub` line to the earlier ones with its name and its first word. Errors: memory
 /// ran out.
 fn join_sub(
     alloc: Global,
-    subs: &mut IndexMap<Vec<u8>, Table>,
+    subs: &mut ByName<Table>,
     name: &[u8],
     word: &[u8],
     more: Listed,
@@ -55,7 +59,7 @@ fn join_sub(
         join(alloc, table, word, more)?;
         return Ok(());
     }
-    let mut table = IndexMap::new(alloc);
+    let mut table = IndexMap::with_hasher(alloc, *subs.hasher());
     join(alloc, &mut table, word, more)?;
     let name = Vec::from_slice(alloc, name)?;
     subs.insert(name, table)?;
@@ -69,9 +73,9 @@ pub struct DeviceTables {
     /// By their names.
     commands: Table,
     /// By the name, and then by the first word of a call.
-    subs: IndexMap<Vec<u8>, Table>,
+    subs: ByName<Table>,
     /// The lines of calls, by the name.
-    calls: IndexMap<Vec<u8>, Vec<CallLine>>,
+    calls: ByName<Vec<CallLine>>,
     /// The names of the commands that are computed, each once.
     known: Vec<Vec<u8>>,
     /// Whether the answers of `test -e` stay.
@@ -81,7 +85,7 @@ pub struct DeviceTables {
 /// Adds one more line of calls to the earlier ones with its name. Errors: memory ran out.
 fn add_call(
     alloc: Global,
-    calls: &mut IndexMap<Vec<u8>, Vec<CallLine>>,
+    calls: &mut ByName<Vec<CallLine>>,
     call: Call<'_>,
 ) -> Result<(), AllocError>
     ensures { OnOk result (calls_shown calls.new.entries
@@ -117,7 +121,7 @@ fn join(alloc: Global, table: &mut Table, name: &[u8], mut more: Listed) -> Resu
 }
 
 /// What a table has at a place.
-fn value_at<V>(table: &IndexMap<Vec<u8>, V>, place: Option<usize>) -> Option<&V>
+fn value_at<V>(table: &ByName<V>, place: Option<usize>) -> Option<&V>
     ensures { option_map (λ v. v.now) result ≡ at_place table.now.entries place }
 {
     let (_, value) = table.get_index(place?)?;
@@ -153,15 +157,15 @@ impl DeviceTables {
     ghost use Rattle.device_list.specs.DeviceListAnswers.{Adds, AddsLine, IsListed};
     ghost use Rattle.device_list.specs.NamedPlaces.{IsPlaced, ArePlaced, in_sub, placed_sub, placed_call, placed_line, placed_effect};
 
-    /// A list of no command. Takes no memory.
-    fn new(alloc: Global) -> Self
+    /// A list of no command, whose names will be found by this hash. Takes no memory.
+    fn new(alloc: Global, hasher: KeyedHash) -> Self
         ensures { result ≡ only [] }
     {
         DeviceTables {
             alloc,
-            commands: IndexMap::new(alloc),
-            subs: IndexMap::new(alloc),
-            calls: IndexMap::new(alloc),
+            commands: IndexMap::with_hasher(alloc, hasher),
+            subs: IndexMap::with_hasher(alloc, hasher),
+            calls: IndexMap::with_hasher(alloc, hasher),
             known: Vec::new(alloc),
             test_stays: false,
         }
@@ -174,7 +178,7 @@ impl DeviceTables {
         if text.starts_with(&BYTE_ORDER_MARK) {
             return Err(DevicesError::ByteOrderMark);
         }
-        let mut devices = DeviceTables::new(alloc);
+        let mut devices = DeviceTables::new(alloc, KeyedHash::of(text));
         for (number, line) in Lines::new(text) {
             if let Err(fault) = devices.add_line(number, line) {
                 drop(devices);
@@ -304,7 +308,7 @@ impl DeviceTables {
     /// Adds a name that the tables have at these places. Errors: memory ran out.
     fn add_name(
         &self,
-        names: &mut IndexMap<Vec<u8>, Places>,
+        names: &mut ByName<Places>,
         name: &[u8],
         places: Places,
     ) -> Result<(), AllocError>
@@ -318,10 +322,10 @@ impl DeviceTables {
     }
 
     /// Each name of the tables, and where they have it. Errors: memory ran out.
-    pub fn names(&self) -> Result<IndexMap<Vec<u8>, Places>, AllocError>
+    pub fn names(&self) -> Result<ByName<Places>, AllocError>
         ensures { IfOk result (λ names. ArePlaced self.now names.entries) }
     {
-        let mut names = IndexMap::new(self.alloc);
+        let mut names = IndexMap::with_hasher(self.alloc, *self.commands.hasher());
         let listed = self.commands.keys().chain(self.subs.keys());
         for name in listed.chain(self.calls.keys()) {
             let places = self.places_of(name);

@@ -10,11 +10,10 @@ ghost use Rattle.device_list.specs.DeviceList as spec;
 ghost use Rattle.device_list.specs.NamedPlaces.{ArePlaced, IsPlaced};
 ghost use Rattle.commands.specs.TextsShown.{texts};
 
-use crate::device_tables::{DeviceTables, Places};
+use crate::device_tables::{ByName, DeviceTables, Places};
 use crate::devices_error::DevicesError;
 use crate::listed::Effect;
 use commands::Computed;
-use indexmap::IndexMap;
 use std::alloc::Global;
 use std::marker::Model;
 
@@ -23,7 +22,7 @@ use std::marker::Model;
 pub struct Devices {
     tables: DeviceTables,
     /// Names of the tables, each with where these have it.
-    names: IndexMap<Vec<u8>, Places>,
+    names: ByName<Places>,
     /// Whether each command and `test -e` is steady.
     all_steady: bool,
 }
@@ -40,7 +39,7 @@ impl Model for Devices {
 }
 
 /// Where the tables have the name at a place, if it is this name.
-fn places_at(names: &IndexMap<Vec<u8>, Places>, name: &[u8], place: usize) -> Option<Places>
+fn places_at(names: &ByName<Places>, name: &[u8], place: usize) -> Option<Places>
     ensures { (list : spec.Devices) → ArePlaced list names.now.entries
         → IfSome result (IsPlaced list name.now) }
 {
@@ -116,6 +115,13 @@ impl Devices {
     pub fn effect(&self, name: &[u8], words: &[Vec<u8>]) -> Option<Effect<'_>>
         ensures { option_map lent_effect result ≡ effect_of self.now name.now (texts words.now) }
     {
+        self.effect_near(name, words, self.place_near(name, 0))
+    }
+
+    /// The same, by a look-up in each of the tables.
+    fn effect_in_tables(&self, name: &[u8], words: &[Vec<u8>]) -> Option<Effect<'_>>
+        ensures { option_map lent_effect result ≡ effect_of self.now name.now (texts words.now) }
+    {
         let effect = self.tables.effect(name, words)?;
         Some(effect.steady_if(self.all_steady))
     }
@@ -133,7 +139,7 @@ impl Devices {
         ensures { option_map lent_effect result ≡ effect_of self.now name.now (texts words.now) }
     {
         let Some(places) = places_at(&self.names, name, place) else {
-            return self.effect(name, words);
+            return self.effect_in_tables(name, words);
         };
         let effect = self.tables.placed_effect(places, words)?;
         Some(effect.steady_if(self.all_steady))

@@ -16,4 +16,4 @@ returns c =
     changed-inserted table_shown (joined_behind c.args.word.now (listed_shown c.args.more)) c.args.subs.now.entries _ c.in_ok-name.name c.args.name.now c.join-2.new.table
     c.in_default.ensures.value c.in_ok-name.ensures.items
     (c.in_ok-insert.ensures.entries ∙ ap (λ m. insert_entry same_key m.entries c.in_ok-name.name c.join-2.new.table) c.get_mut.follows.holds-at-none)
-    (c.in_ok-join-2.ensures ∙ ap (λ es. joined_in (commands_shown es) c.args.word.now (listed_shown c.args.more)) c.new-table.ensures.empty)
+    (c.in_ok-join-2.ensures ∙ ap (λ es. joined_in (commands_shown es) c.args.word.now (listed_shown c.args.more)) c.with_hasher-table.ensures.empty)

@@ -3,7 +3,7 @@ use Rattle.device_list.specs.DeviceList.{Devices, steady_effect_if, effect_of}
 use Rattle.device_list.specs.CommandsShown.{lent_effect}
 use Rattle.commands.specs.TextsShown.{texts}
 use Rattle.device_list.proofs.SteadyLemmas.{effect-steady}
-use Rattle.device_list.proofs.devices.Devices.effect.Goals as goal
+use Rattle.device_list.proofs.devices.Devices.effect_in_tables.Goals as goal
 
 pub returns : goal.returns
 returns c =
