@@ -20,31 +20,22 @@ static uint64_t byte(uint64_t state, unsigned char value) {
     return taken(state, value | (uint64_t)value << 8 | (uint64_t)value << 16, 1);
 }
 
-// spelled: the number as the letters of a name, the first one the highest.
-static void spelled(uint64_t number, char name[LENGTH + 1]) {
-    for (int at = LENGTH - 1; at >= 0; at--) {
-        name[at] = (char)('a' + number % 26);
-        number /= 26;
-    }
-    name[LENGTH] = 0;
-}
-
-static uint64_t hashed(const char *name) {
-    uint64_t state = taken(0x243f6a8885a308d3, LENGTH, 8);
-    for (int at = 0; at < LENGTH; at++)
-        state = byte(state, (unsigned char)name[at]);
-    return state ^ state >> 32;
-}
-
 int main(int argc, char **argv) {
     long left = argc > 1 ? atol(argv[1]) : 0;
-    char name[LENGTH + 1];
-    for (uint64_t number = 0; left > 0; number++) {
-        spelled(number, name);
-        if ((hashed(name) & 0xfff) == 0) {
+    char name[] = "aaaaaaaaaa";
+    // The states after so many letters. Those up to the first letter that is new are there from the name before.
+    uint64_t states[LENGTH + 1] = {taken(0x243f6a8885a308d3, LENGTH, 8)};
+    int new = 0;
+    while (left > 0) {
+        for (int at = new; at < LENGTH; at++)
+            states[at + 1] = byte(states[at], (unsigned char)name[at]);
+        if (((states[LENGTH] ^ states[LENGTH] >> 32) & 0xfff) == 0) {
             puts(name);
             left--;
         }
+        for (new = LENGTH - 1; name[new] == 'z'; new--)
+            name[new] = 'a';
+        name[new]++;
     }
     return 0;
 }
