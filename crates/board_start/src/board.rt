@@ -10,6 +10,7 @@ use crate::board_error::BoardError;
 use crate::said::{Said, read_line};
 use crate::start::Start;
 use device_list::{Devices, DevicesError};
+use keyed_hash::KeyedHash;
 use std::alloc::{AllocError, Global};
 use text::Lines;
 
@@ -65,7 +66,7 @@ fn add_line(
 fn read(alloc: Global, text: &[u8]) -> Result<(Start, Vec<u8>), BoardError>
     ensures { IsRead text.now result }
 {
-    let mut start = Start::new(alloc);
+    let mut start = Start::new(alloc, KeyedHash::of(text));
     let mut rest = Vec::new(alloc);
     for (number, line) in Lines::new(text) {
         add_line(alloc, &mut start, &mut rest, number, line)?;

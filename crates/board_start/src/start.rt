@@ -13,6 +13,7 @@ use crate::start_error::StartError;
 use crate::values::{Givens, add_value, count, varies};
 use envtools::Env;
 use indexmap::IndexMap;
+use keyed_hash::KeyedHash;
 use std::alloc::{AllocError, Global};
 use std::marker::Model;
 use text::Escaped;
@@ -88,13 +89,13 @@ impl Start {
     ghost use Rattle.board_start.specs.StartShown.{said_shown};
     ghost use Rattle.board_start.specs.StartAnswers.{Adds, Begins};
 
-    /// Nothing is said. Takes no memory.
-    pub(crate) fn new(alloc: Global) -> Self
+    /// Nothing is said. The names of variables will be found by this hash. Takes no memory.
+    pub(crate) fn new(alloc: Global, hasher: KeyedHash) -> Self
         ensures { result ≡ no_start }
     {
         Start {
             alloc,
-            givens: IndexMap::new(alloc),
+            givens: IndexMap::with_hasher(alloc, hasher),
             before: Vec::new(alloc),
         }
     }

@@ -7,6 +7,7 @@ ghost use Rattle.board_start.specs.StartShown.{givens_shown, values_shown};
 ghost use Rattle.device_list.specs.DeviceList.{changed_at};
 
 use indexmap::IndexMap;
+use keyed_hash::KeyedHash;
 use std::alloc::{AllocError, Global};
 
 /// The values that a variable may have, each once.
@@ -16,8 +17,8 @@ pub(crate) struct Values {
     pub(crate) others: Vec<Vec<u8>>,
 }
 
-/// The variables that are given.
-pub(crate) type Givens = IndexMap<Vec<u8>, Values>;
+/// The variables that are given, found by a hash whose key is made from the list.
+pub(crate) type Givens = IndexMap<Vec<u8>, Values, KeyedHash>;
 
 /// Whether a value is one of these.
 fn is_among(value: &[u8], values: &[Vec<u8>]) -> bool
