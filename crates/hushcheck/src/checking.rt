@@ -21,6 +21,7 @@ use crate::walk::add_script;
 use device_list::Devices;
 use envtools::Env;
 use hushlang::{Script, SyntaxError};
+use keyed_hash::KeyedHash;
 use output::Out;
 use rehearse_terms::Shell;
 use std::alloc::{AllocError, Global};
@@ -189,25 +190,31 @@ fn take_turn<'a, O: Out>(
     Ok(fine)
 }
 
-/// The names that are asked for, and then those that a script runs, if there is one; each once.
-fn names_behind(alloc: Global, asked: &[&[u8]], script: Option<Script>) -> Result<Names, AllocError>
+/// The names that are asked for, and then those that a script runs, if there is one; each once, found by this hash.
+fn names_behind(
+    alloc: Global,
+    asked: &[&[u8]],
+    script: Option<Script>,
+    hasher: KeyedHash,
+) -> Result<Names, AllocError>
     ensures { IfOk result (λ names. names
         ≡ once (map (λ name. name.now) asked.now ++ run_by_found script)) }
 {
-    let mut names = asked_names(alloc, asked)?;
+    let mut names = asked_names(alloc, asked, hasher)?;
     add_found(alloc, script, &mut names)?;
     Ok(names)
 }
 
 /// Checks the variables that are asked for, and those that a script runs, if there is one, and then those
 /// that the text of each in turn runs, and adds what the texts use. Returns whether all is well, as it was
-/// so far.
+/// so far. Names are found by this hash.
 fn check_turns<'a, O: Out>(
     alloc: Global,
     rules: &Rules<'_>,
     env: &'a Env,
     asked: &[&[u8]],
     script: Option<Script>,
+    hasher: KeyedHash,
     so_far: bool,
     used: &mut Vec<Used<'a>>,
     out: &mut O,
@@ -216,7 +223,7 @@ fn check_turns<'a, O: Out>(
         (map (λ name. name.now) asked.now ++ run_by_found script) so_far
         (all_used used.new.items) result (O.sink out.old) (O.sink out.new) }
 {
-    let mut names = names_behind(alloc, asked, script)?;
+    let mut names = names_behind(alloc, asked, script, hasher)?;
     let mut sound = so_far;
     let mut at = 0;
     'names: while at < names.len() {
@@ -242,6 +249,7 @@ fn check_names<'a, O: Out>(
     env: &'a Env,
     asked: &[&[u8]],
     script: Option<Script>,
+    hasher: KeyedHash,
     so_far: bool,
     used: Vec<Used<'a>>,
     out: &mut O,
@@ -251,8 +259,10 @@ fn check_names<'a, O: Out>(
         (O.sink out.old) (O.sink out.new) }
 {
     let mut used = used;
-    let sound = check_turns(alloc, rules, env, asked, script, so_far, &mut used, out)?;
-    let known = set_names(alloc, env, &used)?;
+    let sound = check_turns(
+        alloc, rules, env, asked, script, hasher, so_far, &mut used, out,
+    )?;
+    let known = set_names(alloc, env, &used, hasher)?;
     let unset = write_unset_reads(alloc, known, &used, out)?;
     Ok(is_well(rules.strict, sound, unset))
 }
@@ -279,7 +289,17 @@ pub fn check<O: Out>(
 {
     let so_far = are_set(env, asked);
     let used = Vec::new(alloc);
-    check_names(alloc, rules, env, asked, None, so_far, used, out)
+    check_names(
+        alloc,
+        rules,
+        env,
+        asked,
+        None,
+        env.hasher(),
+        so_far,
+        used,
+        out,
+    )
 }
 
 /// Checks a script that is no variable's text, under this name, and then as `check` the variables that are
@@ -310,5 +330,16 @@ pub fn check_script<'a, O: Out>(
         out,
     )?;
     let so_far = both(are_set(env, asked), checked.fine);
-    check_names(alloc, rules, env, asked, checked.script, so_far, used, out)
+    let hasher = env.hasher().with(text);
+    check_names(
+        alloc,
+        rules,
+        env,
+        asked,
+        checked.script,
+        hasher,
+        so_far,
+        used,
+        out,
+    )
 }

@@ -8,13 +8,14 @@ ghost use Rattle.hushcheck.specs.Order.{once, with_name, with_names};
 
 use envtools::Env;
 use indexmap::IndexSet;
+use keyed_hash::KeyedHash;
 use std::alloc::{AllocError, Global};
 use std::marker::Model;
 
 /// Names in the order in which they came, each once.
 #[derive(Drop)]
 pub(crate) struct Names {
-    names: IndexSet<Vec<u8>>,
+    names: IndexSet<Vec<u8>, KeyedHash>,
 }
 
 impl Model for Names {
@@ -26,12 +27,12 @@ impl Model for Names {
 }
 
 impl Names {
-    /// No names.
-    pub(crate) fn new(alloc: Global) -> Names
+    /// No names. They will be found by this hash.
+    pub(crate) fn new(alloc: Global, hasher: KeyedHash) -> Names
         ensures { result ≡ [] }
     {
         Names {
-            names: IndexSet::new(alloc),
+            names: IndexSet::with_hasher(alloc, hasher),
         }
     }
 
@@ -93,12 +94,12 @@ impl Names {
     }
 }
 
-/// The names of the variables of an environment. Errors: memory ran out.
-pub(crate) fn names_of(alloc: Global, env: &Env) -> Result<Names, AllocError>
+/// The names of the variables of an environment, found by this hash. Errors: memory ran out.
+pub(crate) fn names_of(alloc: Global, env: &Env, hasher: KeyedHash) -> Result<Names, AllocError>
     ensures { IfOk result (λ names. names ≡ once (map (λ p. p.0) env.now)) }
 {
     let pairs = env.pairs()?;
-    let mut names = Names::new(alloc);
+    let mut names = Names::new(alloc, hasher);
     for pair in &pairs {
         if let Err(error) = names.add_copy(alloc, pair.0) {
             drop(names);
@@ -108,11 +109,15 @@ pub(crate) fn names_of(alloc: Global, env: &Env) -> Result<Names, AllocError>
     Ok(names)
 }
 
-/// The names that are asked for, each once.
-pub(crate) fn asked_names(alloc: Global, asked: &[&[u8]]) -> Result<Names, AllocError>
+/// The names that are asked for, each once, found by this hash.
+pub(crate) fn asked_names(
+    alloc: Global,
+    asked: &[&[u8]],
+    hasher: KeyedHash,
+) -> Result<Names, AllocError>
     ensures { IfOk result (λ names. names ≡ once (map (λ name. name.now) asked.now)) }
 {
-    let mut names = Names::new(alloc);
+    let mut names = Names::new(alloc, hasher);
     for name in asked {
         if let Err(error) = names.add_copy(alloc, name) {
             drop(names);

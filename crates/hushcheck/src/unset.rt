@@ -13,6 +13,7 @@ use crate::names::{Names, names_of};
 use crate::remark::{Found, Read, Remark};
 use crate::telling::write_found;
 use envtools::Env;
+use keyed_hash::KeyedHash;
 use output::Out;
 use std::alloc::{AllocError, Global};
 
@@ -66,11 +67,16 @@ fn add_sets(alloc: Global, names: &mut Names, used: &[Used<'_>]) -> Result<(), A
     Ok(())
 }
 
-/// The names that something sets. Errors: memory ran out.
-pub(crate) fn set_names(alloc: Global, env: &Env, used: &[Used<'_>]) -> Result<Names, AllocError>
+/// The names that something sets, found by this hash. Errors: memory ran out.
+pub(crate) fn set_names(
+    alloc: Global,
+    env: &Env,
+    used: &[Used<'_>],
+    hasher: KeyedHash,
+) -> Result<Names, AllocError>
     ensures { IfOk result (λ names. names ≡ spec.set_names env.now (all_used used.now)) }
 {
-    let mut names = names_of(alloc, env)?;
+    let mut names = names_of(alloc, env, hasher)?;
     add_sets(alloc, &mut names, used)?;
     Ok(names)
 }

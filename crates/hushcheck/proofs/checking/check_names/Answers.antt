@@ -4,9 +4,22 @@ use Rattle.hushcheck.specs.Names.{run_by_found}
 use Rattle.hushcheck.specs.Report.{lacks_set, last_lines}
 use Rattle.hushcheck.specs.Unset.{has_unset, set_names, unset_lines}
 use Rattle.hushcheck.specs.UsedShown.{all_used}
-use Rattle.hushcheck.proofs.TellingLemmas.{stops-as, wrote-as}
+use Rattle.hushcheck.specs.declared.check_error.CheckError.TheVariants.{Memory}
+use Rattle.hushcheck.proofs.TellingLemmas.{front-nothing, stops-as, wrote-as}
 use Rattle.hushcheck.proofs.UnsetLemmas.{last-broke, last-wrote}
 use Rattle.hushcheck.proofs.checking.check_names.Goals as goal
+
+pub returns-in_err-known : goal.returns-in_err-known
+returns-in_err-known g c =
+    let rules = c.args.rules.now in
+    let env = c.args.env.now in
+    let before = all_used c.args.used.items in
+    let asked = map (λ name. name.now) c.args.asked.now ++ run_by_found c.args.script in
+    let used = all_used c.check_turns.new.used.items in
+    let mid = g.O.Out.sink c.check_turns.new.out in
+    let p = err_from_is_err_and c.from_residual-in_err-known.result c.from_residual-in_err-known.ensures.1 in
+    rw (p.1, p.2) (last-broke rules env before asked c.args.so_far used c.in_ok-sound.sound Memory (g.O.Out.sink c.args.out.now) mid mid c.in_ok-sound.ensures
+    (front-nothing mid (last_lines env used)))
 
 pub returns-in_err-unset : goal.returns-in_err-unset
 returns-in_err-unset g c =
