@@ -145,12 +145,12 @@ pub passed_on : {A : Type 0} (P : SumError → Type 0) (r : Result A SumError) (
 passed_on {A} P r e is h = subst (λ (x : Result A SumError). IfErr x P) (sym is) h
 
 -- as many steps as the states that were entered have room for
-pub too_costly : (names : List Text) (task : Task) (begun : List Asked) (table : Table) (work steps : ℕ) → HasEntered names task begun table → work < steps → Room steps table.visited → ComesToSteps names task work
-too_costly names task begun table work steps h more room = (table.visited, (h.0, begun, h.1.many, h.1.apart), omega (arith, more, room))
+pub too_costly : (names : List Text) (task : Task) (begun : List Asked) (table : Table) (work steps : ℕ) → HasEntered names task begun table → work < steps → Room steps table.visited → ComesToSteps names task table.visited work
+too_costly names task begun table work steps h more room = ((h.0, begun, h.1.many, h.1.apart), omega (arith, more, room))
 
 -- before a state was entered
-pub costly_at_once : (names : List Text) (task : Task) (work steps : ℕ) → work < steps → steps ≤ most_steps → ComesToSteps names task work
-costly_at_once names task work steps more within = (0, ([], [], refl, record { found = tt; met = tt; unlike = tt; anew = tt; one_run = tt }), omega arith)
+pub costly_at_once : (names : List Text) (task : Task) (work steps : ℕ) → work < steps → steps ≤ most_steps → ComesToSteps names task 0 work
+costly_at_once names task work steps more within = (([], [], refl, record { found = tt; met = tt; unlike = tt; anew = tt; one_run = tt }), omega arith)
 
 -- ---- a state that was searched
 

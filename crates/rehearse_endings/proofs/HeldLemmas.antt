@@ -1,5 +1,5 @@
 -- The states that the table holds, and how many bytes they count.
-use Rattle.std.proofs.Common.{ℕ, ◌+◌, ◌<◌, List, [], ◌∷◌, ◌++◌, length, reverse, map, sum_by, refl, sym, ap, subst, ◌∙◌, ◌≡◌, arith}
+use Rattle.std.proofs.Common.{ℕ, ◌+◌, ◌<◌, List, [], ◌∷◌, ◌++◌, length, reverse, map, sum_by, refl, sym, ap, subst, ◌∙◌, ◌≡◌, arith, length-append}
 use Rattle.std.specs.List.{AllByRecursion}
 use Rattle.std.proofs.lemmas.List.{length-map, length-reverse, map-append}
 use Rattle.std.proofs.lemmas.List.Sums.{sum_by-append, sum_by-cons}
@@ -71,16 +71,14 @@ holds_all (s ∷ searched) (e ∷ entries) h =
       sizes = omega (arith, same, a, b, c);
     }
 
--- without the states whose search has begun
-none_begun : (names : List Text) (task : Task) (searched : List Searched) (begun : List Asked) → AreApart names task searched begun → AreApart names task searched []
-none_begun names task searched begun apart = record { found = apart.found; met = tt; unlike = apart.unlike; anew = tt; one_run = tt }
-
 -- the states that have entries, and one that was searched but has no room
 pub too_large : (names : List Text) (task : Task) (p : OutcomeWord) (m : Moment) (begun : List Asked) (table : Table) (keys : List Key) (shown : Summary) → HasEntered names task ((p, m) ∷ begun) table → HasNoRoom table.room m keys
-    → AreEnoughAt task.limits names m keys → SummedFrom names task.limits Asks m shown → ComesToBytes names task (most_held table)
+    → AreEnoughAt task.limits names m keys → SummedFrom names task.limits Asks m shown → ComesToBytes names task table.visited (most_held table)
 too_large names task p m begun table keys shown has none enough summed = (
   all.states ++ one ∷ [],
-  (subst (λ (ss : List Searched). AreApart names task ss []) (sym are) (none_begun names task (has.0 ++ s ∷ []) begun apart), all_and IsHeld all.states (one ∷ []) all.known (record { known = none.1; keys = none.2 }, tt)),
+  begun,
+  (let a = length-append all.states (one ∷ []) in let b = length-map all.states (λ (h : Held). h.state) in let c = ap length all.are in let d = has.1.many in omega (arith, a, b, c, d)),
+  (subst (λ (ss : List Searched). AreApart names task ss begun) (sym are) apart, all_and IsHeld all.states (one ∷ []) all.known (record { known = none.1; keys = none.2 }, tt)),
   (let a = sum_by-append size_of_held all.states (one ∷ []) in let b = all.sizes in let c = none.3 in omega (arith, a, b, c)),
 )
   where

@@ -469,8 +469,8 @@ begun_lost r₀ r r₁ r₂ back r₃ v₀ v₁ v₂ marked on within room visit
     begun_behind r₀ r r₁ r₂ back r₃ v₀ v₁ v₂ marked on within room visited grows returns (begun_on back r₃ lost within')
 
 -- the steps are not many more than allowed
-pub spent_by : (work : ℕ) (r r₁ : Record) → r.begun ≤ work → work < r₁.begun → r₁.begun ≤ r.begun + most_steps → IsSpent work r₁
-spent_by work r r₁ allowed more on = (more, omega (arith, allowed, on))
+pub spent_by : (work count : ℕ) (r r₁ : Record) (table : Table) → r.begun ≤ work → work < r₁.begun → r₁.begun ≤ r.begun + most_steps → count ≡ table.visited → IsSpent work count r₁ table
+spent_by work count r r₁ table allowed more on counted = (more, omega (arith, allowed, on), counted)
 
 -- the steps of both sides, and of the state itself
 pub begun_sides : (r₀ r r₁ r₂ back r₃ r₄ : Record) (v₀ v₁ v₂ v₃ v₄ : ℕ) → r ≡ with_mark r₀ → r₁.begun + r.present.steps ≡ r.begun + r₁.present.steps → r₁.present.steps ≤ most_steps → v₁ ≡ v₀ + 1

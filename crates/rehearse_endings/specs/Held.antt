@@ -9,7 +9,7 @@ use Rattle.rehearse_reads.specs.Keys.{Key}
 use Rattle.rehearse_reports.specs.Known.{AllHold, keys_of}
 use Rattle.rehearse_reports.specs.declared.known.Known.{Known}
 use Rattle.rehearse_reports.specs.declared.known.Known.TheVariants.{Environment, Local, AnswerTo, Succeeded, Status}
-use Rattle.rehearse_endings.specs.States.{AreApart, Searched}
+use Rattle.rehearse_endings.specs.States.{AreApart, Asked, Searched}
 use Rattle.rehearse_endings.specs.declared.table.Entry.{Entry}
 use Rattle.rehearse_endings.specs.declared.table.Table.{Table}
 
@@ -69,15 +69,17 @@ pub record IsHeld (h : Held) : Type 0 where
 abbrev pub size_of_held : Held → ℕ
 size_of_held h = size_of h.state.asked.1.frames h.known
 
--- states, no two alike, to which runs of the task come, each with what is known at its keys
-abbrev pub AreHeld : (names : List Text) → Task → List Held → Type 0
-AreHeld names task states = AreApart names task (map (λ h. h.state) states) [] × AllByRecursion IsHeld states
+-- states that were searched, each with what is known at its keys, and states on one run whose search has begun: runs of the task
+-- come to all of them, and no two are alike
+abbrev pub AreHeld : (names : List Text) → Task → List Held → (begun : List Asked) → Type 0
+AreHeld names task states begun = AreApart names task (map (λ h. h.state) states) begun × AllByRecursion IsHeld states
 
--- such states, whose sizes sum to more than this
-abbrev pub ComesToBytes : (names : List Text) → Task → (bytes : ℕ) → Type 0
-ComesToBytes names task bytes = (states : List Held) × AreHeld names task states × (bytes < sum_by size_of_held states)
+-- this many, of which those that were searched have sizes that sum to more than this
+abbrev pub ComesToBytes : (names : List Text) → Task → (count bytes : ℕ) → Type 0
+ComesToBytes names task count bytes = (states : List Held) × (begun : List Asked) × (length states + length begun ≡ count)
+    × AreHeld names task states begun × (bytes < sum_by size_of_held states)
 
--- this many of them, whose sizes sum to no more than this
+-- this many, which were all searched, and whose sizes sum to no more than this
 abbrev pub HoldsStates : (names : List Text) → Task → (count bytes : ℕ) → Type 0
 HoldsStates names task count bytes =
-    (states : List Held) × (length states ≡ count) × AreHeld names task states × (sum_by size_of_held states ≤ bytes)
+    (states : List Held) × (length states ≡ count) × AreHeld names task states [] × (sum_by size_of_held states ≤ bytes)

@@ -12,7 +12,7 @@ use Rattle.rehearse_states.specs.Drawing.{HasMore, nodes_shown}
 use Rattle.rehearse_states.specs.Summaries.{Summary}
 use Rattle.rehearse_states.specs.SumNodes.{HasMoreSums, IsSummary, sums_shown}
 use Rattle.rehearse_endings.specs.Searching.{SummedFrom, seen_from, AreEntries}
-use Rattle.rehearse_endings.specs.Held.{most_held}
+use Rattle.rehearse_endings.specs.Held.{ComesToBytes, most_held}
 use Rattle.rehearse_endings.specs.Indexed.{AreNoted}
 use Rattle.rehearse_endings.specs.States.{Asked, ComesBy, HasEntered}
 use Rattle.rehearse_reports.specs.Following.{AreEnoughAtStop}
@@ -20,9 +20,13 @@ use Rattle.rehearse_reports.specs.ReportsShown.{keys_shown}
 use Rattle.rehearse_endings.specs.declared.table.Future.{Future}
 use Rattle.rehearse_endings.specs.declared.table.Table.{Table}
 
--- more steps were begun than allowed, by one stretch at most
-abbrev pub IsSpent : (work : ℕ) → Record → Type 0
-IsSpent work r = (work < r.begun) × (r.begun ≤ work + most_steps)
+-- more steps were begun than allowed, by one stretch at most, when this many states were entered
+abbrev pub IsSpent : (work count : ℕ) → Record → Table → Type 0
+IsSpent work count r table = (work < r.begun) × (r.begun ≤ work + most_steps) × (count ≡ table.visited)
+
+-- the states that were searched count more bytes than allowed, when this many were entered
+abbrev pub IsFull : (names : List Text) → Task → (count bytes : ℕ) → Table → Type 0
+IsFull names task count bytes table = (count ≡ table.visited) × ComesToBytes names task count bytes
 
 -- everything after the stop is searched: the summary says what is to come, the keys are enough for it, and the table has what was entered
 pub record IsSearched (names : List Text) (task : Task) (stop : Stop) (old new : Record) (before after : Table) (f : Future) : Type 0 where

@@ -83,10 +83,9 @@ abbrev pub ComesToStates : (names : List Text) → Task → (count : ℕ) → Ty
 ComesToStates names task count =
     (searched : List Searched) × (begun : List Asked) × (length searched + length begun ≡ count) × AreApart names task searched begun
 
--- so many that at most two stretches of steps from each of them, and one from the start, may begin more steps than this
-abbrev pub ComesToSteps : (names : List Text) → Task → (steps : ℕ) → Type 0
-ComesToSteps names task steps =
-    (count : ℕ) × ComesToStates names task count × (steps < (2 * count + 1) * most_steps)
+-- this many, and at most two stretches of steps from each of them, and one from the start, may begin more steps than this
+abbrev pub ComesToSteps : (names : List Text) → Task → (count steps : ℕ) → Type 0
+ComesToSteps names task count steps = ComesToStates names task count × (steps < (2 * count + 1) * most_steps)
 
 -- ---- while the search goes on
 

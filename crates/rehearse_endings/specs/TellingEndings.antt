@@ -46,20 +46,20 @@ AreLines names flow most bytes found text = (task : Task) × (states : ℕ) × (
 abbrev pub HasMoreStates : (names : List Text) → (most : ℕ) → Option Task → Type 0
 HasMoreStates names most found = (task : Task) × (found ≡ Some task) × ComesToStates names (unheard task) (most + 1)
 
--- the runs of the task come to so many states, no two of them alike, that their stretches may begin more steps than allowed
-abbrev pub HasMoreSteps : (names : List Text) → (work : ℕ) → Option Task → Type 0
-HasMoreSteps names work found = (task : Task) × (found ≡ Some task) × ComesToSteps names (unheard task) work
+-- the runs of the task come to this many states, no two of them alike, whose stretches may begin more steps than allowed
+abbrev pub HasMoreSteps : (names : List Text) → (count work : ℕ) → Option Task → Type 0
+HasMoreSteps names count work found = (task : Task) × (found ≡ Some task) × ComesToSteps names (unheard task) count work
 
--- the runs of the task come to states, no two of them alike, that count more bytes than allowed
-abbrev pub HasMoreBytes : (names : List Text) → (bytes : ℕ) → Option Task → Type 0
-HasMoreBytes names bytes found = (task : Task) × (found ≡ Some task) × ComesToBytes names (unheard task) bytes
+-- the runs of the task come to this many states, no two of them alike, and those that were searched count more bytes than allowed
+abbrev pub HasMoreBytes : (names : List Text) → (count bytes : ℕ) → Option Task → Type 0
+HasMoreBytes names count bytes found = (task : Task) × (found ≡ Some task) × ComesToBytes names (unheard task) count bytes
 
 -- why there are no lines
 abbrev pub IsUntold : (names : List Text) → (most work bytes : ℕ) → Option Task → RehearseError → Type 0
 IsUntold names most work bytes found NoSuchVariable = found ≡ None
 IsUntold names most work bytes found States = HasMoreStates names most found
-IsUntold names most work bytes found Steps = HasMoreSteps names work found
-IsUntold names most work bytes found Bytes = HasMoreBytes names bytes found
+IsUntold names most work bytes found (Steps count) = HasMoreSteps names count work found
+IsUntold names most work bytes found (Bytes count) = HasMoreBytes names count bytes found
 IsUntold names most work bytes found Memory = Unit {0}
 IsUntold names most work bytes found _ = ⊥
 
@@ -76,8 +76,8 @@ BreaksOff found ask old new =
 abbrev pub RefusesEndings : (found : Option Task) → EndingsAsk → (old new : Sink) → RehearseError → Type 0
 RefusesEndings found ask old new NoSuchVariable = (found ≡ None) × (new ≡ old)
 RefusesEndings found ask old new States = HasMoreStates (names_of ask) ask.states found × (new ≡ old)
-RefusesEndings found ask old new Steps = HasMoreSteps (names_of ask) ask.work found × (new ≡ old)
-RefusesEndings found ask old new Bytes = HasMoreBytes (names_of ask) ask.memory found × (new ≡ old)
+RefusesEndings found ask old new (Steps count) = HasMoreSteps (names_of ask) count ask.work found × (new ≡ old)
+RefusesEndings found ask old new (Bytes count) = HasMoreBytes (names_of ask) count ask.memory found × (new ≡ old)
 RefusesEndings found ask old new Write = BreaksOff found ask old new
 RefusesEndings found ask old new Memory = new ≡ old
 RefusesEndings found ask old new _ = ⊥

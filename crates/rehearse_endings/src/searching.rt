@@ -1,5 +1,5 @@
 //! The search through the states in which device commands ask.
-ghost use Rattle.std.specs.Prelude.{◌≡◌, ◌≢◌, ◌+◌, ◌*◌, ◌≤◌, ◌<◌, ◌^◌, true, false, List, [], ◌∷◌, length, map, IfOk, IfErr, OnOk};
+ghost use Rattle.std.specs.Prelude.{ℕ, ◌≡◌, ◌≢◌, ◌+◌, ◌*◌, ◌≤◌, ◌<◌, ◌^◌, true, false, List, [], ◌∷◌, length, map, IfOk, IfErr, OnOk};
 ghost use Rattle.rehearse_terms.specs.Bounds.{most_steps};
 ghost use Rattle.rehearse_terms.specs.Outcomes.{OutcomeWord};
 ghost use Rattle.rehearse_machine.specs.Came.{settled};
@@ -19,8 +19,8 @@ ghost use Rattle.rehearse_endings.specs.Searching.{IsReached, AreEntries, IsKept
 ghost use Rattle.rehearse_endings.specs.Indexed.{AreNoted};
 ghost use Rattle.rehearse_endings.specs.States.{Asked, ComesBy, ComesToStates, ComesToSteps, HasEntered, HasStates};
 ghost use Rattle.rehearse_states.specs.PlaceNumbers.{place_number};
-ghost use Rattle.rehearse_endings.specs.Searched.{IsSearched, IsSpent};
-ghost use Rattle.rehearse_endings.specs.declared.sum_error.SumError.TheVariants.{Bytes, States, Steps};
+ghost use Rattle.rehearse_endings.specs.Searched.{IsFull, IsSearched, IsSpent};
+ghost use Rattle.rehearse_endings.specs.declared.sum_error.SumError.TheVariants.{Bytes, Memory, States, Steps};
 
 use crate::keys::{keys_at_end, keys_of_both};
 use crate::sum_error::SumError;
@@ -54,7 +54,8 @@ fn logged<S: Store>(store: &S) -> u32
 }
 
 /// Keeps the summary of a state in which a device command asked, with the values of keys that are enough
-/// for it. Returns these keys. Errors: `Memory`; `Bytes`, only if that has no room.
+/// for it. Returns these keys. Errors: `Memory`; `Bytes`, only if that has no room, with the number of states that were
+/// entered.
 fn keep<S: Store>(
     alloc: Global,
     store: &S,
@@ -65,9 +66,10 @@ fn keep<S: Store>(
     summary: Summary,
 ) -> Result<Vec<Key>, SumError>
     requires { hash ≡ place_number (S.record_of store.now).present.frames }
-    ensures err { IfErr result (λ e. (e ≢ States) × (e ≢ Steps)) }
-    ensures full { IfErr result
-        (λ e. e ≡ Bytes → HasNoRoom table.old.room (S.record_of store.now).present (keys_shown keys.items)) }
+    ensures err { IfErr result (λ e. (e ≢ States) × ((count : ℕ) → e ≢ Steps count)) }
+    ensures full { (count : ℕ) → IfErr result
+        (λ e. e ≡ Bytes count → HasNoRoom table.old.room (S.record_of store.now).present (keys_shown keys.items)) }
+    ensures counted { (count : ℕ) → IfErr result (λ e. e ≡ Bytes count → count ≡ table.old.visited) }
     ensures keys { IfOk result (λ kept. keys_shown kept.items ≡ keys_shown keys.items) }
     ensures kept { OnOk result (IsKeptAt table.old.entries.items table.new.entries.items
         (S.record_of store.now).present (keys_shown keys.items) devices summary) }
@@ -93,13 +95,14 @@ fn is_spent<S: Store>(store: &S, most_work: u32) -> bool
     store.begun() > u64::from(most_work)
 }
 
-/// Gives the device command that asks an outcome, and goes on until the text stops again. Errors: `Memory`; `Steps`,
-/// behind the stretch with which more steps were begun than allowed.
+/// Gives the device command that asks an outcome, and goes on until the text stops again. So many states were entered
+/// before. Errors: `Memory`; `Steps` with this number, behind the stretch with which more steps were begun than allowed.
 fn resumed<S: Store>(
     rehearsal: &Rehearsal<'_>,
     reported: &mut Reported,
     store: &mut S,
     most_work: u32,
+    entered: u32,
     success: bool,
 ) -> Result<Stop, SumError>
     requires asks { IsAsking (task_in rehearsal.now).limits (S.record_of store.old).present }
@@ -118,14 +121,15 @@ fn resumed<S: Store>(
         (outcome_when success) (S.record_of store.old).present stop
         (S.record_of store.new).present (accesses_shown reported.new)) }
     ensures worked { OnOk result ((S.record_of store.new).begun ≤ most_work) }
-    ensures err { IfErr result (λ e. (e ≢ States) × (e ≢ Bytes)) }
-    ensures spent { IfErr result (λ e. e ≡ Steps → most_work < (S.record_of store.new).begun) }
-    ensures soon { IfErr result
-        (λ e. e ≡ Steps → (S.record_of store.new).begun ≤ (S.record_of store.old).begun + most_steps) }
+    ensures err { IfErr result (λ e. (e ≢ States) × ((count : ℕ) → e ≢ Bytes count)) }
+    ensures spent { (count : ℕ) → IfErr result (λ e. e ≡ Steps count → most_work < (S.record_of store.new).begun) }
+    ensures soon { (count : ℕ) → IfErr result
+        (λ e. e ≡ Steps count → (S.record_of store.new).begun ≤ (S.record_of store.old).begun + most_steps) }
+    ensures counted { (count : ℕ) → IfErr result (λ e. e ≡ Steps count → count ≡ entered) }
 {
     let stop = resume_reported(rehearsal, reported, store, success)?;
     if is_spent(store, most_work) {
-        return Err(SumError::Steps);
+        return Err(SumError::Steps(entered));
     }
     Ok(stop)
 }
@@ -140,14 +144,15 @@ fn begin_text<S: Store>(rehearsal: &Rehearsal<'_>, store: &mut S) -> Result<Stop
         ((S.record_of store.new).begun ≡ (S.record_of store.old).begun +
         (S.record_of store.new).present.steps) }
     ensures within { OnOk result ((S.record_of store.new).present.steps ≤ most_steps) }
-    ensures err { IfErr result (λ e. (e ≢ States) × (e ≢ Steps) × (e ≢ Bytes)) }
+    ensures err { IfErr result (λ e. e ≡ Memory) }
 {
     let stop = begin_watched(rehearsal, store)?;
     Ok(stop)
 }
 
 /// What is to come of a text that has stopped: the summary, and keys that are enough for it. States that
-/// are in the table are not searched again. Errors: `Memory`, `States`, `Steps`, `Bytes`.
+/// are in the table are not searched again. Errors: `Memory`, `States`; `Steps` and `Bytes`, each with the number of
+/// states that were entered by then.
 fn summed<S: Store>(
     rehearsal: &Rehearsal<'_>,
     store: &mut S,
@@ -174,15 +179,17 @@ fn summed<S: Store>(
         → HasEntered (map (λ n. n.now) names.now) (task_in rehearsal.now) begun table.old
         → IfErr result (λ e. e ≡ States → ComesToStates (map (λ n. n.now) names.now) (task_in rehearsal.now) (table.old.most + 1)) }
     ensures worked { OnOk result ((S.record_of store.new).begun ≤ most_work) }
-    ensures spent { IfErr result (λ e. e ≡ Steps → IsSpent most_work (S.record_of store.new)) }
-    ensures costly { (p : OutcomeWord) (begun : List Asked)
+    ensures spent { (count : ℕ) → IfErr result
+        (λ e. e ≡ Steps count → IsSpent most_work count (S.record_of store.new) table.new) }
+    ensures costly { (count : ℕ) (p : OutcomeWord) (begun : List Asked)
         → StoppedAt (task_in rehearsal.now) p stop (S.record_of store.old).present → ComesBy p begun
         → HasEntered (map (λ n. n.now) names.now) (task_in rehearsal.now) begun table.old
-        → IfErr result (λ e. e ≡ Steps → ComesToSteps (map (λ n. n.now) names.now) (task_in rehearsal.now) most_work) }
-    ensures large { (p : OutcomeWord) (begun : List Asked)
+        → IfErr result (λ e. e ≡ Steps count → ComesToSteps (map (λ n. n.now) names.now) (task_in rehearsal.now) count most_work) }
+    ensures large { (count : ℕ) (p : OutcomeWord) (begun : List Asked)
         → StoppedAt (task_in rehearsal.now) p stop (S.record_of store.old).present → ComesBy p begun
         → HasEntered (map (λ n. n.now) names.now) (task_in rehearsal.now) begun table.old
-        → IfErr result (λ e. e ≡ Bytes → ComesToBytes (map (λ n. n.now) names.now) (task_in rehearsal.now) (most_held table.old)) }
+        → IfErr result (λ e. e ≡ Bytes count
+        → IsFull (map (λ n. n.now) names.now) (task_in rehearsal.now) count (most_held table.old) table.new) }
 {
     let devices = logged(store);
     match stop {
@@ -217,7 +224,8 @@ fn summed<S: Store>(
             store.mark()?;
             store.mark()?;
             let mut won_way = Reported::new(rehearsal.alloc);
-            let won_stop = resumed(rehearsal, &mut won_way, store, most_work, true)?;
+            let entered = table.visited;
+            let won_stop = resumed(rehearsal, &mut won_way, store, most_work, entered, true)?;
             let words = words_at(rehearsal.alloc, store, devices)?;
             let won = summed(
                 rehearsal,
@@ -230,7 +238,8 @@ fn summed<S: Store>(
             )?;
             store.back();
             let mut lost_way = Reported::new(rehearsal.alloc);
-            let lost_stop = resumed(rehearsal, &mut lost_way, store, most_work, false)?;
+            let entered = table.visited;
+            let lost_stop = resumed(rehearsal, &mut lost_way, store, most_work, entered, false)?;
             let lost = summed(
                 rehearsal,
                 store,
@@ -277,7 +286,8 @@ fn summed<S: Store>(
 /// the runs come to more states than allowed, no two of them alike: at the same place, with the same at the keys
 /// that were found to be enough, and with room for the same runs. Returns `Steps` behind the first stretch with which
 /// more steps were begun than allowed, in all stretches together. Returns `Bytes` if the states that were searched
-/// count more bytes than allowed, each by its frames and what is known at its keys.
+/// count more bytes than allowed, each by its frames and what is known at its keys. Both have the number of states that
+/// were entered by then, no two of them alike.
 /// Errors: `Memory`, `States`, `Steps`, `Bytes`.
 pub fn sum_endings<S: Store>(
     rehearsal: &Rehearsal<'_>,
@@ -302,18 +312,19 @@ pub fn sum_endings<S: Store>(
     ensures once { IfOk result
         (λ e. (S.record_of store.new).begun ≤ (2 * e.states + 1) * most_steps) }
     ensures worked { OnOk result ((S.record_of store.new).begun ≤ most_work) }
-    ensures spent { IfErr result (λ e. e ≡ Steps → most_work < (S.record_of store.new).begun) }
-    ensures soon { IfErr result (λ e. e ≡ Steps → (S.record_of store.new).begun ≤ most_work + most_steps) }
-    ensures costly { IfErr result (λ e. e ≡ Steps
-        → ComesToSteps (map (λ n. n.now) names.now) (task_in rehearsal.now) most_work) }
+    ensures spent { (count : ℕ) → IfErr result (λ e. e ≡ Steps count → most_work < (S.record_of store.new).begun) }
+    ensures soon { (count : ℕ) → IfErr result
+        (λ e. e ≡ Steps count → (S.record_of store.new).begun ≤ most_work + most_steps) }
+    ensures costly { (count : ℕ) → IfErr result (λ e. e ≡ Steps count
+        → ComesToSteps (map (λ n. n.now) names.now) (task_in rehearsal.now) count most_work) }
     ensures held { IfOk result
         (λ e. HoldsStates (map (λ n. n.now) names.now) (task_in rehearsal.now) e.states most_bytes) }
-    ensures large { IfErr result (λ e. e ≡ Bytes
-        → ComesToBytes (map (λ n. n.now) names.now) (task_in rehearsal.now) most_bytes) }
+    ensures large { (count : ℕ) → IfErr result (λ e. e ≡ Bytes count
+        → ComesToBytes (map (λ n. n.now) names.now) (task_in rehearsal.now) count most_bytes) }
 {
     let stop = begin_text(rehearsal, store)?;
     if is_spent(store, most_work) {
-        return Err(SumError::Steps);
+        return Err(SumError::Steps(0));
     }
     let mut table = Table::new(rehearsal.alloc, most_states, most_bytes);
     let future = summed(rehearsal, store, &mut table, names, most_work, 0, stop)?;

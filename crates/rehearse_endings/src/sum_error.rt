@@ -15,12 +15,12 @@ pub enum SumError {
     /// There are more states than allowed.
     #[error("more states than allowed")]
     States,
-    /// More steps are begun than allowed.
-    #[error("more steps than allowed")]
-    Steps,
-    /// The states that are kept count more bytes than allowed.
-    #[error("more memory than allowed")]
-    Bytes,
+    /// More steps are begun than allowed, when so many states were entered.
+    #[error("more steps than allowed (states: {0})")]
+    Steps(u32),
+    /// The states that are kept count more bytes than allowed, when so many were entered.
+    #[error("more memory than allowed (states: {0})")]
+    Bytes(u32),
 }
 
 impl From<StoreError> for SumError {

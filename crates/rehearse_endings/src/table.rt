@@ -1,5 +1,5 @@
 //! The table of the states in which device commands asked.
-ghost use Rattle.std.specs.Prelude.{◌≡◌, ◌≢◌, ◌≤◌, ◌<◌, ◌+◌, ◌++◌, ◌∷◌, ◌^◌, IfOk, IfErr, OnOk, MatchOption, IsTrue, List, length, map, reverse, [], option_map, Some, ◌-◌};
+ghost use Rattle.std.specs.Prelude.{ℕ, ◌≡◌, ◌≢◌, ◌≤◌, ◌<◌, ◌+◌, ◌++◌, ◌∷◌, ◌^◌, IfOk, IfErr, OnOk, MatchOption, IsTrue, List, length, map, reverse, [], option_map, Some, ◌-◌};
 ghost use Rattle.std.specs.List.{slice_get};
 ghost use Rattle.rehearse_machine.specs.Machine.{IsAsking};
 ghost use Rattle.rehearse_machine.specs.MovesShown.{limits_of};
@@ -321,7 +321,7 @@ impl Table {
     }
 
     /// Keeps the summary of a state in which a device command asked, whose place has this number. Errors: `Bytes`,
-    /// exactly if the state has no room, and then nothing changes; `Memory`.
+    /// exactly if the state has no room, with the number of states that were entered, and then nothing changes; `Memory`.
     pub(crate) fn keep(
         &mut self,
         alloc: Global,
@@ -333,9 +333,10 @@ impl Table {
         summary: Summary,
     ) -> Result<(), SumError>
         requires { place ≡ place_number (reverse frames.items) }
-        ensures err { IfErr result (λ e. (e ≢ States) × (e ≢ Steps)) }
-        ensures full { IfErr result (λ e. e ≡ Bytes → self.old.room < size_of frames.items known.items) }
-        ensures limit { self.old.room < size_of frames.items known.items → (result ≡ Err Bytes) × (self.new ≡ self.old) }
+        ensures err { IfErr result (λ e. (e ≢ States) × ((count : ℕ) → e ≢ Steps count)) }
+        ensures full { (count : ℕ) → IfErr result (λ e. e ≡ Bytes count → self.old.room < size_of frames.items known.items) }
+        ensures limit { self.old.room < size_of frames.items known.items
+            → (result ≡ Err (Bytes self.old.visited)) × (self.new ≡ self.old) }
         ensures kept { OnOk result
             (IsKept self.old.entries.items self.new.entries.items frames.items known.items steps devices
             summary) }
@@ -347,7 +348,7 @@ impl Table {
         ensures most { self.new.most ≡ self.old.most }
     {
         let Some(left) = behind_state(self.room, &frames, &known) else {
-            return Err(SumError::Bytes);
+            return Err(SumError::Bytes(self.visited));
         };
         let at = self.entries.len();
         let number = self.note_ways(alloc, place, &known, at)?;

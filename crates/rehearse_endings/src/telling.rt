@@ -1,5 +1,5 @@
 //! How the runs of an environment's variable, or of a given text, end, from its device list to the lines.
-ghost use Rattle.std.specs.Prelude.{◌≡◌, ◌+◌, IfOk, IfErr, Some, map};
+ghost use Rattle.std.specs.Prelude.{ℕ, ◌≡◌, ◌+◌, IfOk, IfErr, Some, map};
 ghost use Rattle.rehearse_machine.specs.Tasks.{task_found, task_in};
 ghost use Rattle.rehearse_rules.specs.Runs.{unheard};
 ghost use Rattle.rehearse_endings.specs.declared.sum_error.SumError.TheVariants.{Bytes, States, Steps};
@@ -53,10 +53,10 @@ fn lines_of<S: Store>(
         (Some (task_in rehearsal.now)) text.items) }
     ensures err { IfErr result
         (λ e. e ≡ States → ComesToStates (map (λ n. n.now) names.now) (unheard (task_in rehearsal.now)) (most_states + 1)) }
-    ensures costly { IfErr result
-        (λ e. e ≡ Steps → ComesToSteps (map (λ n. n.now) names.now) (unheard (task_in rehearsal.now)) most_work) }
-    ensures large { IfErr result
-        (λ e. e ≡ Bytes → ComesToBytes (map (λ n. n.now) names.now) (unheard (task_in rehearsal.now)) most_bytes) }
+    ensures costly { (count : ℕ) → IfErr result
+        (λ e. e ≡ Steps count → ComesToSteps (map (λ n. n.now) names.now) (unheard (task_in rehearsal.now)) count most_work) }
+    ensures large { (count : ℕ) → IfErr result
+        (λ e. e ≡ Bytes count → ComesToBytes (map (λ n. n.now) names.now) (unheard (task_in rehearsal.now)) count most_bytes) }
 {
     let quiet = rehearsal.unheard();
     let _bound = quiet.bounds.devices();
@@ -109,8 +109,8 @@ fn lines_in<S: Store>(
     ) {
         Ok(text) => Ok(text),
         Err(SumError::States) => Err(RehearseError::States),
-        Err(SumError::Steps) => Err(RehearseError::Steps),
-        Err(SumError::Bytes) => Err(RehearseError::Bytes),
+        Err(SumError::Steps(entered)) => Err(RehearseError::Steps(entered)),
+        Err(SumError::Bytes(entered)) => Err(RehearseError::Bytes(entered)),
         Err(SumError::Memory) => Err(RehearseError::Memory),
     }
 }
@@ -119,7 +119,8 @@ fn lines_in<S: Store>(
 /// named variables, and the unexpected answers of the run with the fewest; then a
 /// line for all runs. Or it writes their flow: a line for each state in which a device command
 /// asks, and for each way to end. Refusals in order: the variable; `States`, `Steps`, `Bytes` and `Memory`, with
-/// nothing written; then `Write`, with a prefix of the lines written.
+/// nothing written; then `Write`, with a prefix of the lines written. `Steps` and `Bytes` have the number of states that
+/// were entered by then, no two of them alike.
 pub fn endings_env<S: Store, O: Out>(
     alloc: Global,
     env: &Env,

@@ -21,12 +21,12 @@ pub enum RehearseError {
     /// Device commands ask in more states than the endings may go through.
     #[error("more states than allowed")]
     States,
-    /// More steps are begun than the endings may take.
-    #[error("more steps than allowed")]
-    Steps,
-    /// More bytes are kept than the endings may hold.
-    #[error("more memory than allowed")]
-    Bytes,
+    /// More steps are begun than the endings may take, when so many states were entered.
+    #[error("more steps than allowed (states: {0})")]
+    Steps(u32),
+    /// More bytes are kept than the endings may hold, when so many states were entered.
+    #[error("more memory than allowed (states: {0})")]
+    Bytes(u32),
     /// The output failed.
     #[error("output failed")]
     Write,

@@ -93,8 +93,8 @@ refuses_behind env devices source bounds printed digits NotARun is h u = record 
 }
 refuses_behind env devices source bounds printed digits (DeviceList fault) is h u = h
 refuses_behind env devices source bounds printed digits States is h u = h
-refuses_behind env devices source bounds printed digits Steps is h u = h
-refuses_behind env devices source bounds printed digits Bytes is h u = h
+refuses_behind env devices source bounds printed digits (Steps count) is h u = h
+refuses_behind env devices source bounds printed digits (Bytes count) is h u = h
 refuses_behind env devices source bounds printed digits Write is h u = h
 refuses_behind env devices source bounds printed digits Failed is h u = h
 
@@ -123,8 +123,8 @@ module _ (env : List (Text × Text)) (devices : Devices) (source : SourceShown) 
   unstarted s NoSuchVariable h = (h, refl)
   unstarted s NotARun h = (record { task = h.task; task_is = h.task_is; no_run = no_run_within h.task after page h.no_run }, refl)
   unstarted s States h = h
-  unstarted s Steps h = h
-  unstarted s Bytes h = h
+  unstarted s (Steps count) h = h
+  unstarted s (Bytes count) h = h
   unstarted s Write h = absurd h
   unstarted s Memory h = inl refl
   unstarted s Failed h = h
@@ -143,8 +143,8 @@ module _ (env : List (Text × Text)) (devices : Devices) (source : SourceShown) 
   broken old new r r' NoSuchVariable b h = absurd h
   broken old new r r' NotARun b h = absurd h
   broken old new r r' States b h = h
-  broken old new r r' Steps b h = h
-  broken old new r r' Bytes b h = h
+  broken old new r r' (Steps count) b h = h
+  broken old new r r' (Bytes count) b h = h
   broken old new r r' Write b h = begun r _ b h.breaks
   broken old new r r' Memory b h = inr (begun r _ b h.lacks)
   broken old new r r' Failed b h = let f = h.failed in let s = b.sound in absurd cc
@@ -192,8 +192,8 @@ breaks_alone env devices source bounds printed names old new Write set h =
     }
 breaks_alone env devices source bounds printed names old new Memory set h = inl h
 breaks_alone env devices source bounds printed names old new States set h = absurd h
-breaks_alone env devices source bounds printed names old new Steps set h = absurd h
-breaks_alone env devices source bounds printed names old new Bytes set h = absurd h
+breaks_alone env devices source bounds printed names old new (Steps count) set h = absurd h
+breaks_alone env devices source bounds printed names old new (Bytes count) set h = absurd h
 breaks_alone env devices source bounds printed names old new Failed set h = absurd h
 
 -- ---- what is asked, with its wanted runs at hand

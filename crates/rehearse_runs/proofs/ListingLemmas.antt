@@ -185,8 +185,8 @@ refused page new (DeviceList fault) h r = absurd h
 refused page new NoSuchVariable h r = absurd h
 refused page new NotARun h r = absurd h
 refused page new States h r = absurd h
-refused page new Steps h r = absurd h
-refused page new Bytes h r = absurd h
+refused page new (Steps count) h r = absurd h
+refused page new (Bytes count) h r = absurd h
 refused page new Write h r = absurd h
 refused page new Memory h r = lacked r h
 refused page new Failed h r = let t = h.failed in let s = r.still in absurd cc

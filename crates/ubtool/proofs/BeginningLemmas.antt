@@ -37,8 +37,8 @@ not_begun image answer IsSo told listed starts memory (refused.Rehearsal (rehear
 not_begun image answer IsSo told listed starts memory (refused.Rehearsal rehearsal.NoSuchVariable) h = absurd h
 not_begun image answer IsSo told listed starts memory (refused.Rehearsal rehearsal.NotARun) h = absurd h
 not_begun image answer IsSo told listed starts memory (refused.Rehearsal rehearsal.States) h = absurd h
-not_begun image answer IsSo told listed starts memory (refused.Rehearsal rehearsal.Steps) h = absurd h
-not_begun image answer IsSo told listed starts memory (refused.Rehearsal rehearsal.Bytes) h = absurd h
+not_begun image answer IsSo told listed starts memory (refused.Rehearsal (rehearsal.Steps count)) h = absurd h
+not_begun image answer IsSo told listed starts memory (refused.Rehearsal (rehearsal.Bytes count)) h = absurd h
 not_begun image answer IsSo told listed starts memory (refused.Rehearsal rehearsal.Write) h = absurd h
 not_begun image answer IsSo told listed starts memory (refused.Rehearsal rehearsal.Memory) h = absurd h
 not_begun image answer IsSo told listed starts memory (refused.Rehearsal rehearsal.Failed) h = absurd h

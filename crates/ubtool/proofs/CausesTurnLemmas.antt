@@ -40,8 +40,8 @@ module _ (g : Given) (check : Bool) (old new : Sink) where
   one-refused (refused.Rehearsal (rehearsal.DeviceList fault)) e h = refuses-none (refused.Rehearsal (rehearsal.DeviceList fault)) (turns_of (beginning_of g)) (ap turns_of h.0) h
   one-refused (refused.Rehearsal rehearsal.NoSuchVariable) e h = refuses-none (refused.Rehearsal rehearsal.NoSuchVariable) (turns_of (beginning_of g)) (ap turns_of h.0.found) h
   one-refused (refused.Rehearsal rehearsal.States) e h = absurd h.0
-  one-refused (refused.Rehearsal rehearsal.Steps) e h = absurd h.0
-  one-refused (refused.Rehearsal rehearsal.Bytes) e h = absurd h.0
+  one-refused (refused.Rehearsal (rehearsal.Steps count)) e h = absurd h.0
+  one-refused (refused.Rehearsal (rehearsal.Bytes count)) e h = absurd h.0
   one-refused (refused.Rehearsal rehearsal.NotARun) e h = absurd h.0
   one-refused (refused.Rehearsal rehearsal.Write) e h = absurd h.0
   one-refused (refused.Rehearsal rehearsal.Memory) e h = absurd h.0

@@ -40,8 +40,8 @@ module _ (g : Given) (flow : Bool) (states work bytes : ℕ) (old new : Sink) wh
   one-refused (refused.Rehearsal (rehearsal.DeviceList fault)) e h = refuses-none (refused.Rehearsal (rehearsal.DeviceList fault)) (turns_of (beginning_of g)) (ap turns_of h.0) h
   one-refused (refused.Rehearsal rehearsal.NoSuchVariable) e h = refuses-none (refused.Rehearsal rehearsal.NoSuchVariable) (turns_of (beginning_of g)) (ap turns_of h.0.found) h
   one-refused (refused.Rehearsal rehearsal.States) e h = refuses-none (refused.Rehearsal rehearsal.States) (turns_of (beginning_of g)) (ap turns_of h.0.found) h
-  one-refused (refused.Rehearsal rehearsal.Steps) e h = refuses-none (refused.Rehearsal rehearsal.Steps) (turns_of (beginning_of g)) (ap turns_of h.0.found) h
-  one-refused (refused.Rehearsal rehearsal.Bytes) e h = refuses-none (refused.Rehearsal rehearsal.Bytes) (turns_of (beginning_of g)) (ap turns_of h.0.found) h
+  one-refused (refused.Rehearsal (rehearsal.Steps count)) e h = refuses-none (refused.Rehearsal (rehearsal.Steps count)) (turns_of (beginning_of g)) (ap turns_of h.0.found) h
+  one-refused (refused.Rehearsal (rehearsal.Bytes count)) e h = refuses-none (refused.Rehearsal (rehearsal.Bytes count)) (turns_of (beginning_of g)) (ap turns_of h.0.found) h
   one-refused (refused.Rehearsal rehearsal.NotARun) e h = absurd h.0
   one-refused (refused.Rehearsal rehearsal.Write) e h = absurd h.0
   one-refused (refused.Rehearsal rehearsal.Memory) e h = absurd h.0

@@ -32,8 +32,8 @@ module _ (g : Given) (check : Bool) (beginning : Beginning) (text : Option Text)
   refused-causes (rehearsal.DeviceList fault) h = absurd h
   refused-causes rehearsal.NoSuchVariable h = (on_image (λ task. task ≡ None) h.0, h.1)
   refused-causes rehearsal.States h = absurd h
-  refused-causes rehearsal.Steps h = absurd h
-  refused-causes rehearsal.Bytes h = absurd h
+  refused-causes (rehearsal.Steps count) h = absurd h
+  refused-causes (rehearsal.Bytes count) h = absurd h
   refused-causes rehearsal.Write h = (
     (causes_text (reported check (causes h.task)), is_fine check (reported check (causes h.task))),
     on_image (λ task. WithCauses task check (λ told. (causes_text (reported check (causes h.task)) ≡ causes_text told) × (is_fine check (reported check (causes h.task)) ≡ is_fine check told))) (record { task = h.task; task_is = h.task_is; so = (refl, refl) }),

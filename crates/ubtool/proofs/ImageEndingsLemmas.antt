@@ -28,8 +28,8 @@ module _ (g : Given) (ask : EndingsAsk) (beginning : Beginning) (text : Option T
   refused-endings (rehearsal.DeviceList fault) h = absurd h
   refused-endings rehearsal.NoSuchVariable h = (on_image (λ names task. task ≡ None) h.0, h.1)
   refused-endings rehearsal.States h = (on_image (λ names. HasMoreStates names ask.states) h.0, h.1)
-  refused-endings rehearsal.Steps h = (on_image (λ names. HasMoreSteps names ask.work) h.0, h.1)
-  refused-endings rehearsal.Bytes h = (on_image (λ names. HasMoreBytes names ask.memory) h.0, h.1)
+  refused-endings (rehearsal.Steps count) h = (on_image (λ names. HasMoreSteps names count ask.work) h.0, h.1)
+  refused-endings (rehearsal.Bytes count) h = (on_image (λ names. HasMoreBytes names count ask.memory) h.0, h.1)
   refused-endings rehearsal.Write h = (h.0, on_image (λ names task. AreLines names ask.flow ask.states ask.memory task h.0) h.1, h.2)
   refused-endings rehearsal.NotARun h = absurd h
   refused-endings rehearsal.Failed h = absurd h

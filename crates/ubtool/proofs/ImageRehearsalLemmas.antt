@@ -26,8 +26,8 @@ module _ (g : Given) (beginning : Beginning) (text : Option Text) (old new : Sin
   refused-image rehearsal.NoSuchVariable h = (on_image (λ task. task ≡ None) h.0, h.1)
   refused-image rehearsal.NotARun h = (on_image (λ task. below.LacksRun task g.asking.wanted) h.0, h.1)
   refused-image rehearsal.States h = h
-  refused-image rehearsal.Steps h = h
-  refused-image rehearsal.Bytes h = h
+  refused-image (rehearsal.Steps count) h = h
+  refused-image (rehearsal.Bytes count) h = h
   refused-image rehearsal.Failed h = h
   refused-image rehearsal.Write h = on_image (λ task. below.LeavesPrefix task g.asking old new) h
   refused-image rehearsal.Memory (inl nothing) = inl (has-image g beginning found, nothing)

@@ -52,8 +52,8 @@ module _ (order : ByteOrder) (inputs : InputsShown) (what : RehearseAsk) (out ou
   rehearses-refused (refused.Rehearsal (rehearsal.DeviceList error)) h = from-files (λ g. Refuses g out out' (refused.Rehearsal (rehearsal.DeviceList error))) h
   rehearses-refused (refused.Rehearsal rehearsal.NoSuchVariable) h = (refl, from-files (λ g. Refuses g out out' (refused.Rehearsal rehearsal.NoSuchVariable)) h)
   rehearses-refused (refused.Rehearsal rehearsal.States) h = absurd h
-  rehearses-refused (refused.Rehearsal rehearsal.Steps) h = absurd h
-  rehearses-refused (refused.Rehearsal rehearsal.Bytes) h = absurd h
+  rehearses-refused (refused.Rehearsal (rehearsal.Steps count)) h = absurd h
+  rehearses-refused (refused.Rehearsal (rehearsal.Bytes count)) h = absurd h
   rehearses-refused (refused.Rehearsal rehearsal.Write) h = absurd h
   rehearses-refused (refused.Rehearsal rehearsal.Memory) h = absurd h
   rehearses-refused (refused.Rehearsal rehearsal.Failed) h = absurd h

@@ -46,8 +46,8 @@ WhyNoLines states work bytes g (Rehearsal (DeviceList fault)) = beginning_of g �
 WhyNoLines states work bytes g (Start fault) = beginning_of g ≡ Err (OfBoard (OfStart fault))
 WhyNoLines states work bytes g (Rehearsal NoSuchVariable) = HasBoard g (λ found. found ≡ None)
 WhyNoLines states work bytes g (Rehearsal States) = HasBoard g (HasMoreStates g.asking.names states)
-WhyNoLines states work bytes g (Rehearsal Steps) = HasBoard g (HasMoreSteps g.asking.names work)
-WhyNoLines states work bytes g (Rehearsal Bytes) = HasBoard g (HasMoreBytes g.asking.names bytes)
+WhyNoLines states work bytes g (Rehearsal (Steps count)) = HasBoard g (HasMoreSteps g.asking.names count work)
+WhyNoLines states work bytes g (Rehearsal (Bytes count)) = HasBoard g (HasMoreBytes g.asking.names count bytes)
 WhyNoLines states work bytes g _ = ⊥
 
 abbrev pub RefusesOne : Given → (flow : Bool) → (states work bytes : ℕ) → (old new : Sink) → RehearsalError → Type 0

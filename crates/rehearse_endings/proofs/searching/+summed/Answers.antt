@@ -22,7 +22,7 @@ use Rattle.rehearse_reports.specs.Following.{AreEnoughAtStop}
 use Rattle.rehearse_reports.specs.ReportsShown.{accesses_shown, keys_shown}
 use Rattle.rehearse_endings.specs.Searching.{future, seen_from, IsFound, IsKeptAt, SummedFrom}
 use Rattle.rehearse_endings.specs.Held.{ComesToBytes, HasNoRoom, most_held}
-use Rattle.rehearse_endings.specs.Searched.{IsSpent}
+use Rattle.rehearse_endings.specs.Searched.{IsFull, IsSpent}
 use Rattle.rehearse_endings.specs.States.{ComesToStates, ComesToSteps}
 use Rattle.rehearse_endings.specs.Indexed.{NoneFits}
 use Rattle.rehearse_machine.specs.StoppedTexts.{StoppedAt}
@@ -346,18 +346,18 @@ returns-in_ok-keys-in-Asks-clause-worked g t c =
     omega (arith, last, within)
 
 pub returns-in_err-enter-in-Asks-clause-spent : goal.returns-in_err-enter-in-Asks-clause-spent
-returns-in_err-enter-in-Asks-clause-spent g t c =
+returns-in_err-enter-in-Asks-clause-spent g t c = λ count.
     let error = err_from_is_err_and c.from_residual-in_err-enter-in-Asks.result c.from_residual-in_err-enter-in-Asks.ensures.1 in
-    passed_on (λ (x : SumError). x ≡ Steps → IsSpent c.args.most_work (g.S.Store.record_of c.args.store.now)) c.from_residual-in_err-enter-in-Asks.result c.in_err-enter-in-Asks.field-0.0 (error.1 ∙ ap Err error.2)
-    (λ is. absurd (let other : States ≡ Steps = sym c.in_err-enter-in-Asks.ensures.err ∙ is in cc))
+    passed_on (λ (x : SumError). x ≡ Steps count → IsSpent c.args.most_work count (g.S.Store.record_of c.args.store.now) c.enter.new.self) c.from_residual-in_err-enter-in-Asks.result c.in_err-enter-in-Asks.field-0.0 (error.1 ∙ ap Err error.2)
+    (λ is. absurd (let other : States ≡ Steps count = sym c.in_err-enter-in-Asks.ensures.err ∙ is in cc))
 
 pub returns-in_err-enter-in-Asks-clause-costly : goal.returns-in_err-enter-in-Asks-clause-costly
-returns-in_err-enter-in-Asks-clause-costly g t c = λ p begun at by entered.
+returns-in_err-enter-in-Asks-clause-costly g t c = λ count p begun at by entered.
     let names = map (λ n. n.now) c.args.names.now in
     let task = task_in c.args.rehearsal.now in
     let error = err_from_is_err_and c.from_residual-in_err-enter-in-Asks.result c.from_residual-in_err-enter-in-Asks.ensures.1 in
-    passed_on (λ (x : SumError). x ≡ Steps → ComesToSteps names task c.args.most_work) c.from_residual-in_err-enter-in-Asks.result c.in_err-enter-in-Asks.field-0.0 (error.1 ∙ ap Err error.2)
-    (λ is. absurd (let other : States ≡ Steps = sym c.in_err-enter-in-Asks.ensures.err ∙ is in cc))
+    passed_on (λ (x : SumError). x ≡ Steps count → ComesToSteps names task count c.args.most_work) c.from_residual-in_err-enter-in-Asks.result c.in_err-enter-in-Asks.field-0.0 (error.1 ∙ ap Err error.2)
+    (λ is. absurd (let other : States ≡ Steps count = sym c.in_err-enter-in-Asks.ensures.err ∙ is in cc))
 
 pub returns-in_err-won_stop-in-Asks-clause-refused : goal.returns-in_err-won_stop-in-Asks-clause-refused
 returns-in_err-won_stop-in-Asks-clause-refused g t c = λ p begun at by entered.
@@ -368,7 +368,7 @@ returns-in_err-won_stop-in-Asks-clause-refused g t c = λ p begun at by entered.
     (λ is. absurd (c.in_err-won_stop-in-Asks.ensures.err.0 is))
 
 pub returns-in_err-won_stop-in-Asks-clause-spent : goal.returns-in_err-won_stop-in-Asks-clause-spent
-returns-in_err-won_stop-in-Asks-clause-spent g t c =
+returns-in_err-won_stop-in-Asks-clause-spent g t c = λ count.
     let r₀ = g.S.Store.record_of c.args.store.now in
     let r = g.S.Store.record_of c.mark.new.self in
     let marked = g.S.Store.record_of c.mark-in-Asks.new.self in
@@ -377,11 +377,11 @@ returns-in_err-won_stop-in-Asks-clause-spent g t c =
     let second = begun_marked r marked c.in_ok-mark-in-Asks-2.ensures.ok in
     let allowed = c.requires.worked in
     let error = err_from_is_err_and c.from_residual-in_err-won_stop-in-Asks.result c.from_residual-in_err-won_stop-in-Asks.ensures.1 in
-    passed_on (λ (x : SumError). x ≡ Steps → IsSpent c.args.most_work (g.S.Store.record_of c.resumed.new.store)) c.from_residual-in_err-won_stop-in-Asks.result c.in_err-won_stop-in-Asks.field-0.0 (error.1 ∙ ap Err error.2)
-    (λ is. spent_by c.args.most_work marked tried (omega (arith, first, second, allowed)) (c.in_err-won_stop-in-Asks.ensures.spent is) (c.in_err-won_stop-in-Asks.ensures.soon is))
+    passed_on (λ (x : SumError). x ≡ Steps count → IsSpent c.args.most_work count (g.S.Store.record_of c.resumed.new.store) c.enter.new.self) c.from_residual-in_err-won_stop-in-Asks.result c.in_err-won_stop-in-Asks.field-0.0 (error.1 ∙ ap Err error.2)
+    (λ is. spent_by c.args.most_work count marked tried c.enter.new.self (omega (arith, first, second, allowed)) (c.in_err-won_stop-in-Asks.ensures.spent count is) (c.in_err-won_stop-in-Asks.ensures.soon count is) (c.in_err-won_stop-in-Asks.ensures.counted count is))
 
 pub returns-in_err-won_stop-in-Asks-clause-costly : goal.returns-in_err-won_stop-in-Asks-clause-costly
-returns-in_err-won_stop-in-Asks-clause-costly g t c = λ p begun at by entered.
+returns-in_err-won_stop-in-Asks-clause-costly g t c = λ count p begun at by entered.
     let names = map (λ n. n.now) c.args.names.now in
     let task = task_in c.args.rehearsal.now in
     let r₀ = g.S.Store.record_of c.args.store.now in
@@ -395,20 +395,21 @@ returns-in_err-won_stop-in-Asks-clause-costly g t c = λ p begun at by entered.
     let begun_before = c.requires.begun in
     let room : Room r.begun c.args.table.now.visited = omega (arith, first, begun_before) in
     let error = err_from_is_err_and c.from_residual-in_err-won_stop-in-Asks.result c.from_residual-in_err-won_stop-in-Asks.ensures.1 in
-    passed_on (λ (x : SumError). x ≡ Steps → ComesToSteps names task c.args.most_work) c.from_residual-in_err-won_stop-in-Asks.result c.in_err-won_stop-in-Asks.field-0.0 (error.1 ∙ ap Err error.2)
-    (λ is. too_costly names task ((p, r.present) ∷ begun) c.enter.new.self c.args.most_work tried.begun
+    passed_on (λ (x : SumError). x ≡ Steps count → ComesToSteps names task count c.args.most_work) c.from_residual-in_err-won_stop-in-Asks.result c.in_err-won_stop-in-Asks.field-0.0 (error.1 ∙ ap Err error.2)
+    (λ is. subst (λ (n : ℕ). ComesToSteps names task n c.args.most_work) (sym (c.in_err-won_stop-in-Asks.ensures.counted count is))
+    (too_costly names task ((p, r.present) ∷ begun) c.enter.new.self c.args.most_work tried.begun
     (enters names task p r.present begun met by c.args.table.now entered none_here c.enter.new.self c.enter.ensures.entries c.enter.ensures.flow c.in_ok-enter-in-Asks.ensures.visited)
-    (c.in_err-won_stop-in-Asks.ensures.spent is)
-    (begun_won r marked tried c.args.table.now.visited c.enter.new.self.visited c.in_ok-mark-in-Asks-2.ensures.ok (c.in_err-won_stop-in-Asks.ensures.soon is) room c.in_ok-enter-in-Asks.ensures.visited))
+    (c.in_err-won_stop-in-Asks.ensures.spent count is)
+    (begun_won r marked tried c.args.table.now.visited c.enter.new.self.visited c.in_ok-mark-in-Asks-2.ensures.ok (c.in_err-won_stop-in-Asks.ensures.soon count is) room c.in_ok-enter-in-Asks.ensures.visited)))
 
 pub returns-in_err-won-in-Asks-clause-spent : goal.returns-in_err-won-in-Asks-clause-spent
-returns-in_err-won-in-Asks-clause-spent g t c =
+returns-in_err-won-in-Asks-clause-spent g t c = λ count.
     let error = err_from_is_err_and c.from_residual-in_err-won-in-Asks.result c.from_residual-in_err-won-in-Asks.ensures.1 in
-    passed_on (λ (x : SumError). x ≡ Steps → IsSpent c.args.most_work (g.S.Store.record_of c.summed.new.store)) c.from_residual-in_err-won-in-Asks.result c.in_err-won-in-Asks.field-0.0 (error.1 ∙ ap Err error.2)
-    (λ is. c.in_err-won-in-Asks.ensures.spent is)
+    passed_on (λ (x : SumError). x ≡ Steps count → IsSpent c.args.most_work count (g.S.Store.record_of c.summed.new.store) c.summed.new.table) c.from_residual-in_err-won-in-Asks.result c.in_err-won-in-Asks.field-0.0 (error.1 ∙ ap Err error.2)
+    (λ is. c.in_err-won-in-Asks.ensures.spent count is)
 
 pub returns-in_err-won-in-Asks-clause-costly : goal.returns-in_err-won-in-Asks-clause-costly
-returns-in_err-won-in-Asks-clause-costly g t c = λ p begun at by entered.
+returns-in_err-won-in-Asks-clause-costly g t c = λ count p begun at by entered.
     let names = map (λ n. n.now) c.args.names.now in
     let task = task_in c.args.rehearsal.now in
     let r₀ = g.S.Store.record_of c.args.store.now in
@@ -419,8 +420,8 @@ returns-in_err-won-in-Asks-clause-costly g t c = λ p begun at by entered.
     let won_at = (g.S.Store.record_of c.resumed.new.store).present in
     let won_stops = won_on task r (g.S.Store.record_of c.mark-in-Asks.new.self) (g.S.Store.record_of c.resumed.new.store) c.in_ok-won_stop-in-Asks.won_stop c.in_ok-mark-in-Asks-2.ensures.ok c.in_ok-won_stop-in-Asks.ensures.stops in
     let error = err_from_is_err_and c.from_residual-in_err-won-in-Asks.result c.from_residual-in_err-won-in-Asks.ensures.1 in
-    passed_on (λ (x : SumError). x ≡ Steps → ComesToSteps names task c.args.most_work) c.from_residual-in_err-won-in-Asks.result c.in_err-won-in-Asks.field-0.0 (error.1 ∙ ap Err error.2)
-    (λ is. c.in_err-won-in-Asks.ensures.costly (p ++ Success ∷ []) ((p, r.present) ∷ begun) (stopped_on task p r.present won_at Success c.in_ok-won_stop-in-Asks.won_stop met won_stops) (comes_by p Success r.present begun by)
+    passed_on (λ (x : SumError). x ≡ Steps count → ComesToSteps names task count c.args.most_work) c.from_residual-in_err-won-in-Asks.result c.in_err-won-in-Asks.field-0.0 (error.1 ∙ ap Err error.2)
+    (λ is. c.in_err-won-in-Asks.ensures.costly count (p ++ Success ∷ []) ((p, r.present) ∷ begun) (stopped_on task p r.present won_at Success c.in_ok-won_stop-in-Asks.won_stop met won_stops) (comes_by p Success r.present begun by)
     (enters names task p r.present begun met by c.args.table.now entered none_here c.enter.new.self c.enter.ensures.entries c.enter.ensures.flow c.in_ok-enter-in-Asks.ensures.visited) is)
 
 pub returns-in_err-lost_stop-in-Asks-clause-refused : goal.returns-in_err-lost_stop-in-Asks-clause-refused
@@ -432,18 +433,18 @@ returns-in_err-lost_stop-in-Asks-clause-refused g t c = λ p begun at by entered
     (λ is. absurd (c.in_err-lost_stop-in-Asks.ensures.err.0 is))
 
 pub returns-in_err-lost_stop-in-Asks-clause-spent : goal.returns-in_err-lost_stop-in-Asks-clause-spent
-returns-in_err-lost_stop-in-Asks-clause-spent g t c =
+returns-in_err-lost_stop-in-Asks-clause-spent g t c = λ count.
     let behind = g.S.Store.record_of c.summed.new.store in
     let back = g.S.Store.record_of c.back.new.self in
     let failed = g.S.Store.record_of c.resumed-in-Asks.new.store in
     let there = begun_back behind back c.back.ensures in
     let allowed = c.in_ok-won-in-Asks.ensures.worked in
     let error = err_from_is_err_and c.from_residual-in_err-lost_stop-in-Asks.result c.from_residual-in_err-lost_stop-in-Asks.ensures.1 in
-    passed_on (λ (x : SumError). x ≡ Steps → IsSpent c.args.most_work (g.S.Store.record_of c.resumed-in-Asks.new.store)) c.from_residual-in_err-lost_stop-in-Asks.result c.in_err-lost_stop-in-Asks.field-0.0 (error.1 ∙ ap Err error.2)
-    (λ is. spent_by c.args.most_work back failed (omega (arith, there, allowed)) (c.in_err-lost_stop-in-Asks.ensures.spent is) (c.in_err-lost_stop-in-Asks.ensures.soon is))
+    passed_on (λ (x : SumError). x ≡ Steps count → IsSpent c.args.most_work count (g.S.Store.record_of c.resumed-in-Asks.new.store) c.summed.new.table) c.from_residual-in_err-lost_stop-in-Asks.result c.in_err-lost_stop-in-Asks.field-0.0 (error.1 ∙ ap Err error.2)
+    (λ is. spent_by c.args.most_work count back failed c.summed.new.table (omega (arith, there, allowed)) (c.in_err-lost_stop-in-Asks.ensures.spent count is) (c.in_err-lost_stop-in-Asks.ensures.soon count is) (c.in_err-lost_stop-in-Asks.ensures.counted count is))
 
 pub returns-in_err-lost_stop-in-Asks-clause-costly : goal.returns-in_err-lost_stop-in-Asks-clause-costly
-returns-in_err-lost_stop-in-Asks-clause-costly g t c = λ p begun at by entered.
+returns-in_err-lost_stop-in-Asks-clause-costly g t c = λ count p begun at by entered.
     let names = map (λ n. n.now) c.args.names.now in
     let task = task_in c.args.rehearsal.now in
     let r₀ = g.S.Store.record_of c.args.store.now in
@@ -465,20 +466,21 @@ returns-in_err-lost_stop-in-Asks-clause-costly g t c = λ p begun at by entered.
     let begun_before = c.requires.begun in
     let room : Room r.begun c.args.table.now.visited = omega (arith, first, begun_before) in
     let error = err_from_is_err_and c.from_residual-in_err-lost_stop-in-Asks.result c.from_residual-in_err-lost_stop-in-Asks.ensures.1 in
-    passed_on (λ (x : SumError). x ≡ Steps → ComesToSteps names task c.args.most_work) c.from_residual-in_err-lost_stop-in-Asks.result c.in_err-lost_stop-in-Asks.field-0.0 (error.1 ∙ ap Err error.2)
-    (λ is. too_costly names task ((p, r.present) ∷ begun) c.summed.new.table c.args.most_work failed.begun won
-    (c.in_err-lost_stop-in-Asks.ensures.spent is)
+    passed_on (λ (x : SumError). x ≡ Steps count → ComesToSteps names task count c.args.most_work) c.from_residual-in_err-lost_stop-in-Asks.result c.in_err-lost_stop-in-Asks.field-0.0 (error.1 ∙ ap Err error.2)
+    (λ is. subst (λ (n : ℕ). ComesToSteps names task n c.args.most_work) (sym (c.in_err-lost_stop-in-Asks.ensures.counted count is))
+    (too_costly names task ((p, r.present) ∷ begun) c.summed.new.table c.args.most_work failed.begun won
+    (c.in_err-lost_stop-in-Asks.ensures.spent count is)
     (begun_behind r marked tried behind back failed c.args.table.now.visited c.enter.new.self.visited c.summed.new.table.visited c.in_ok-mark-in-Asks-2.ensures.ok c.in_ok-won_stop-in-Asks.ensures.begun c.in_ok-won_stop-in-Asks.ensures.within room c.in_ok-enter-in-Asks.ensures.visited c.in_ok-won-in-Asks.ensures.searched.begun c.back.ensures
-    (c.in_err-lost_stop-in-Asks.ensures.soon is)))
+    (c.in_err-lost_stop-in-Asks.ensures.soon count is))))
 
 pub returns-in_err-lost-in-Asks-clause-spent : goal.returns-in_err-lost-in-Asks-clause-spent
-returns-in_err-lost-in-Asks-clause-spent g t c =
+returns-in_err-lost-in-Asks-clause-spent g t c = λ count.
     let error = err_from_is_err_and c.from_residual-in_err-lost-in-Asks.result c.from_residual-in_err-lost-in-Asks.ensures.1 in
-    passed_on (λ (x : SumError). x ≡ Steps → IsSpent c.args.most_work (g.S.Store.record_of c.summed-in-Asks.new.store)) c.from_residual-in_err-lost-in-Asks.result c.in_err-lost-in-Asks.field-0.0 (error.1 ∙ ap Err error.2)
-    (λ is. c.in_err-lost-in-Asks.ensures.spent is)
+    passed_on (λ (x : SumError). x ≡ Steps count → IsSpent c.args.most_work count (g.S.Store.record_of c.summed-in-Asks.new.store) c.summed-in-Asks.new.table) c.from_residual-in_err-lost-in-Asks.result c.in_err-lost-in-Asks.field-0.0 (error.1 ∙ ap Err error.2)
+    (λ is. c.in_err-lost-in-Asks.ensures.spent count is)
 
 pub returns-in_err-lost-in-Asks-clause-costly : goal.returns-in_err-lost-in-Asks-clause-costly
-returns-in_err-lost-in-Asks-clause-costly g t c = λ p begun at by entered.
+returns-in_err-lost-in-Asks-clause-costly g t c = λ count p begun at by entered.
     let names = map (λ n. n.now) c.args.names.now in
     let task = task_in c.args.rehearsal.now in
     let r₀ = g.S.Store.record_of c.args.store.now in
@@ -495,41 +497,41 @@ returns-in_err-lost-in-Asks-clause-costly g t c = λ p begun at by entered.
     c.in_ok-won-in-Asks.ensures.searched.entered (p ++ Success ∷ []) ((p, r.present) ∷ begun) (stopped_on task p r.present won_at Success c.in_ok-won_stop-in-Asks.won_stop met won_stops) (comes_by p Success r.present begun by)
     (enters names task p r.present begun met by c.args.table.now entered none_here c.enter.new.self c.enter.ensures.entries c.enter.ensures.flow c.in_ok-enter-in-Asks.ensures.visited) in
     let error = err_from_is_err_and c.from_residual-in_err-lost-in-Asks.result c.from_residual-in_err-lost-in-Asks.ensures.1 in
-    passed_on (λ (x : SumError). x ≡ Steps → ComesToSteps names task c.args.most_work) c.from_residual-in_err-lost-in-Asks.result c.in_err-lost-in-Asks.field-0.0 (error.1 ∙ ap Err error.2)
-    (λ is. c.in_err-lost-in-Asks.ensures.costly (p ++ Failure ∷ []) ((p, r.present) ∷ begun) (stopped_on task p r.present lost_at Failure c.in_ok-lost_stop-in-Asks.lost_stop met sides.lost)
+    passed_on (λ (x : SumError). x ≡ Steps count → ComesToSteps names task count c.args.most_work) c.from_residual-in_err-lost-in-Asks.result c.in_err-lost-in-Asks.field-0.0 (error.1 ∙ ap Err error.2)
+    (λ is. c.in_err-lost-in-Asks.ensures.costly count (p ++ Failure ∷ []) ((p, r.present) ∷ begun) (stopped_on task p r.present lost_at Failure c.in_ok-lost_stop-in-Asks.lost_stop met sides.lost)
     (comes_by p Failure r.present begun by) won is)
 
 -- ---- the bytes that are refused
 
 pub returns-in_err-enter-in-Asks-clause-large : goal.returns-in_err-enter-in-Asks-clause-large
-returns-in_err-enter-in-Asks-clause-large g t c = λ p begun at by entered.
+returns-in_err-enter-in-Asks-clause-large g t c = λ count p begun at by entered.
     let names = map (λ n. n.now) c.args.names.now in
     let task = task_in c.args.rehearsal.now in
     let bytes = most_held c.args.table.now in
     let error = err_from_is_err_and c.from_residual-in_err-enter-in-Asks.result c.from_residual-in_err-enter-in-Asks.ensures.1 in
-    passed_on (λ (x : SumError). x ≡ Bytes → ComesToBytes names task bytes) c.from_residual-in_err-enter-in-Asks.result c.in_err-enter-in-Asks.field-0.0 (error.1 ∙ ap Err error.2)
-    (λ is. absurd (let other : States ≡ Bytes = sym c.in_err-enter-in-Asks.ensures.err ∙ is in cc))
+    passed_on (λ (x : SumError). x ≡ Bytes count → IsFull names task count bytes c.enter.new.self) c.from_residual-in_err-enter-in-Asks.result c.in_err-enter-in-Asks.field-0.0 (error.1 ∙ ap Err error.2)
+    (λ is. absurd (let other : States ≡ Bytes count = sym c.in_err-enter-in-Asks.ensures.err ∙ is in cc))
 
 pub returns-in_err-won_stop-in-Asks-clause-large : goal.returns-in_err-won_stop-in-Asks-clause-large
-returns-in_err-won_stop-in-Asks-clause-large g t c = λ p begun at by entered.
+returns-in_err-won_stop-in-Asks-clause-large g t c = λ count p begun at by entered.
     let names = map (λ n. n.now) c.args.names.now in
     let task = task_in c.args.rehearsal.now in
     let bytes = most_held c.args.table.now in
     let error = err_from_is_err_and c.from_residual-in_err-won_stop-in-Asks.result c.from_residual-in_err-won_stop-in-Asks.ensures.1 in
-    passed_on (λ (x : SumError). x ≡ Bytes → ComesToBytes names task bytes) c.from_residual-in_err-won_stop-in-Asks.result c.in_err-won_stop-in-Asks.field-0.0 (error.1 ∙ ap Err error.2)
-    (λ is. absurd (c.in_err-won_stop-in-Asks.ensures.err.1 is))
+    passed_on (λ (x : SumError). x ≡ Bytes count → IsFull names task count bytes c.enter.new.self) c.from_residual-in_err-won_stop-in-Asks.result c.in_err-won_stop-in-Asks.field-0.0 (error.1 ∙ ap Err error.2)
+    (λ is. absurd (c.in_err-won_stop-in-Asks.ensures.err.1 count is))
 
 pub returns-in_err-lost_stop-in-Asks-clause-large : goal.returns-in_err-lost_stop-in-Asks-clause-large
-returns-in_err-lost_stop-in-Asks-clause-large g t c = λ p begun at by entered.
+returns-in_err-lost_stop-in-Asks-clause-large g t c = λ count p begun at by entered.
     let names = map (λ n. n.now) c.args.names.now in
     let task = task_in c.args.rehearsal.now in
     let bytes = most_held c.args.table.now in
     let error = err_from_is_err_and c.from_residual-in_err-lost_stop-in-Asks.result c.from_residual-in_err-lost_stop-in-Asks.ensures.1 in
-    passed_on (λ (x : SumError). x ≡ Bytes → ComesToBytes names task bytes) c.from_residual-in_err-lost_stop-in-Asks.result c.in_err-lost_stop-in-Asks.field-0.0 (error.1 ∙ ap Err error.2)
-    (λ is. absurd (c.in_err-lost_stop-in-Asks.ensures.err.1 is))
+    passed_on (λ (x : SumError). x ≡ Bytes count → IsFull names task count bytes c.summed.new.table) c.from_residual-in_err-lost_stop-in-Asks.result c.in_err-lost_stop-in-Asks.field-0.0 (error.1 ∙ ap Err error.2)
+    (λ is. absurd (c.in_err-lost_stop-in-Asks.ensures.err.1 count is))
 
 pub returns-in_err-won-in-Asks-clause-large : goal.returns-in_err-won-in-Asks-clause-large
-returns-in_err-won-in-Asks-clause-large g t c = λ p begun at by entered.
+returns-in_err-won-in-Asks-clause-large g t c = λ count p begun at by entered.
     let names = map (λ n. n.now) c.args.names.now in
     let task = task_in c.args.rehearsal.now in
     let r₀ = g.S.Store.record_of c.args.store.now in
@@ -541,13 +543,15 @@ returns-in_err-won-in-Asks-clause-large g t c = λ p begun at by entered.
     let won_stops = won_on task r (g.S.Store.record_of c.mark-in-Asks.new.self) (g.S.Store.record_of c.resumed.new.store) c.in_ok-won_stop-in-Asks.won_stop c.in_ok-mark-in-Asks-2.ensures.ok c.in_ok-won_stop-in-Asks.ensures.stops in
     let bytes = most_held c.args.table.now in
     let error = err_from_is_err_and c.from_residual-in_err-won-in-Asks.result c.from_residual-in_err-won-in-Asks.ensures.1 in
-    passed_on (λ (x : SumError). x ≡ Bytes → ComesToBytes names task bytes) c.from_residual-in_err-won-in-Asks.result c.in_err-won-in-Asks.field-0.0 (error.1 ∙ ap Err error.2)
-    (λ is. subst (ComesToBytes names task) c.enter.ensures.held
-    (c.in_err-won-in-Asks.ensures.large (p ++ Success ∷ []) ((p, r.present) ∷ begun) (stopped_on task p r.present won_at Success c.in_ok-won_stop-in-Asks.won_stop met won_stops) (comes_by p Success r.present begun by)
-    (enters names task p r.present begun met by c.args.table.now entered none_here c.enter.new.self c.enter.ensures.entries c.enter.ensures.flow c.in_ok-enter-in-Asks.ensures.visited) is))
+    passed_on (λ (x : SumError). x ≡ Bytes count → IsFull names task count bytes c.summed.new.table) c.from_residual-in_err-won-in-Asks.result c.in_err-won-in-Asks.field-0.0 (error.1 ∙ ap Err error.2)
+    (λ is.
+    let full =
+    c.in_err-won-in-Asks.ensures.large count (p ++ Success ∷ []) ((p, r.present) ∷ begun) (stopped_on task p r.present won_at Success c.in_ok-won_stop-in-Asks.won_stop met won_stops) (comes_by p Success r.present begun by)
+    (enters names task p r.present begun met by c.args.table.now entered none_here c.enter.new.self c.enter.ensures.entries c.enter.ensures.flow c.in_ok-enter-in-Asks.ensures.visited) is in
+    (full.0, subst (ComesToBytes names task count) c.enter.ensures.held full.1))
 
 pub returns-in_err-lost-in-Asks-clause-large : goal.returns-in_err-lost-in-Asks-clause-large
-returns-in_err-lost-in-Asks-clause-large g t c = λ p begun at by entered.
+returns-in_err-lost-in-Asks-clause-large g t c = λ count p begun at by entered.
     let names = map (λ n. n.now) c.args.names.now in
     let task = task_in c.args.rehearsal.now in
     let r₀ = g.S.Store.record_of c.args.store.now in
@@ -565,10 +569,12 @@ returns-in_err-lost-in-Asks-clause-large g t c = λ p begun at by entered.
     (enters names task p r.present begun met by c.args.table.now entered none_here c.enter.new.self c.enter.ensures.entries c.enter.ensures.flow c.in_ok-enter-in-Asks.ensures.visited) in
     let bytes = most_held c.args.table.now in
     let error = err_from_is_err_and c.from_residual-in_err-lost-in-Asks.result c.from_residual-in_err-lost-in-Asks.ensures.1 in
-    passed_on (λ (x : SumError). x ≡ Bytes → ComesToBytes names task bytes) c.from_residual-in_err-lost-in-Asks.result c.in_err-lost-in-Asks.field-0.0 (error.1 ∙ ap Err error.2)
-    (λ is. subst (ComesToBytes names task) (c.in_ok-won-in-Asks.ensures.searched.held ∙ c.enter.ensures.held)
-    (c.in_err-lost-in-Asks.ensures.large (p ++ Failure ∷ []) ((p, r.present) ∷ begun) (stopped_on task p r.present lost_at Failure c.in_ok-lost_stop-in-Asks.lost_stop met sides.lost)
-    (comes_by p Failure r.present begun by) won is))
+    passed_on (λ (x : SumError). x ≡ Bytes count → IsFull names task count bytes c.summed-in-Asks.new.table) c.from_residual-in_err-lost-in-Asks.result c.in_err-lost-in-Asks.field-0.0 (error.1 ∙ ap Err error.2)
+    (λ is.
+    let full =
+    c.in_err-lost-in-Asks.ensures.large count (p ++ Failure ∷ []) ((p, r.present) ∷ begun) (stopped_on task p r.present lost_at Failure c.in_ok-lost_stop-in-Asks.lost_stop met sides.lost)
+    (comes_by p Failure r.present begun by) won is in
+    (full.0, subst (ComesToBytes names task count) (c.in_ok-won-in-Asks.ensures.searched.held ∙ c.enter.ensures.held) full.1))
 
 pub returns-in_err-keys-in-Asks-clause-refused : goal.returns-in_err-keys-in-Asks-clause-refused
 returns-in_err-keys-in-Asks-clause-refused g t c = λ p begun at by entered.
@@ -579,22 +585,22 @@ returns-in_err-keys-in-Asks-clause-refused g t c = λ p begun at by entered.
     (λ is. absurd (c.in_err-keys-in-Asks.ensures.err.0 is))
 
 pub returns-in_err-keys-in-Asks-clause-spent : goal.returns-in_err-keys-in-Asks-clause-spent
-returns-in_err-keys-in-Asks-clause-spent g t c =
+returns-in_err-keys-in-Asks-clause-spent g t c = λ count.
     let error = err_from_is_err_and c.from_residual-in_err-keys-in-Asks.result c.from_residual-in_err-keys-in-Asks.ensures.1 in
-    passed_on (λ (x : SumError). x ≡ Steps → IsSpent c.args.most_work (g.S.Store.record_of c.back-in-Asks.new.self)) c.from_residual-in_err-keys-in-Asks.result c.in_err-keys-in-Asks.field-0.0 (error.1 ∙ ap Err error.2)
-    (λ is. absurd (c.in_err-keys-in-Asks.ensures.err.1 is))
+    passed_on (λ (x : SumError). x ≡ Steps count → IsSpent c.args.most_work count (g.S.Store.record_of c.back-in-Asks.new.self) c.keep.new.table) c.from_residual-in_err-keys-in-Asks.result c.in_err-keys-in-Asks.field-0.0 (error.1 ∙ ap Err error.2)
+    (λ is. absurd (c.in_err-keys-in-Asks.ensures.err.1 count is))
 
 pub returns-in_err-keys-in-Asks-clause-costly : goal.returns-in_err-keys-in-Asks-clause-costly
-returns-in_err-keys-in-Asks-clause-costly g t c = λ p begun at by entered.
+returns-in_err-keys-in-Asks-clause-costly g t c = λ count p begun at by entered.
     let names = map (λ n. n.now) c.args.names.now in
     let task = task_in c.args.rehearsal.now in
     let error = err_from_is_err_and c.from_residual-in_err-keys-in-Asks.result c.from_residual-in_err-keys-in-Asks.ensures.1 in
-    passed_on (λ (x : SumError). x ≡ Steps → ComesToSteps names task c.args.most_work) c.from_residual-in_err-keys-in-Asks.result c.in_err-keys-in-Asks.field-0.0 (error.1 ∙ ap Err error.2)
-    (λ is. absurd (c.in_err-keys-in-Asks.ensures.err.1 is))
+    passed_on (λ (x : SumError). x ≡ Steps count → ComesToSteps names task count c.args.most_work) c.from_residual-in_err-keys-in-Asks.result c.in_err-keys-in-Asks.field-0.0 (error.1 ∙ ap Err error.2)
+    (λ is. absurd (c.in_err-keys-in-Asks.ensures.err.1 count is))
 
 -- the state was searched, and has no room
 pub returns-in_err-keys-in-Asks-clause-large : goal.returns-in_err-keys-in-Asks-clause-large
-returns-in_err-keys-in-Asks-clause-large g t c = λ p begun at by entered.
+returns-in_err-keys-in-Asks-clause-large g t c = λ count p begun at by entered.
     let names = map (λ n. n.now) c.args.names.now in
     let task = task_in c.args.rehearsal.now in
     let r₀ = g.S.Store.record_of c.args.store.now in
@@ -639,6 +645,11 @@ returns-in_err-keys-in-Asks-clause-large g t c = λ p begun at by entered.
     c.in_ok-lost-in-Asks.ensures.searched.entered (p ++ Failure ∷ []) ((p, r.present) ∷ begun) (stopped_on task p r.present lost_at Failure c.in_ok-lost_stop-in-Asks.lost_stop met sides.lost) (comes_by p Failure r.present begun by) gone in
     let table = c.summed-in-Asks.new.table in
     let error = err_from_is_err_and c.from_residual-in_err-keys-in-Asks.result c.from_residual-in_err-keys-in-Asks.ensures.1 in
-    passed_on (λ (x : SumError). x ≡ Bytes → ComesToBytes names task (most_held c.args.table.now)) c.from_residual-in_err-keys-in-Asks.result c.in_err-keys-in-Asks.field-0.0 (error.1 ∙ ap Err error.2)
-    (λ is. subst (ComesToBytes names task) (c.in_ok-lost-in-Asks.ensures.searched.held ∙ c.in_ok-won-in-Asks.ensures.searched.held ∙ c.enter.ensures.held)
-    (too_large names task p r.present begun table keys shown left (subst (λ (m : Moment). HasNoRoom table.room m keys) at_last (c.in_err-keys-in-Asks.ensures.full is)) keys_at summed))
+    passed_on (λ (x : SumError). x ≡ Bytes count → IsFull names task count (most_held c.args.table.now) c.keep.new.table) c.from_residual-in_err-keys-in-Asks.result c.in_err-keys-in-Asks.field-0.0 (error.1 ∙ ap Err error.2)
+    (λ is.
+    let counted = c.in_err-keys-in-Asks.ensures.counted count is in (
+      counted ∙ sym c.keep.ensures.visited,
+      subst (λ (n : ℕ). ComesToBytes names task n (most_held c.args.table.now)) (sym counted)
+          (subst (ComesToBytes names task table.visited) (c.in_ok-lost-in-Asks.ensures.searched.held ∙ c.in_ok-won-in-Asks.ensures.searched.held ∙ c.enter.ensures.held)
+          (too_large names task p r.present begun table keys shown left (subst (λ (m : Moment). HasNoRoom table.room m keys) at_last (c.in_err-keys-in-Asks.ensures.full count is)) keys_at summed)),
+    ))

@@ -27,10 +27,18 @@ returns-clause-kept g c =
     }
 
 pub returns-in_err-keep-clause-full : goal.returns-in_err-keep-clause-full
-returns-in_err-keep-clause-full g c =
+returns-in_err-keep-clause-full g c = λ count.
     let m = (g.S.Store.record_of c.args.store.now).present in
     let keys = keys_shown c.args.keys.items in
     let room = c.args.table.now.room in
     let error = err_from_is_err_and c.from_residual-in_err-keep.result c.from_residual-in_err-keep.ensures.1 in
-    passed_on (λ (x : SumError). x ≡ Bytes → HasNoRoom room m keys) c.from_residual-in_err-keep.result c.in_err-keep.field-0.0 (error.1 ∙ ap Err error.2)
-    (λ is. no_room room m keys c.in_ok-frames.frames.items c.in_ok-known.known.items (ap reverse c.in_ok-frames.ensures ∙ c.frames.ensures) c.in_ok-known.ensures.hold c.in_ok-known.ensures.keys (c.in_err-keep.ensures.full is))
+    passed_on (λ (x : SumError). x ≡ Bytes count → HasNoRoom room m keys) c.from_residual-in_err-keep.result c.in_err-keep.field-0.0 (error.1 ∙ ap Err error.2)
+    (λ is. no_room room m keys c.in_ok-frames.frames.items c.in_ok-known.known.items (ap reverse c.in_ok-frames.ensures ∙ c.frames.ensures) c.in_ok-known.ensures.hold c.in_ok-known.ensures.keys (c.in_err-keep.ensures.full count is))
+
+-- it was refused for that, with the number that the table has
+pub returns-in_err-keep-clause-counted : goal.returns-in_err-keep-clause-counted
+returns-in_err-keep-clause-counted g c = λ count.
+    let visited = c.args.table.now.visited in
+    let error = err_from_is_err_and c.from_residual-in_err-keep.result c.from_residual-in_err-keep.ensures.1 in
+    passed_on (λ (x : SumError). x ≡ Bytes count → count ≡ visited) c.from_residual-in_err-keep.result c.in_err-keep.field-0.0 (error.1 ∙ ap Err error.2)
+    (λ is. let told = (c.in_err-keep.ensures.limit (c.in_err-keep.ensures.full count is)).0 in cc)

@@ -52,25 +52,25 @@ returns-in_err-future-clause-refused g c =
     (λ is. subst (λ (n : ℕ). ComesToStates names task (n + 1)) c.new-table.ensures.most (c.in_err-future.ensures.refused [] [] c.in_ok-stop.ensures.stops tt first is))
 
 pub returns-in_err-future-clause-costly : goal.returns-in_err-future-clause-costly
-returns-in_err-future-clause-costly g c =
+returns-in_err-future-clause-costly g c = λ count.
     let names = map (λ n. n.now) c.args.names.now in
     let task = task_in c.args.rehearsal.now in
     let first = first_entered names task c.new-table.result c.new-table.ensures.entries c.new-table.ensures.flow c.new-table.ensures.visited in
     let error = err_from_is_err_and c.from_residual-in_err-future.result c.from_residual-in_err-future.ensures.1 in
-    passed_on (λ (x : SumError). x ≡ Steps → ComesToSteps names task c.args.most_work) c.from_residual-in_err-future.result c.in_err-future.field-0.0 (error.1 ∙ ap Err error.2)
-    (λ is. c.in_err-future.ensures.costly [] [] c.in_ok-stop.ensures.stops tt first is)
+    passed_on (λ (x : SumError). x ≡ Steps count → ComesToSteps names task count c.args.most_work) c.from_residual-in_err-future.result c.in_err-future.field-0.0 (error.1 ∙ ap Err error.2)
+    (λ is. c.in_err-future.ensures.costly count [] [] c.in_ok-stop.ensures.stops tt first is)
 
 pub returns-in_err-future-clause-spent : goal.returns-in_err-future-clause-spent
-returns-in_err-future-clause-spent g c =
+returns-in_err-future-clause-spent g c = λ count.
     let error = err_from_is_err_and c.from_residual-in_err-future.result c.from_residual-in_err-future.ensures.1 in
-    passed_on (λ (x : SumError). x ≡ Steps → c.args.most_work < (g.S.Store.record_of c.summed.new.store).begun) c.from_residual-in_err-future.result c.in_err-future.field-0.0 (error.1 ∙ ap Err error.2)
-    (λ is. (c.in_err-future.ensures.spent is).0)
+    passed_on (λ (x : SumError). x ≡ Steps count → c.args.most_work < (g.S.Store.record_of c.summed.new.store).begun) c.from_residual-in_err-future.result c.in_err-future.field-0.0 (error.1 ∙ ap Err error.2)
+    (λ is. (c.in_err-future.ensures.spent count is).0)
 
 pub returns-in_err-future-clause-soon : goal.returns-in_err-future-clause-soon
-returns-in_err-future-clause-soon g c =
+returns-in_err-future-clause-soon g c = λ count.
     let error = err_from_is_err_and c.from_residual-in_err-future.result c.from_residual-in_err-future.ensures.1 in
-    passed_on (λ (x : SumError). x ≡ Steps → (g.S.Store.record_of c.summed.new.store).begun ≤ c.args.most_work + most_steps) c.from_residual-in_err-future.result c.in_err-future.field-0.0 (error.1 ∙ ap Err error.2)
-    (λ is. (c.in_err-future.ensures.spent is).1)
+    passed_on (λ (x : SumError). x ≡ Steps count → (g.S.Store.record_of c.summed.new.store).begun ≤ c.args.most_work + most_steps) c.from_residual-in_err-future.result c.in_err-future.field-0.0 (error.1 ∙ ap Err error.2)
+    (λ is. (c.in_err-future.ensures.spent count is).1)
 
 pub returns-clause-flow : goal.returns-clause-flow
 returns-clause-flow g c =
@@ -81,12 +81,14 @@ returns-clause-flow g c =
     (c.in_ok-future.ensures.searched.last c.new-table.ensures.entries c.new-table.ensures.flow) (sym (length-map nodes.items node_shown)) c.in_ok-nodes.ensures
 
 pub returns-then-is_spent-clause-costly : goal.returns-then-is_spent-clause-costly
-returns-then-is_spent-clause-costly g c = λ is.
+returns-then-is_spent-clause-costly g c = λ count is.
     let names = map (λ n. n.now) c.args.names.now in
     let none = c.requires.begun in
     let begun = c.in_ok-stop.ensures.begun in
     let within = c.in_ok-stop.ensures.within in
-    costly_at_once names (task_in c.args.rehearsal.now) c.args.most_work (g.S.Store.record_of c.begin_text.new.store).begun (c.is_spent.ensures.spent (search rules)) (omega (arith, none, begun, within))
+    let same : 0 ≡ count = let e = is in cc in
+    subst (λ (n : ℕ). ComesToSteps names (task_in c.args.rehearsal.now) n c.args.most_work) same
+    (costly_at_once names (task_in c.args.rehearsal.now) c.args.most_work (g.S.Store.record_of c.begin_text.new.store).begun (c.is_spent.ensures.spent (search rules)) (omega (arith, none, begun, within)))
 
 pub returns-clause-held : goal.returns-clause-held
 returns-clause-held g c =
@@ -96,10 +98,10 @@ returns-clause-held g c =
     whole_held names task c.summed.new.table c.args.most_bytes (c.in_ok-future.ensures.searched.held ∙ c.new-table.ensures.held) (c.in_ok-future.ensures.searched.entered [] [] c.in_ok-stop.ensures.stops tt first)
 
 pub returns-in_err-future-clause-large : goal.returns-in_err-future-clause-large
-returns-in_err-future-clause-large g c =
+returns-in_err-future-clause-large g c = λ count.
     let names = map (λ n. n.now) c.args.names.now in
     let task = task_in c.args.rehearsal.now in
     let first = first_entered names task c.new-table.result c.new-table.ensures.entries c.new-table.ensures.flow c.new-table.ensures.visited in
     let error = err_from_is_err_and c.from_residual-in_err-future.result c.from_residual-in_err-future.ensures.1 in
-    passed_on (λ (x : SumError). x ≡ Bytes → ComesToBytes names task c.args.most_bytes) c.from_residual-in_err-future.result c.in_err-future.field-0.0 (error.1 ∙ ap Err error.2)
-    (λ is. subst (ComesToBytes names task) c.new-table.ensures.held (c.in_err-future.ensures.large [] [] c.in_ok-stop.ensures.stops tt first is))
+    passed_on (λ (x : SumError). x ≡ Bytes count → ComesToBytes names task count c.args.most_bytes) c.from_residual-in_err-future.result c.in_err-future.field-0.0 (error.1 ∙ ap Err error.2)
+    (λ is. subst (ComesToBytes names task count) c.new-table.ensures.held (c.in_err-future.ensures.large count [] [] c.in_ok-stop.ensures.stops tt first is).1)

@@ -45,8 +45,8 @@ returns-clause-ok g c =
     (task, states, refl, c.in_ok-found.ensures.states, held, subst (λ (flow : Bool). Tells names flow task states text) (sym is) told)
 
 pub returns-in_err-found-clause-costly : goal.returns-in_err-found-clause-costly
-returns-in_err-found-clause-costly g c =
+returns-in_err-found-clause-costly g c = λ count.
     let names = map (λ n. n.now) c.args.names.now in
     let error = err_from_is_err_and c.from_residual.result c.from_residual.ensures.1 in
-    passed_on (λ (x : SumError). x ≡ Steps → ComesToSteps names (unheard (task_in c.args.rehearsal.now)) c.args.most_work) c.from_residual.result c.in_err-found.field-0.0 (error.1 ∙ ap Err error.2)
-    (λ is. subst (λ (t : Task). ComesToSteps names t c.args.most_work) c.unheard-quiet.ensures (c.in_err-found.ensures.costly is))
+    passed_on (λ (x : SumError). x ≡ Steps count → ComesToSteps names (unheard (task_in c.args.rehearsal.now)) count c.args.most_work) c.from_residual.result c.in_err-found.field-0.0 (error.1 ∙ ap Err error.2)
+    (λ is. subst (λ (t : Task). ComesToSteps names t count c.args.most_work) c.unheard-quiet.ensures (c.in_err-found.ensures.costly count is))

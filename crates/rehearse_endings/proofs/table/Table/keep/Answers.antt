@@ -12,7 +12,7 @@ use Rattle.rehearse_endings.proofs.IndexLemmas.{all_noted}
 use Rattle.rehearse_endings.proofs.table.Table.keep.Goals as goal
 
 pub returns-in_default-clause-full : goal.returns-in_default-clause-full
-returns-in_default-clause-full c = λ is.
+returns-in_default-clause-full c = λ count is.
     let room = c.args.self.now.room in
     subst (λ (ks : List Known). room < size_of c.args.frames.items ks) c.deref-2.ensures.value (subst (λ (fs : List RunningFrame). room < size_of fs c.deref-2.result.now) c.deref.ensures.value c.in_default.ensures)
 
