@@ -72,12 +72,12 @@ as many steps in all as are allowed
 
 one step more than allowed
   $ ubtool endings -c flow.config -d devices -b load --work 2
-  ! ubtool: more steps than allowed
+  ! ubtool: more steps than allowed (states: 2)
   [1]
 
 one step is more than none
   $ ubtool endings -c flow.config -d devices -b load --work 0
-  ! ubtool: more steps than allowed
+  ! ubtool: more steps than allowed (states: 0)
   [1]
 
 more states than allowed, before more steps than allowed are begun
@@ -87,13 +87,13 @@ more states than allowed, before more steps than allowed are begun
 
 a flow takes the same steps
   $ ubtool endings -c flow.config -d devices -b load --flow --work 2
-  ! ubtool: more steps than allowed
+  ! ubtool: more steps than allowed (states: 2)
   [1]
 
 a loop without an end, by the steps in all that a call may begin, and by the default
   $ script loop 'bootcmd=load; while true; do true; done'
   $ ubtool endings -c loop.config -d devices --work 100000
-  ! ubtool: more steps than allowed
+  ! ubtool: more steps than allowed (states: 1)
   [1]
   $ ubtool endings -c loop.config -d devices
   ends 2 first 0 fewest 0 0 cut steps
@@ -108,12 +108,12 @@ as much memory as the states count
 
 one state counts more than nothing
   $ ubtool endings -c flow.config -d devices -b load --memory 0
-  ! ubtool: more memory than allowed
+  ! ubtool: more memory than allowed (states: 2)
   [1]
 
 more memory than allowed, before more steps than allowed are begun
   $ ubtool endings -c flow.config -d devices -b load --memory 0 --work 2
-  ! ubtool: more memory than allowed
+  ! ubtool: more memory than allowed (states: 2)
   [1]
 
 more states than allowed, before one is kept
@@ -123,7 +123,7 @@ more states than allowed, before one is kept
 
 a flow takes the same memory
   $ ubtool endings -c flow.config -d devices -b load --flow --memory 0
-  ! ubtool: more memory than allowed
+  ! ubtool: more memory than allowed (states: 2)
   [1]
 
 no device command, and no state

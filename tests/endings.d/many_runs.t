@@ -69,8 +69,15 @@ a million states, of which 10,000 are allowed, in 64 MiB
   [1]
 
 a million states, of which those in 16 MiB are allowed, in 64 MiB
-  $ (ulimit -v 65536; ubtool endings -c spreading.config -d devices --memory 16)
-  ! ubtool: more memory than allowed
+  $ (ulimit -v 65536; ubtool endings -c spreading.config -d devices --memory 16) 2>told
+  [1]
+  $ states=$(tr -dc 0-9 <told); sed "s/$states/N/" told
+  ! ubtool: more memory than allowed (states: N)
+
+as many states as that, and one less
+  $ ubtool endings -c spreading.config -d devices --memory 16 --states "$states" 2>&1 | cmp - told
+  $ ubtool endings -c spreading.config -d devices --memory 16 --states $((states - 1))
+  ! ubtool: more states than allowed
   [1]
 
 a million states in 32 MiB
