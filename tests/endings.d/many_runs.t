@@ -126,3 +126,25 @@ Texts that run each other as their last command: a thousand states in 2 MiB, sin
   $ ubtool endings -c turning.config -d devices --memory 2 | sed 's/ first .*//'
   ends >=340282366920938463463374607431768211455
   all >=340282366920938463463374607431768211455 states 1000
+
+and so in the last `if`, by each shell
+  $ printf '%s\n' 'a=load; if true; then run b; fi' 'b=if false; then true; else load; if true; then run a; fi; fi' 'bootcmd=run a' |
+  >     lines_image branches
+  $ for shell in profile old-2023.01 old modern; do
+  >     ubtool endings -c branches.config -d devices --memory 2 --shell "$shell" | sed 's/ first .*//'
+  > done
+  ends >=340282366920938463463374607431768211455
+  all >=340282366920938463463374607431768211455 states 1000
+  ends >=340282366920938463463374607431768211455
+  all >=340282366920938463463374607431768211455 states 1000
+  ends >=340282366920938463463374607431768211455
+  all >=340282366920938463463374607431768211455 states 1000
+  ends >=340282366920938463463374607431768211455
+  all >=340282366920938463463374607431768211455 states 1000
+
+a million steps of such texts, in 20 MiB
+  $ printf '%s\n' 'a=if true; then run b; fi' 'b=if false; then true; else if true; then run a; fi; fi' 'bootcmd=run a' | lines_image steps
+  $ (ulimit -v 20480; ubtool rehearse -c steps.config -d devices --steps 1000000)
+  run .
+  cut steps
+  done
