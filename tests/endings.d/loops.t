@@ -101,7 +101,37 @@ a loop that counts, and comes back to no state
 texts that run each other
   $ printf '%s\n' 'bootcmd=load; run b' 'b=setenv a 1; run c' 'c=setenv a 2; setenv a 3; run b' | lines_image loop
   $ both 100 101 102 103 104 105 999998 999999 1000000
+  endings --steps 100: 2
+  rehearse --steps 100: 2
+  endings --steps 101: 3
+  rehearse --steps 101: 3
+  endings --steps 102: 3
+  rehearse --steps 102: 3
+  endings --steps 103: 1
+  rehearse --steps 103: 1
+  endings --steps 104: 1
+  rehearse --steps 104: 1
+  endings --steps 105: 2
+  rehearse --steps 105: 2
+  endings --steps 999998: 1
+  rehearse --steps 999998: 1
+  endings --steps 999999: 1
+  rehearse --steps 999999: 1
+  endings --steps 1000000: 2
+  rehearse --steps 1000000: 2
 
 a loop in front of the first device command
   $ printf '%s\n' 'bootcmd=while true; do setenv a 1; setenv a 2; done; load' | lines_image loop
   $ both 100 101 102 999998 999999 1000000
+  endings --steps 100: 2
+  rehearse --steps 100: 2
+  endings --steps 101: 1
+  rehearse --steps 101: 1
+  endings --steps 102: 2
+  rehearse --steps 102: 2
+  endings --steps 999998: 1
+  rehearse --steps 999998: 1
+  endings --steps 999999: 2
+  rehearse --steps 999999: 2
+  endings --steps 1000000: 2
+  rehearse --steps 1000000: 2

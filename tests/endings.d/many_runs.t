@@ -146,5 +146,8 @@ a million steps of such texts, in 20 MiB
   $ printf '%s\n' 'a=if true; then run b; fi' 'b=if false; then true; else if true; then run a; fi; fi' 'bootcmd=run a' | lines_image steps
   $ (ulimit -v 20480; ubtool rehearse -c steps.config -d devices --steps 1000000)
   run .
+  var a=if true; then run b; fi
+  var b=if false; then true; else if true; then run a; fi; fi
+  var bootcmd=run a
   cut steps
   done
