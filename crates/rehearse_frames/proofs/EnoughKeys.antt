@@ -162,7 +162,7 @@ finished_so : (limits : Limits) (w : OutcomeWord) (ends : Option BoardEnd) (name
 finished_so limits w (Some how) name fs s = sym (continue-ended limits fs (Finished how name) (with w s))
 finished_so limits w None name fs s = refl
 
-answered_so : (limits : Limits) (w : OutcomeWord) (outcome : Outcome) (request : Request) (fs : List Frame) (s : State) → comes_to limits w (answered outcome request fs s) ≡ comes_to limits (outcome ∷ w) (Ask request fs s)
+pub answered_so : (limits : Limits) (w : OutcomeWord) (outcome : Outcome) (request : Request) (fs : List Frame) (s : State) → comes_to limits w (answered outcome request fs s) ≡ comes_to limits (outcome ∷ w) (Ask request fs s)
 answered_so limits w Success request fs s = finished_so limits w request.effect.ends request.name fs (set_environment (sets_in request.words request.effect.sets) (logged Success request s))
 answered_so limits w Failure request fs s = refl
 

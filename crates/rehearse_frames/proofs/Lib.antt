@@ -7,4 +7,6 @@ pub mod EnoughKeys
 pub mod EnoughSteps
 pub mod OtherSteps
 pub mod LoopLemmas
+pub mod MovesOver
+pub mod LowestFrames
 mod MoveExamples

@@ -1,5 +1,5 @@
 -- Laws of what frames still read, over the definitions alone. Ours.
-use Rattle.std.specs.Prelude.{◌≡◌, ℕ, ◌+◌, ◌*◌, ◌≤◌, List, [], ◌∷◌, ◌++◌}
+use Rattle.std.specs.Prelude.{◌≡◌, ℕ, ◌+◌, ◌*◌, ◌<◌, ◌≤◌, List, [], ◌∷◌, ◌++◌, length}
 use Rattle.bootstore_state.specs.Moment.{Moment}
 use Rattle.bootstore_state.specs.StoredState.{state_at}
 use Rattle.rehearse_terms.specs.Outcomes.{Outcome, Success, Failure, OutcomeWord}
@@ -18,6 +18,7 @@ use Rattle.rehearse_frames.specs.ToCome.{names_read, of_frames, of_next}
 use Rattle.rehearse_frames.specs.KeysToCome.{AreEnough, AreEnoughIf, AreEnoughFrom, AreEnoughAfter, AreEnoughAt, AreAtOnePlace}
 use Rattle.rehearse_frames.specs.MoveAccesses.{of_move}
 use Rattle.rehearse_frames.specs.AlikeFutures.{CameAlike}
+use Rattle.rehearse_frames.specs.Above.{above, without_lowest, NeverReturns, StaysAbove}
 use Rattle.rehearse_frames.specs.Loops.{later, after_moves, of_moves, ComesAfter, Stretch}
 
 -- what frames read and write is what one move reads and writes, and then what is to come after it
@@ -135,3 +136,38 @@ abbrev pub LoopsGoOn : Type 0
 LoopsGoOn = (limits : Limits) (steps rounds : ℕ) (fs : List Frame) (s : State) (accesses : List Access) →
     Stretch limits fs s fs (later steps s) accesses → s.steps + (rounds * steps + steps) ≤ limits.step_bound →
     ComesAfter limits (Go fs s) (Go fs (later (rounds * steps + steps) s)) accesses
+
+-- ---- without the lowest frames
+
+-- a move that leaves so many frames alone is the same move without them
+abbrev pub MovesStayAbove : Type 0
+MovesStayAbove = (limits : Limits) (below : ℕ) (step : Step) (old new : Moment) → below < length old.frames → StaysAbove below step new →
+    ((w : OutcomeWord) → next_shown step new w ≡ place_move limits old.frames (state_at old w)) →
+    (w : OutcomeWord) → next_shown step (without_lowest below new) w ≡ place_move limits (above below old.frames) (state_at old w)
+
+-- an outcome leaves all frames alone
+abbrev pub OutcomesStayAbove : Type 0
+OutcomesStayAbove = (below : ℕ) (outcome : Outcome) (request : Request) (step : Step) (old new : Moment) →
+    ((w : OutcomeWord) → next_shown step new w ≡ place_answered outcome request old.frames (state_at old w)) →
+    (w : OutcomeWord) → next_shown step (without_lowest below new) w ≡ place_answered outcome request (above below old.frames) (state_at old w)
+
+-- the command that asks is found without the lowest frames, if one is left
+abbrev pub AsksAbove : Type 0
+AsksAbove = (limits : Limits) (below : ℕ) (m : Moment) → IsAsking limits m → below < length m.frames → IsAsking limits (without_lowest below m)
+
+-- if nothing comes back to the lowest frames, the same is to come without them
+abbrev pub LowestMakeNoDifference : Type 0
+LowestMakeNoDifference = (limits : Limits) (below : ℕ) (m : Moment) → IsAsking limits m → below < length m.frames →
+    NeverReturns (asked_at limits (without_lowest below m)) →
+    (w : OutcomeWord) → asked_at limits m w ≡ asked_at limits (without_lowest below m) w
+
+-- nothing comes back where a command asks, if nothing does after either outcome
+abbrev pub NeitherReturns : Type 0
+NeitherReturns = (limits : Limits) (m : Moment) → IsAsking limits m → NeverReturns (λ w. asked_at limits m (Success ∷ w)) →
+    NeverReturns (λ w. asked_at limits m (Failure ∷ w)) → NeverReturns (asked_at limits m)
+
+-- and keys that are enough without the lowest frames are enough with them
+abbrev pub KeysHoldBelow : Type 0
+KeysHoldBelow = (limits : Limits) (wanted : List Text) (below : ℕ) (m : Moment) (keys : List Key) → IsAsking limits m → below < length m.frames →
+    NeverReturns (asked_at limits (without_lowest below m)) →
+    AreEnoughAt limits wanted (without_lowest below m) keys → AreEnoughAt limits wanted m keys

@@ -1,6 +1,7 @@
 //! Laws of what frames still read. A call of one does nothing: its contract is the law.
 
 ghost use Rattle.rehearse_frames.specs.Laws.{AlikeFramesAreStretches, AskedAlike, FramesGoAlike, MovesAreStretches, MovesComeFirst, OutcomesComeFirst, StretchesJoin};
+ghost use Rattle.rehearse_frames.specs.Laws.{AsksAbove, KeysHoldBelow, LowestMakeNoDifference, MovesStayAbove, NeitherReturns, OutcomesStayAbove};
 ghost use Rattle.rehearse_frames.specs.Laws.{KeysOfAlikeFrames, KeysOfAnswers, KeysOfAsking, KeysOfEnds, KeysOfMoments, KeysOfMoves, KeysOfOutcomes, KeysOfSteps, LoopsGoOn, MomentsGoAlike, MoreKeysAreEnough};
 
 /// What frames still read and write is what their next move reads and writes, and then what is to come
@@ -59,4 +60,16 @@ pub fn loops_go_on()
     ensures alike { AlikeFramesAreStretches }
     ensures join { StretchesJoin }
     ensures rounds { LoopsGoOn }
+{}
+
+/// A run without the lowest frames: a move that leaves these alone, and goes on above them, is the same
+/// without them, and so is an outcome; the device command that asks is found there too. If nothing comes
+/// back to the lowest frames, the same is to come with them as without them, and the same keys are enough.
+pub fn lowest_frames()
+    ensures moves { MovesStayAbove }
+    ensures outcomes { OutcomesStayAbove }
+    ensures asks { AsksAbove }
+    ensures same { LowestMakeNoDifference }
+    ensures neither { NeitherReturns }
+    ensures keys { KeysHoldBelow }
 {}
