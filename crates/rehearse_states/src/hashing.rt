@@ -138,7 +138,7 @@ fn mix_frame(hash: u64, frame: &Frame) -> u64
 }
 
 /// The number of a place, of which the outermost frame comes first.
-fn number_of(frames: &[Frame]) -> u64
+pub fn number_of(frames: &[Frame]) -> u64
     ensures { result ≡ fold mixed_frame 0xcbf29ce484222325 frames.now }
 {
     frames

@@ -20,7 +20,7 @@ pub use ending_lines::{put_ending, put_number, text_of};
 pub use fail_lines::put_fail;
 pub use flow::{Flow, Node};
 pub use flow_lines::flow_text_of;
-pub use hashing::{hash_of, mix, mix_text, mix_words};
+pub use hashing::{hash_of, mix, mix_text, mix_words, number_of};
 pub use places::{copy_frames, same_frames};
 pub use rows::Row;
 pub use run_end::{RunEnd, run_end_of, same_halt};
