@@ -15,6 +15,7 @@ pub mod KnownLemmas
 pub mod AskedLemmas
 pub mod FollowingLemmas
 pub mod SameLemmas
+pub mod StepLemmas
 pub mod LoopingLemmas
 pub mod AskedSame
 pub mod OutcomeLemmas

@@ -1,5 +1,5 @@
 -- Reports of outcomes.
-use Rattle.std.proofs.Common.{◌≡◌, ◌∙◌, refl, sym, ap, subst, Bool, true, false, List, [], ◌∷◌, ◌++◌, map, Option, Some, None, Result, Ok, Err, Vec, Global, ℕ}
+use Rattle.std.proofs.Common.{◌≡◌, ◌∙◌, ◌≤◌, arith, refl, sym, ap, subst, Bool, true, false, List, [], ◌∷◌, ◌++◌, length, map, Option, Some, None, Result, Ok, Err, Vec, Global, ℕ}
 use Rattle.std.specs.Prelude.{OnOk, IfOk}
 use Rattle.std.specs.List.{flat_map}
 use Rattle.device_list.specs.Called.{sets_in, set_in, variable_of, value_of}
@@ -14,9 +14,10 @@ use Rattle.rehearse_terms.specs.Outcomes.{Outcome, OutcomeWord}
 use Rattle.rehearse_terms.specs.State.{Text, State}
 use Rattle.rehearse_rules.specs.Execution.{Limits, Request, outcome_when}
 use Rattle.rehearse_machine.specs.AskingCommand.{found_again}
-use Rattle.rehearse_machine.specs.Machine.{Asking, IsAsking}
+use Rattle.rehearse_machine.specs.Machine.{Asking, IsAsking, asked_at}
 use Rattle.rehearse_machine.specs.MovesShown.{next_shown, request_shown, Does, Comes}
 use Rattle.rehearse_machine.specs.Places.{AskOn, place_answered}
+use Rattle.rehearse_machine.specs.Turning.{Drives, to_come}
 use Rattle.rehearse_machine.specs.declared.ask.Ask.{Ask}
 use Rattle.rehearse_machine.specs.declared.ask.Step.{Step}
 use Rattle.rehearse_machine.specs.declared.ask.Step.TheVariants as steps
@@ -25,11 +26,14 @@ use Rattle.rehearse_machine.specs.declared.rehearsal.Stop.TheVariants as stops
 use Rattle.rehearse_rules.specs.declared.halt.Halt.{Halt}
 use Rattle.rehearse_reads.specs.Keys.{Key, Access, Writes, Environment, Status}
 use Rattle.rehearse_reads.specs.Accesses.{names_written, outcome_accesses, status_written}
-use Rattle.rehearse_frames.specs.KeysToCome.{AreEnoughFrom, AreEnoughAfter}
+use Rattle.rehearse_frames.specs.Above.{without_lowest}
+use Rattle.rehearse_frames.specs.KeysToCome.{AreEnoughFrom}
+use Rattle.rehearse_frames.proofs.LowestFrames.{again_above, asking_above, asks_in_frames, outcomes_stay_above}
 use Rattle.rehearse_reports.specs.Reports.{Reports}
-use Rattle.rehearse_reports.specs.Following.{Leads, FollowsOutcome, FollowsToStop, IsReportedFor, AreEnoughFor, AreEnoughAtStop}
+use Rattle.rehearse_reports.specs.Following.{FollowsOutcome, FollowsAbove, FollowsOutcomeAbove, FollowsToStopAbove, IsReportedAbove, AreEnoughFor, AreEnoughAtStop, comes_at_stop}
+use Rattle.rehearse_reports.specs.Looping.{HasFrames}
 use Rattle.rehearse_reports.proofs.ReportLemmas.{reports_nothing, reports_then}
-use Rattle.rehearse_reports.proofs.FollowingLemmas.{at_end, follows_outcome, leads_then, reported_for}
+use Rattle.rehearse_reports.proofs.FollowingLemmas.{at_end, follows_asking, follows_ended, follows_outcome, leads_then, reported_for}
 
 abbrev names_of : List (Text × Text) → List Access
 names_of sets = names_written (map (λ e. e.0) sets)
@@ -92,31 +96,50 @@ module _ (limits : Limits) (old mid new : Record) (step : Step) (ask : Ask) (out
   same_state : (w : OutcomeWord) → state_at mid.present w ≡ state_at old.present w
   same_state w = let e = asks_so w in cc
 
-  given : (next : Step) → Does next mid new (place_answered outcome (request_shown ask) mid.present.frames) → FollowsOutcome limits outcome old.present next new.present before after
-  unfolding IsAsking
-  given next does =
-      follows_outcome limits outcome old.present asks.request next new.present before after asks asks.again
+  given : (next : Step) → Does next mid new (place_answered outcome (request_shown ask) mid.present.frames) → FollowsOutcomeAbove limits (length old.present.frames) outcome old.present next new.present before after
+  given next does below within =
+      let some = asks_in_frames limits old.present asks in
+      follows_outcome limits outcome (without_lowest below old.present) (asking_above limits below old.present asks (omega arith)) next (without_lowest below new.present) before after
+      (outcomes_stay_above below outcome asks.request next old.present new.present
       (λ w. does.0 w
       ∙ ap (λ (r : Request). place_answered outcome r mid.present.frames (state_at mid.present w)) same_request
       ∙ ap (λ (ps : List RunningFrame). place_answered outcome asks.request ps (state_at mid.present w)) same_frames
-      ∙ ap (place_answered outcome asks.request old.present.frames) (same_state w))
+      ∙ ap (place_answered outcome asks.request old.present.frames) (same_state w)))
       (subst (λ (r : Request). Reports before after (outcome_accesses outcome r)) same_request reported)
 
 pub all_given : (limits : Limits) (old mid new : Record) (step : Step) (ask : Ask) (outcome : Outcome) (before after : List Access) → IsAsking limits old.present → Does step old mid (found_again limits old.present.frames) → step ≡ steps.Asks ask → Reports before after (outcome_accesses outcome (request_shown ask))
-    → (r : Result Step StoreError) → Comes r mid new (place_answered outcome (request_shown ask) mid.present.frames) → IfOk r (λ next. FollowsOutcome limits outcome old.present next new.present before after)
+    → (r : Result Step StoreError) → Comes r mid new (place_answered outcome (request_shown ask) mid.present.frames) → IfOk r (λ next. FollowsOutcomeAbove limits (length old.present.frames) outcome old.present next new.present before after)
 unfolding IsAsking
 all_given limits old mid new step ask outcome before after asks finds is reported (Ok next) does = given limits old mid new step ask outcome before after asks finds is reported next does
 all_given limits old mid new step ask outcome before after asks finds is reported (Err x) does = tt
 
 -- ---- up to the next stop
 
-pub all_reported : (r : Result Stop StoreError) (limits : Limits) (outcome : Outcome) (m n k : Moment) (old mid new : List Access) → old ≡ [] → FollowsOutcome limits outcome m steps.Going n old mid → IfOk r (λ stop. FollowsToStop limits n stop k mid new) → IfOk r (λ stop. IsReportedFor limits outcome m stop k new)
-all_reported (Ok stop) limits outcome m n k old mid new e a b =
-    reported_for limits outcome m stop k old new e
-    (leads_then (λ wanted. AreEnoughFor limits wanted outcome m) (λ wanted. AreEnoughFrom limits wanted n) (λ wanted. AreEnoughAtStop limits wanted stop k) old mid new a b)
-all_reported (Err x) limits outcome m n k old mid new e a b = b
+-- a step that has led to a device command which asks
+pub all_follow_asking : (limits : Limits) (fewest : ℕ) (old new : Record) (step : Step) (ask : Ask) (before after : List Access) → step ≡ steps.Asks ask → Drives limits step old new → HasFrames fewest step new.present
+    → FollowsAbove limits fewest old.present step new.present before after → FollowsToStopAbove limits fewest old.present stops.Asks new.present before after
+all_follow_asking limits fewest old new step ask before after is drives frames follows below within =
+    let d : Drives limits (steps.Asks ask) old new = subst (λ (x : Step). Drives limits x old new) is drives in
+    let there : HasFrames fewest (steps.Asks ask) new.present = subst (λ (x : Step). HasFrames fewest x new.present) is frames in
+    follows_asking limits (without_lowest below old.present) (without_lowest below new.present) step ask before after is (again_above limits below fewest new.present (request_shown ask) within there d.again) (follows below within)
 
-pub end_reported : (limits : Limits) (outcome : Outcome) (m n : Moment) (step : Step) (halt : Halt) (old new : List Access) → old ≡ [] → step ≡ steps.Ends halt → FollowsOutcome limits outcome m step n old new → IsReportedFor limits outcome m (stops.Ends halt) n new
-end_reported limits outcome m n step halt old new e is a wanted later h =
-    let f : FollowsOutcome limits outcome m (steps.Ends halt) n old new = subst (λ (x : Step). FollowsOutcome limits outcome m x n old new) is a in
-    reported_for limits outcome m (stops.Ends halt) n old new e (record { accesses = f.accesses; enough = λ names keys k. f.enough names keys (at_end limits names halt n keys k); reported = f.reported }) wanted later h
+pub all_follow_ended : (limits : Limits) (fewest : ℕ) (m n : Moment) (step : Step) (halt : Halt) (before after : List Access) → step ≡ steps.Ends halt → FollowsAbove limits fewest m step n before after → FollowsToStopAbove limits fewest m (stops.Ends halt) n before after
+all_follow_ended limits fewest m n step halt before after is follows below within = follows_ended limits (without_lowest below m) (without_lowest below n) step halt before after is (follows below within)
+
+pub all_reported : (r : Result Stop StoreError) (limits : Limits) (first fewest : ℕ) (outcome : Outcome) (m n k : Moment) (old mid new : List Access) → OnOk r (fewest ≤ first) → old ≡ [] → FollowsOutcomeAbove limits first outcome m steps.Going n old mid
+    → IfOk r (λ stop. FollowsToStopAbove limits fewest n stop k mid new) → IfOk r (λ stop. IsReportedAbove limits fewest outcome m stop k new)
+all_reported (Ok stop) limits first fewest outcome m n k old mid new less e a b = λ below within.
+    let here : Moment = without_lowest below m in
+    let there : Moment = without_lowest below n in
+    let last : Moment = without_lowest below k in
+    reported_for limits outcome here stop last old new e
+    (leads_then (λ w. asked_at limits here (outcome ∷ w)) (to_come limits there) (comes_at_stop limits stop last)
+    (λ wanted. AreEnoughFor limits wanted outcome here) (λ wanted. AreEnoughFrom limits wanted there) (λ wanted. AreEnoughAtStop limits wanted stop last) old mid new (a below (omega arith)) (b below within))
+all_reported (Err x) limits first fewest outcome m n k old mid new less e a b = b
+
+pub end_reported : (limits : Limits) (fewest : ℕ) (outcome : Outcome) (m n : Moment) (step : Step) (halt : Halt) (old new : List Access) → old ≡ [] → step ≡ steps.Ends halt → FollowsOutcomeAbove limits fewest outcome m step n old new → IsReportedAbove limits fewest outcome m (stops.Ends halt) n new
+end_reported limits fewest outcome m n step halt old new e is a below within =
+    let here : Moment = without_lowest below m in
+    let last : Moment = without_lowest below n in
+    let f : FollowsOutcome limits outcome here (steps.Ends halt) last old new = subst (λ (x : Step). FollowsOutcome limits outcome here x last old new) is (a below within) in
+    reported_for limits outcome here (stops.Ends halt) last old new e (record { accesses = f.accesses; comes = λ w. f.comes w; enough = λ names keys k. f.enough names keys (at_end limits names halt last keys k); reported = f.reported })

@@ -1,16 +1,23 @@
 -- What a report of accesses promises. Ours.
-use Rattle.std.specs.Prelude.{List, [], ◌++◌, false}
+use Rattle.std.specs.Prelude.{List, [], ◌++◌, length, false}
 use Rattle.builtins.specs.Builtins.{Test}
-use Rattle.bootstore_state.specs.Moment.{Moment}
+use Rattle.bootstore_state.specs.Moment.{Moment, RunningFrame}
 use Rattle.bootstore_state.specs.StoredState.{state_at}
 use Rattle.rehearse_terms.specs.State.{Text, Memory, State}
 use Rattle.rehearse_rules.specs.Execution.{Limits}
-use Rattle.rehearse_frames.specs.MoveAccesses.{of_builtin}
+use Rattle.rehearse_machine.specs.Places.{frames_of}
+use Rattle.rehearse_frames.specs.Above.{above, AboveAll}
+use Rattle.rehearse_frames.specs.MoveAccesses.{of_builtin, of_move}
 use Rattle.rehearse_reads.specs.Keys.{Access, Covers}
 
 -- the new report may stand for the old one and these accesses after it: no fewer keys have to be known before it
 abbrev pub Reports : (old new accesses : List Access) → Type 0
 Reports old new accesses = Covers new (old ++ accesses)
+
+-- the same of the next move of these frames, however many of the lowest are left out, if one stays
+abbrev pub ReportsAbove : Limits → List RunningFrame → State → (old new : List Access) → Type 0
+ReportsAbove limits frames s old new =
+    AboveAll (length frames) (λ below. Reports old new (of_move limits (frames_of (above below frames)) s))
 
 -- and it names no key too many: whatever has to be known later, the same keys have to be known before both
 pub record Adds (old new accesses : List Access) : Type 0 where

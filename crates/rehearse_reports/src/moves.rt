@@ -2,10 +2,8 @@
 ghost use Rattle.std.specs.Prelude.{[], OnOk};
 ghost use Rattle.bootstore_state.specs.StoredState.{state_at};
 ghost use Rattle.rehearse_machine.specs.MovesShown.{limits_of};
-ghost use Rattle.rehearse_machine.specs.Places.{frames_of};
-ghost use Rattle.rehearse_frames.specs.MoveAccesses.{of_move};
 ghost use Rattle.rehearse_reports.specs.Begins.{of_begins};
-ghost use Rattle.rehearse_reports.specs.Reports.{Reports};
+ghost use Rattle.rehearse_reports.specs.Reports.{Reports, ReportsAbove};
 ghost use Rattle.rehearse_reports.specs.ReportsShown.{accesses_shown};
 
 use crate::beginnings::report_command;
@@ -48,8 +46,8 @@ fn report_begun<S: Store>(
     }
 }
 
-/// Reports what the next move reads and writes, before it is made. The status is always reported as
-/// read: where a device command asks, its outcome writes it. Errors: `Memory`.
+/// Reports what the next move reads and writes, before it is made, whatever frames are below. The status
+/// is always reported as read: where a device command asks, its outcome writes it. Errors: `Memory`.
 pub(crate) fn report_move<S: Store>(
     alloc: Global,
     reported: &mut Reported,
@@ -58,10 +56,9 @@ pub(crate) fn report_move<S: Store>(
     devices: &Devices,
     bounds: RunBounds,
 ) -> Result<(), StoreError>
-    ensures { OnOk result (Reports (accesses_shown reported.old) (accesses_shown reported.new)
-        (of_move (limits_of devices.now bounds)
-        (frames_of (S.record_of store.now).present.frames)
-        (state_at (S.record_of store.now).present []))) }
+    ensures { OnOk result (ReportsAbove (limits_of devices.now bounds)
+        (S.record_of store.now).present.frames (state_at (S.record_of store.now).present [])
+        (accesses_shown reported.old) (accesses_shown reported.new)) }
 {
     reported.reads(Key::Status)?;
     let Some(top) = store.top() else {

@@ -1,5 +1,5 @@
 //! A rehearsal that is begun, or continued with an outcome, and reports what it reads and writes.
-ghost use Rattle.std.specs.Prelude.{◌≡◌, ◌+◌, ◌<◌, ◌≤◌, ◌^◌, ◌∷◌, [], OnOk, IfOk};
+ghost use Rattle.std.specs.Prelude.{◌≡◌, ◌+◌, ◌<◌, ◌≤◌, ◌^◌, ◌∷◌, [], OnOk, IfOk, length};
 ghost use Rattle.rehearse_terms.specs.Bounds.{most_steps};
 ghost use Rattle.rehearse_rules.specs.Runs.{run_on};
 ghost use Rattle.rehearse_machine.specs.Came.{settled};
@@ -7,7 +7,7 @@ ghost use Rattle.rehearse_machine.specs.MovesShown.{Keeps, limits_of};
 ghost use Rattle.rehearse_machine.specs.Turning.{IsSound, to_come};
 ghost use Rattle.rehearse_machine.specs.Machine.{Stops, IsAsking, TakesOutcome, asked_at, outcome_when};
 ghost use Rattle.rehearse_machine.specs.Tasks.{task_in};
-ghost use Rattle.rehearse_reports.specs.Following.{FollowsOutcome, FollowsToStop, IsReportedFor};
+ghost use Rattle.rehearse_reports.specs.Following.{FollowsOutcomeAbove, FollowsToStopAbove, HasFramesAtStop, IsReportedAbove};
 ghost use Rattle.rehearse_reports.specs.ReportsShown.{accesses_shown};
 
 use crate::driving::reported_drive;
@@ -22,6 +22,7 @@ fn go_on<S: Store>(
     rehearsal: &Rehearsal<'_>,
     reported: &mut Reported,
     store: &mut S,
+    fewest: &mut usize,
 ) -> Result<Stop, StoreError>
     requires sound { IsSound (S.record_of store.old).present }
     requires steps { (S.record_of store.old).present.steps ≤ rehearsal.now.bounds.steps }
@@ -35,10 +36,12 @@ fn go_on<S: Store>(
         ((S.record_of store.new).present.steps ≤ rehearsal.now.bounds.steps) }
     ensures grows { OnOk result
         ((S.record_of store.old).present.steps ≤ (S.record_of store.new).present.steps) }
-    ensures follows { IfOk result (λ stop. FollowsToStop
-        (limits_of rehearsal.now.devices.now rehearsal.now.bounds)
+    ensures follows { IfOk result (λ stop. FollowsToStopAbove
+        (limits_of rehearsal.now.devices.now rehearsal.now.bounds) fewest.new
         (S.record_of store.old).present stop (S.record_of store.new).present
         (accesses_shown reported.old) (accesses_shown reported.new)) }
+    ensures fewer { OnOk result (fewest.new ≤ fewest.old) }
+    ensures frames { IfOk result (λ stop. HasFramesAtStop fewest.new stop (S.record_of store.new).present) }
 {
     let mut fields = Fields::new(rehearsal.alloc);
     match reported_drive(
@@ -48,6 +51,7 @@ fn go_on<S: Store>(
         &mut fields,
         rehearsal.devices,
         rehearsal.bounds,
+        fewest,
     )? {
         Step::Going => unreachable!(),
         Step::Asks(_) => Ok(Stop::Asks),
@@ -69,8 +73,9 @@ pub fn begin_watched<S: Store>(rehearsal: &Rehearsal<'_>, store: &mut S) -> Resu
 {
     let _bound = rehearsal.bounds.steps();
     let mut unread = Reported::new(rehearsal.alloc);
+    let mut fewest = 0;
     match start(rehearsal, store)? {
-        None => go_on(rehearsal, &mut unread, store),
+        None => go_on(rehearsal, &mut unread, store, &mut fewest),
         Some(halt) => Ok(Stop::Ends(halt)),
     }
 }
@@ -87,10 +92,10 @@ fn give_outcome<'a, S: Store>(
     ensures taken { IfOk result
         (λ step. TakesOutcome (task_in rehearsal.now).limits (outcome_when success)
         (S.record_of store.old) (S.record_of store.new) step) }
-    ensures follows { IfOk result (λ step. FollowsOutcome (task_in rehearsal.now).limits
-        (outcome_when success) (S.record_of store.old).present step
-        (S.record_of store.new).present (accesses_shown reported.old)
-        (accesses_shown reported.new)) }
+    ensures follows { IfOk result (λ step. FollowsOutcomeAbove (task_in rehearsal.now).limits
+        (length (S.record_of store.old).present.frames) (outcome_when success)
+        (S.record_of store.old).present step (S.record_of store.new).present
+        (accesses_shown reported.old) (accesses_shown reported.new)) }
 {
     let found = find_again(rehearsal.alloc, store, rehearsal.devices, rehearsal.bounds)?;
     let Step::Asks(ask) = found else {
@@ -101,11 +106,13 @@ fn give_outcome<'a, S: Store>(
 }
 
 /// Does what `resume` of the machine does, and reports what is read and written from the outcome up to
-/// where the text stops. Errors: `Memory`.
+/// where the text stops, and how many frames there were at least: none if the text came to its end. Errors:
+/// `Memory`.
 pub fn resume_reported<S: Store>(
     rehearsal: &Rehearsal<'_>,
     reported: &mut Reported,
     store: &mut S,
+    fewest: &mut usize,
     success: bool,
 ) -> Result<Stop, StoreError>
     requires asks { IsAsking (task_in rehearsal.now).limits (S.record_of store.old).present }
@@ -122,13 +129,16 @@ pub fn resume_reported<S: Store>(
     ensures within { OnOk result ((S.record_of store.new).present.steps ≤ most_steps) }
     ensures grows { OnOk result
         ((S.record_of store.old).present.steps ≤ (S.record_of store.new).present.steps) }
-    ensures keys { IfOk result (λ stop. IsReportedFor (task_in rehearsal.now).limits
+    ensures keys { IfOk result (λ stop. IsReportedAbove (task_in rehearsal.now).limits fewest.new
         (outcome_when success) (S.record_of store.old).present stop
         (S.record_of store.new).present (accesses_shown reported.new)) }
+    ensures all { OnOk result (fewest.new ≤ length (S.record_of store.old).present.frames) }
+    ensures frames { IfOk result (λ stop. HasFramesAtStop fewest.new stop (S.record_of store.new).present) }
 {
     let _bound = rehearsal.bounds.steps();
+    *fewest = store.frames().len();
     match give_outcome(rehearsal, reported, store, success)? {
-        Step::Going => go_on(rehearsal, reported, store),
+        Step::Going => go_on(rehearsal, reported, store, fewest),
         Step::Asks(_) => unreachable!(),
         Step::Ends(halt) => Ok(Stop::Ends(halt)),
     }

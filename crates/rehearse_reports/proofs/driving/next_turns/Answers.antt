@@ -8,4 +8,4 @@ returns-then-so_far-lt-FEW_STEPS-clause-follows g c =
     let limits = limits_of c.args.devices.now c.args.bounds in
     let old = g.S.Store.record_of c.args.store.now in
     let new = g.S.Store.record_of c.reported_turn.new.store in
-    moves_follow_on limits c.reported_turn.result old.present new.present (accesses_shown c.args.reported.now) (accesses_shown c.reported_turn.new.reported) c.requires.sound c.reported_turn.ensures.moves
+    moves_follow_on limits c.reported_turn.new.fewest c.reported_turn.result old.present new.present (accesses_shown c.args.reported.now) (accesses_shown c.reported_turn.new.reported) c.requires.sound c.reported_turn.ensures.moves

@@ -1,13 +1,14 @@
-use Rattle.std.proofs.Common.{◌∷◌, arith, subst}
+use Rattle.std.proofs.Common.{ℕ, ◌∷◌, arith, length, subst}
 use Rattle.rehearse_machine.specs.declared.ask.Step.{Step}
 use Rattle.rehearse_machine.specs.Tasks.{task_in}
 use Rattle.rehearse_machine.specs.Machine.{asked_at, outcome_when}
 use Rattle.rehearse_machine.specs.Turning.{to_come}
 use Rattle.rehearse_machine.proofs.Limits.{steps_within}
 use Rattle.rehearse_machine.proofs.StoppingLemmas.{all_stop_as, marks_on, begun_on, grows_on}
-use Rattle.rehearse_reports.specs.Following.{FollowsOutcome}
+use Rattle.rehearse_reports.specs.Following.{FollowsOutcomeAbove}
 use Rattle.rehearse_reports.specs.ReportsShown.{accesses_shown}
 use Rattle.rehearse_reports.proofs.OutcomeLemmas.{all_reported, end_reported}
+use Rattle.rehearse_reports.proofs.StepLemmas.{as_long}
 use Rattle.rehearse_reports.proofs.resuming.resume_reported.Goals as goal
 
 pub go_on-requires-clause-sound : goal.go_on-requires-clause-sound
@@ -49,8 +50,12 @@ returns-in-Going-clause-keys g c =
     let limits = (task_in c.args.rehearsal.now).limits in
     let old = (g.S.Store.record_of c.args.store.now).present in
     let mid = (g.S.Store.record_of c.give_outcome.new.store).present in
-    all_reported c.go_on.result limits (outcome_when c.args.success) old mid (g.S.Store.record_of c.go_on.new.store).present (accesses_shown c.args.reported.now) (accesses_shown c.give_outcome.new.reported) (accesses_shown c.go_on.new.reported) c.requires.fresh
-    (subst (λ (x : Step). FollowsOutcome limits (outcome_when c.args.success) old x mid (accesses_shown c.args.reported.now) (accesses_shown c.give_outcome.new.reported)) c.in-Going.is c.in_ok-give_outcome.ensures.follows) c.go_on.ensures.follows
+    let many = as_long c.frames.result.now old.frames c.frames.ensures in
+    all_reported c.go_on.result limits (length c.frames.result.now) c.go_on.new.fewest (outcome_when c.args.success) old mid (g.S.Store.record_of c.go_on.new.store).present (accesses_shown c.args.reported.now) (accesses_shown c.give_outcome.new.reported) (accesses_shown c.go_on.new.reported)
+    c.go_on.ensures.fewer c.requires.fresh
+    (subst (λ (x : Step). FollowsOutcomeAbove limits (length c.frames.result.now) (outcome_when c.args.success) old x mid (accesses_shown c.args.reported.now) (accesses_shown c.give_outcome.new.reported)) c.in-Going.is
+    (subst (λ (n : ℕ). FollowsOutcomeAbove limits n (outcome_when c.args.success) old c.in_ok-give_outcome.field-0 mid (accesses_shown c.args.reported.now) (accesses_shown c.give_outcome.new.reported)) many c.in_ok-give_outcome.ensures.follows))
+    c.go_on.ensures.follows
 
 pub returns-in-Ends-clause-stops : goal.returns-in-Ends-clause-stops
 returns-in-Ends-clause-stops g c = let taken = rw c.in-Ends.is at c.in_ok-give_outcome.ensures.taken in taken.comes
@@ -63,4 +68,9 @@ returns-in-Ends-clause-within g c =
 
 pub returns-in-Ends-clause-keys : goal.returns-in-Ends-clause-keys
 returns-in-Ends-clause-keys g c =
-    end_reported (task_in c.args.rehearsal.now).limits (outcome_when c.args.success) (g.S.Store.record_of c.args.store.now).present (g.S.Store.record_of c.give_outcome.new.store).present c.in_ok-give_outcome.field-0 c.in-Ends.halt (accesses_shown c.args.reported.now) (accesses_shown c.give_outcome.new.reported) c.requires.fresh c.in-Ends.is c.in_ok-give_outcome.ensures.follows
+    let limits = (task_in c.args.rehearsal.now).limits in
+    let old = (g.S.Store.record_of c.args.store.now).present in
+    let new = (g.S.Store.record_of c.give_outcome.new.store).present in
+    let many = as_long c.frames.result.now old.frames c.frames.ensures in
+    end_reported limits (length c.frames.result.now) (outcome_when c.args.success) old new c.in_ok-give_outcome.field-0 c.in-Ends.halt (accesses_shown c.args.reported.now) (accesses_shown c.give_outcome.new.reported) c.requires.fresh c.in-Ends.is
+    (subst (λ (n : ℕ). FollowsOutcomeAbove limits n (outcome_when c.args.success) old c.in_ok-give_outcome.field-0 new (accesses_shown c.args.reported.now) (accesses_shown c.give_outcome.new.reported)) many c.in_ok-give_outcome.ensures.follows)
