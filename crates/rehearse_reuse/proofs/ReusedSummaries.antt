@@ -25,7 +25,7 @@ use Rattle.rehearse_reuse.specs.DrawnRuns.{further, seen_at}
 use Rattle.rehearse_reuse.specs.Futures.{came_kind, came_ending, came_end, came_to_end, came_log, came_steps, came_devices}
 use Rattle.rehearse_reuse.specs.SummedRuns.{SumsAt, came_count, FitsIf, moved_on}
 use Rattle.rehearse_reuse.proofs.LogLemmas.{asked-on, further_behind}
-use Rattle.rehearse_reuse.specs.Reuse.{FitsByKeys, SummariesAreReused, NodesAreReused, KeysAreReused}
+use Rattle.rehearse_reuse.specs.Reuse.{FitsByKeys, SummariesAreReused, NodesAreReused, KeysAreReused, NoReturnsAreReused}
 
 -- ---- rows say something of runs alone
 
@@ -285,3 +285,15 @@ pub keys_are_reused : KeysAreReused
 unfolding IsAsking
 keys_are_reused limits names m n keys s am an enough sums fits =
     subst (λ (next : Next). AreEnough limits names next keys) (sym (asks_so limits n an)) (enough_there limits names m n keys s am an enough sums fits)
+
+-- ---- nothing comes back there
+
+ended_so : (c : Came) (status : ℕ) → came_to_end c ≡ Some (End status) → (x : State) × (c ≡ Over (End status) x)
+ended_so (Over ending x) status e = let same : ending ≡ End status = (let f = e in cc) in (x, ap (λ (z : Ending). Over z x) same)
+ended_so (Wants x) status e = absurd (let f = e in cc)
+
+pub no_returns_are_reused : NoReturnsAreReused
+no_returns_are_reused limits names m n keys s am an enough sums fits never w status x over =
+    let near = same_there limits names m n keys s sums fits w (moments_go_alike limits names m n keys am an fits.place enough fits.agree w) in
+    let back = ended_so (asked_at limits m w) status (sym (ended_alike names (asked_at limits m w) (asked_at limits n w) near.end) ∙ ap came_to_end over) in
+    never w status back.0 back.1
