@@ -12,7 +12,7 @@ use Rattle.rehearse_machine.specs.AskingCommand.{found_again}
 use Rattle.rehearse_machine.specs.Came.{Came, Over, Wants}
 use Rattle.rehearse_machine.specs.Frames.{Frame, Next, Ask}
 use Rattle.rehearse_machine.specs.Machine.{Asking, IsAsking, asked_at}
-use Rattle.rehearse_machine.specs.Meaning.{with, resume, continue, comes_to, AreProperFrames}
+use Rattle.rehearse_machine.specs.Meaning.{with, resume, continue, AreProperFrames}
 use Rattle.rehearse_machine.specs.MovesShown.{next_shown}
 use Rattle.rehearse_machine.specs.Places.{PlaceNext, GoOn, AskOn, StopOn, frames_by, frames_of, place_finish, place_answered, place_move}
 use Rattle.rehearse_machine.specs.declared.ask.Step.{Step}

@@ -1,11 +1,11 @@
 -- Reports of moves.
-use Rattle.std.proofs.Common.{◌≡◌, ◌∙◌, ◌-◌, ◌<◌, arith, refl, sym, ap, subst, ℕ, zero, suc, List, [], ◌∷◌, ◌++◌, length, take, Option, Some, None, Result, Ok, Err}
+use Rattle.std.proofs.Common.{◌≡◌, ◌-◌, ◌<◌, arith, refl, sym, subst, ℕ, zero, suc, List, [], ◌∷◌, length, take, None, Result}
 use Rattle.std.specs.Prelude.{OnOk, slice_get}
 use Rattle.bootstore_state.specs.Moment.{RunningFrame}
 use Rattle.rehearse_terms.specs.State.{State}
 use Rattle.rehearse_rules.specs.Execution.{Limits}
 use Rattle.rehearse_machine.specs.Places.{frames_of}
-use Rattle.rehearse_reads.specs.Keys.{Access, Reads, Status, Covers}
+use Rattle.rehearse_reads.specs.Keys.{Access, Reads, Status}
 use Rattle.rehearse_frames.specs.MoveAccesses.{of_move}
 use Rattle.rehearse_reports.specs.Begins.{of_begins, BeginsWith}
 use Rattle.rehearse_reports.specs.declared.begins.Begins.{Begins}

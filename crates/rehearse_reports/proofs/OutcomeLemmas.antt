@@ -1,5 +1,5 @@
 -- Reports of outcomes.
-use Rattle.std.proofs.Common.{◌≡◌, ◌∙◌, ◌≤◌, arith, refl, sym, ap, subst, Bool, true, false, List, [], ◌∷◌, ◌++◌, length, map, Option, Some, None, Result, Ok, Err, Vec, Global, ℕ}
+use Rattle.std.proofs.Common.{◌≡◌, ◌∙◌, ◌≤◌, arith, refl, sym, ap, subst, Bool, true, false, List, [], ◌∷◌, ◌++◌, length, map, Option, Some, None, Result, Ok, Err, ℕ}
 use Rattle.std.specs.Prelude.{OnOk, IfOk}
 use Rattle.std.specs.List.{flat_map}
 use Rattle.device_list.specs.Called.{sets_in, set_in, variable_of, value_of}
@@ -11,7 +11,7 @@ use Rattle.bootstore_state.specs.StoredState.{state_at}
 use Rattle.bootstore_state.specs.Moment.{Moment, RunningFrame}
 use Rattle.bootstore_state.specs.declared.store.StoreError.{StoreError}
 use Rattle.rehearse_terms.specs.Outcomes.{Outcome, OutcomeWord}
-use Rattle.rehearse_terms.specs.State.{Text, State}
+use Rattle.rehearse_terms.specs.State.{Text}
 use Rattle.rehearse_rules.specs.Execution.{Limits, Request, outcome_when}
 use Rattle.rehearse_machine.specs.AskingCommand.{found_again}
 use Rattle.rehearse_machine.specs.Machine.{Asking, IsAsking, asked_at}
@@ -24,8 +24,8 @@ use Rattle.rehearse_machine.specs.declared.ask.Step.TheVariants as steps
 use Rattle.rehearse_machine.specs.declared.rehearsal.Stop.{Stop}
 use Rattle.rehearse_machine.specs.declared.rehearsal.Stop.TheVariants as stops
 use Rattle.rehearse_rules.specs.declared.halt.Halt.{Halt}
-use Rattle.rehearse_reads.specs.Keys.{Key, Access, Writes, Environment, Status}
-use Rattle.rehearse_reads.specs.Accesses.{names_written, outcome_accesses, status_written}
+use Rattle.rehearse_reads.specs.Keys.{Access, Writes, Environment, Status}
+use Rattle.rehearse_reads.specs.Accesses.{names_written, outcome_accesses}
 use Rattle.rehearse_frames.specs.Above.{without_lowest}
 use Rattle.rehearse_frames.specs.KeysToCome.{AreEnoughFrom}
 use Rattle.rehearse_frames.proofs.LowestFrames.{again_above, asking_above, asks_in_frames, outcomes_stay_above}

@@ -1,5 +1,5 @@
 -- Steps, and ended texts that are dropped, without the lowest frames.
-use Rattle.std.proofs.Common.{◌≡◌, ◌∙◌, ◌-◌, ◌<◌, ◌≤◌, min, arith, refl, sym, ap, subst, ℕ, zero, suc, Bool, true, false, ◌&&◌, is_some, List, [], ◌∷◌, length, reverse, option_and_then}
+use Rattle.std.proofs.Common.{◌≡◌, ◌∙◌, ◌<◌, ◌≤◌, min, arith, refl, sym, ap, subst, ℕ, zero, suc, Bool, true, false, ◌&&◌, is_some, List, [], ◌∷◌, length, reverse, option_and_then}
 use Rattle.std.proofs.Math.Nat.{min-le_left, min-le_right}
 use Rattle.std.proofs.lemmas.List.{length-reverse}
 use Rattle.bootstore_state.specs.Moment.{Moment, RunningFrame}
@@ -7,14 +7,14 @@ use Rattle.bootstore_state.specs.Record.{Record, without_first}
 use Rattle.bootstore_state.specs.StoredState.{state_at}
 use Rattle.rehearse_terms.specs.Outcomes.{OutcomeWord}
 use Rattle.rehearse_rules.specs.Execution.{Limits}
-use Rattle.rehearse_machine.specs.EndedTexts.{DropsEnded, GoOnAlike, begins, below_blocks, below_ended, below_text, below_three, is_done, lightened, may_drop, without_text}
+use Rattle.rehearse_machine.specs.EndedTexts.{DropsEnded, begins, below_blocks, below_ended, below_text, below_three, is_done, lightened, may_drop, without_text}
 use Rattle.rehearse_machine.specs.Meaning.{continue}
 use Rattle.rehearse_machine.specs.MovesShown.{next_shown}
 use Rattle.rehearse_machine.specs.Places.{frames_of, place_move}
 use Rattle.rehearse_machine.specs.declared.ask.Step.{Step}
 use Rattle.rehearse_machine.specs.declared.ask.Step.TheVariants as steps
 use Rattle.rehearse_machine.proofs.EndedLemmas.{lightened_by}
-use Rattle.rehearse_frames.specs.Above.{above, without_lowest}
+use Rattle.rehearse_frames.specs.Above.{above}
 use Rattle.rehearse_frames.proofs.LowestFrames.{above_none, all_frames, moves_stay_above}
 use Rattle.rehearse_reports.specs.Looping.{FramesLeft, GoAlikeAbove, HasFrames, StepsAbove}
 

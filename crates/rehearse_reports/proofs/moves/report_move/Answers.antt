@@ -1,4 +1,4 @@
-use Rattle.std.proofs.Common.{ℕ, [], subst, sym}
+use Rattle.std.proofs.Common.{ℕ, [], subst}
 use Rattle.bootstore_state.specs.StoredState.{state_at}
 use Rattle.rehearse_machine.specs.MovesShown.{limits_of, under}
 use Rattle.rehearse_machine.proofs.NextMoveLemmas.{is_top}
