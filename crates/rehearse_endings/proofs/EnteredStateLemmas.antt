@@ -1,10 +1,10 @@
 -- The states that the search enters, each by the outcomes that lead to it. No two are alike.
-use Rattle.std.proofs.Common.{ℕ, suc, zero, ◌+◌, ◌≤◌, ◌<◌, List, [], ◌∷◌, ◌++◌, length, reverse, Some, refl, sym, ap, subst, ◌∙◌, ◌≡◌, arith, append_assoc, append-nil, length-append, inl, inr, map}
+use Rattle.std.proofs.Common.{ℕ, Bool, nat_eq, suc, zero, ◌+◌, ◌≤◌, ◌<◌, List, [], ◌∷◌, ◌++◌, length, reverse, Some, refl, sym, ap, subst, ◌∙◌, ◌≡◌, arith, append_assoc, append-nil, length-append, inl, inr, map}
 use Rattle.std.specs.Prelude.{Result, Err, IfErr, Option, None, MatchOption}
 use Rattle.std.specs.List.{AllByRecursion, slice_get}
 use Rattle.std.specs.FinMap.{get-entries}
 use Rattle.std.specs.declared.alloc.Global.{Global}
-use Rattle.bootstore_state.specs.Moment.{Moment}
+use Rattle.bootstore_state.specs.Moment.{Moment, RunningFrame}
 use Rattle.bootstore_state.specs.StoredState.{state_at}
 use Rattle.rehearse_terms.specs.Bounds.{most_steps}
 use Rattle.rehearse_terms.specs.Outcomes.{OutcomeWord, Outcome, Success, Failure}
@@ -14,7 +14,6 @@ use Rattle.rehearse_rules.specs.Runs.{Task, kind, run_on}
 use Rattle.rehearse_machine.specs.declared.rehearsal.Stop.{Stop}
 use Rattle.rehearse_machine.specs.declared.rehearsal.Stop.TheVariants.{Asks}
 use Rattle.rehearse_machine.specs.StoppedTexts.{StoppedAt}
-use Rattle.rehearse_frames.specs.KeysToCome.{AreEnoughAt}
 use Rattle.rehearse_reads.specs.Keys as keys
 use Rattle.rehearse_reads.specs.Keys.{Key, AgreeAt, AgreeOn, IsAmong}
 use Rattle.rehearse_reports.specs.Known.{AllHold, Holds, key_of, keys_of}
@@ -30,7 +29,8 @@ use Rattle.rehearse_states.specs.declared.summary.Summary as rt
 use Rattle.rehearse_states.specs.Summaries.{Summary}
 use Rattle.rehearse_states.specs.declared.flow.Flow.{Flow}
 use Rattle.rehearse_states.proofs.NodeLemmas.{asks_append}
-use Rattle.rehearse_endings.proofs.SearchLemmas.{Room, kind_settled, shown_as}
+use Rattle.rehearse_endings.proofs.SearchLemmas.{Both, Room, kind_settled, shown_as}
+use Rattle.rehearse_endings.specs.OnTop.{HasOnTop}
 use Rattle.rehearse_endings.specs.Indexed.{Fits, NoneFits}
 use Rattle.rehearse_endings.specs.Searching.{IsKeptAt, SummedFrom}
 use Rattle.rehearse_endings.specs.States.{AreApart, AreKeptAs, AreOnOneRun, Asked, ComesBefore, ComesBy, ComesToStates, ComesToSteps, Entered, HasEntered, HasStates, IsKeptAs, IsLike, IsMet, IsSearchedIn, IsUnlike, NoTwoAlike, Searched}
@@ -86,7 +86,9 @@ all_held_there m n (known ∷ all) h agree = (held_there m n known h.0 (agree (k
 
 like_fits : (limits : Limits) (s : Searched) (e : Entry) (m : Moment) → IsKeptAs s e → IsLike limits s m → Fits limits.step_bound limits.device_bound e m
 like_fits limits s e m kept like = record {
-  frames = kept.frames ∙ sym like.frames;
+  frames =
+      subst (λ (whole : Bool). HasOnTop whole (reverse e.frames.items) m.frames) (sym kept.whole)
+      (subst (λ (top : List RunningFrame). HasOnTop (nat_eq s.below 0) top m.frames) (sym kept.frames) like.frames);
   known = all_held_there s.asked.1 m e.known.items kept.known (subst (λ (ks : List Key). AgreeOn ks (state_at s.asked.1 []) (state_at m [])) (sym kept.keys) like.agree);
   steps =
       subst (λ (x : Summary). FitsIf x.cut_steps e.steps m.steps x.steps limits.step_bound) (sym kept.shown)
@@ -175,11 +177,11 @@ searched_last names task begun searched s apart here = record {
   one_run = apart.one_run.1;
 }
 
-pub gone_through : (names : List Text) (task : Task) (p : OutcomeWord) (m : Moment) (begun : List Asked) (old new : Table) (made : Flow) (node_words : List Text) (won lost : ℕ) (key_list : List Key) (devices : ℕ) (sum_nodes : List SumNode) (whole : rt.Summary) (shown : Summary)
+pub gone_through : (names : List Text) (task : Task) (p : OutcomeWord) (m : Moment) (begun : List Asked) (old new : Table) (made : Flow) (node_words : List Text) (won lost : ℕ) (key_list : List Key) (devices below : ℕ) (sum_nodes : List SumNode) (whole : rt.Summary) (shown : Summary)
     → HasEntered names task ((p, m) ∷ begun) old → nodes_shown made.nodes ≡ nodes_shown old.flow.nodes ++ flow.Asks node_words won lost ∷ []
-    → IsKeptAt old.entries.items new.entries.items m key_list devices whole → new.flow ≡ made → new.visited ≡ old.visited
-    → AreEnoughAt task.limits names m key_list → IsSummary sum_nodes whole shown → SummedFrom names task.limits Asks m shown → devices ≡ length m.log → HasEntered names task begun new
-gone_through names task p m begun old new made node_words won lost key_list devices sum_nodes whole shown has nodes kept flows visited enough is summed logged = (
+    → IsKeptAt old.entries.items new.entries.items below m key_list devices whole → new.flow ≡ made → new.visited ≡ old.visited
+    → Both names task.limits below m key_list → IsSummary sum_nodes whole shown → SummedFrom names task.limits Asks m shown → devices ≡ length m.log → HasEntered names task begun new
+gone_through names task p m begun old new made node_words won lost key_list devices below sum_nodes whole shown has nodes kept flows visited both is summed logged = (
   searched,
   record {
     kept_as = subst (AreKeptAs searched) (sym kept.kept.1) (kept_more has.0 old.entries.items s e has.1.kept_as kept_as);
@@ -199,7 +201,7 @@ gone_through names task p m begun old new made node_words won lost key_list devi
     e = kept.kept.0
 
     s : Searched
-    s = record { asked = (p, m); keys = key_list; to_come = summed.0 }
+    s = record { asked = (p, m); below = below; keys = key_list; to_come = summed.0 }
 
     searched : List Searched
     searched = has.0 ++ s ∷ []
@@ -207,6 +209,7 @@ gone_through names task p m begun old new made node_words won lost key_list devi
     kept_as : IsKeptAs s e
     kept_as = record {
       frames = ap reverse kept.kept.2 ∙ kept.frames;
+      whole = kept.kept.7;
       known = subst (AllHold m) (sym kept.kept.3) kept.holds;
       keys = ap keys_of kept.kept.3 ∙ kept.same;
       steps = kept.kept.4;
@@ -215,7 +218,7 @@ gone_through names task p m begun old new made node_words won lost key_list devi
     }
 
     here : IsSearchedIn names task s
-    here = record { met = has.1.apart.met.0; enough = enough; sums = summed.1 }
+    here = record { met = has.1.apart.met.0; enough = both.enough; apart = both.never; sums = summed.1 }
 
 -- no further state was entered
 pub none_entered : (names : List Text) (task : Task) (begun : List Asked) (old new : Table) → new.entries.items ≡ old.entries.items → asks_in (nodes_shown new.flow.nodes) ≡ asks_in (nodes_shown old.flow.nodes) → new.visited ≡ old.visited → HasEntered names task begun old → HasEntered names task begun new

@@ -9,16 +9,17 @@ use Rattle.rehearse_terms.specs.State.{Text}
 use Rattle.rehearse_rules.specs.Runs.{Task}
 use Rattle.rehearse_machine.specs.declared.rehearsal.Stop.TheVariants.{Asks}
 use Rattle.rehearse_reads.specs.Keys.{Key}
-use Rattle.rehearse_frames.specs.KeysToCome.{AreEnoughAt}
+use Rattle.rehearse_frames.specs.Above.{above}
 use Rattle.rehearse_reports.specs.Known.{AllHold, keys_of}
 use Rattle.rehearse_reports.specs.declared.known.Known.{Known}
 use Rattle.rehearse_states.specs.Summaries.{Summary}
 use Rattle.rehearse_endings.specs.Held.{ComesToBytes, HasNoRoom, Held, HoldsStates, IsHeld, most_held, size_of, size_of_entry, size_of_held}
 use Rattle.rehearse_endings.specs.Searching.{SummedFrom}
-use Rattle.rehearse_endings.specs.States.{AreApart, AreKeptAs, Asked, HasEntered, Searched}
+use Rattle.rehearse_endings.specs.States.{AreApart, AreKeptAs, Asked, HasEntered, Searched, frames_in}
 use Rattle.rehearse_endings.specs.declared.table.Entry.{Entry}
 use Rattle.rehearse_endings.specs.declared.table.Table.{Table}
 use Rattle.rehearse_endings.proofs.EnteredStateLemmas.{all_and, searched_last}
+use Rattle.rehearse_endings.proofs.SearchLemmas.{Both}
 
 -- ---- sizes
 
@@ -41,8 +42,8 @@ held_more old new e entries room =
     omega (arith, a, b, room)
 
 -- what a moment has at keys, where the frames are in the other order
-pub no_room : (room : ℕ) (m : Moment) (keys : List Key) (frames : List RunningFrame) (known : List Known) → reverse frames ≡ m.frames → AllHold m known → keys_of known ≡ keys → room < size_of frames known → HasNoRoom room m keys
-no_room room m keys frames known same holds are l = (known, holds, are, (let e = same_size frames m.frames known same in omega (arith, e, l)))
+pub no_room : (room below : ℕ) (m : Moment) (keys : List Key) (frames : List RunningFrame) (known : List Known) → reverse frames ≡ above below m.frames → AllHold m known → keys_of known ≡ keys → room < size_of frames known → HasNoRoom room below m keys
+no_room room below m keys frames known same holds are l = (known, holds, are, (let e = same_size frames (above below m.frames) known same in omega (arith, e, l)))
 
 -- ---- states
 
@@ -60,7 +61,7 @@ holds_all (s ∷ searched) [] h = absurd h
 holds_all (s ∷ searched) (e ∷ entries) h =
     let rest = holds_all searched entries h.1 in
     let one : Held = record { state = s; known = e.known.items } in
-    let same = same_size e.frames.items s.asked.1.frames e.known.items h.0.frames in
+    let same = same_size e.frames.items (frames_in s) e.known.items h.0.frames in
     let a = sum_by-cons size_of_held one rest.states in
     let b = sum_by-cons size_of_entry e entries in
     let c = rest.sizes in
@@ -72,9 +73,9 @@ holds_all (s ∷ searched) (e ∷ entries) h =
     }
 
 -- the states that have entries, and one that was searched but has no room
-pub too_large : (names : List Text) (task : Task) (p : OutcomeWord) (m : Moment) (begun : List Asked) (table : Table) (keys : List Key) (shown : Summary) → HasEntered names task ((p, m) ∷ begun) table → HasNoRoom table.room m keys
-    → AreEnoughAt task.limits names m keys → SummedFrom names task.limits Asks m shown → ComesToBytes names task table.visited (most_held table)
-too_large names task p m begun table keys shown has none enough summed = (
+pub too_large : (names : List Text) (task : Task) (p : OutcomeWord) (m : Moment) (begun : List Asked) (table : Table) (below : ℕ) (keys : List Key) (shown : Summary) → HasEntered names task ((p, m) ∷ begun) table → HasNoRoom table.room below m keys
+    → Both names task.limits below m keys → SummedFrom names task.limits Asks m shown → ComesToBytes names task table.visited (most_held table)
+too_large names task p m begun table below keys shown has none both summed = (
   all.states ++ one ∷ [],
   begun,
   (let a = length-append all.states (one ∷ []) in let b = length-map all.states (λ (h : Held). h.state) in let c = ap length all.are in let d = has.1.many in omega (arith, a, b, c, d)),
@@ -86,13 +87,13 @@ too_large names task p m begun table keys shown has none enough summed = (
     all = holds_all has.0 table.entries.items has.1.kept_as
 
     s : Searched
-    s = record { asked = (p, m); keys = keys; to_come = summed.0 }
+    s = record { asked = (p, m); below = below; keys = keys; to_come = summed.0 }
 
     one : Held
     one = record { state = s; known = none.0 }
 
     apart : AreApart names task (has.0 ++ s ∷ []) begun
-    apart = searched_last names task begun has.0 s has.1.apart (record { met = has.1.apart.met.0; enough = enough; sums = summed.1 })
+    apart = searched_last names task begun has.0 s has.1.apart (record { met = has.1.apart.met.0; enough = both.enough; apart = both.never; sums = summed.1 })
 
     are : map (λ h. h.state) (all.states ++ one ∷ []) ≡ has.0 ++ s ∷ []
     are = map-append (λ (h : Held). h.state) all.states (one ∷ []) ∙ ap (λ (ss : List Searched). ss ++ s ∷ []) all.are

@@ -19,9 +19,10 @@ use Rattle.rehearse_reports.specs.Known.{value_shown}
 use Rattle.rehearse_reports.specs.declared.known.Known.TheVariants.{Environment, Local, AnswerTo, Succeeded, Status}
 use Rattle.rehearse_states.specs.PlaceNumbers.{mixed, mixed_text, mixed_words}
 use Rattle.rehearse_endings.specs.Numbers.{mixed_answer, mixed_flag, mixed_known, mixed_value}
-use Rattle.rehearse_endings.specs.Indexed.{AllOf, AreNoted, BeginWith, Fits, FitsNot, HasMoreWays, IsNoted, IsNumberBehind, KnowsNext, LeadTo, Leads, NoneBy, NoneFits, NoneFrom, NotesOne, WayIsNoted, Places, known_after, known_in, noted, one_place, ways}
+use Rattle.rehearse_endings.specs.Indexed.{AllOf, AreNoted, BeginWith, Fits, FitsNot, HasMoreWays, IsNoted, IsNumberBehind, KnowsNext, LeadTo, Leads, NoneBy, NoneFits, NoneFrom, NoneOnTop, NotesOne, TakesOne, WayIsNoted, Places, known_after, known_in, noted, one_place, ways}
 use Rattle.rehearse_reports.specs.declared.known.Known.{Known}
 use Rattle.rehearse_endings.specs.declared.table.Entry.{Entry}
+use Rattle.rehearse_endings.specs.declared.table.Future.{Future}
 use Rattle.rehearse_endings.specs.declared.table.Table.{Table}
 
 -- ---- lists
@@ -170,6 +171,12 @@ none_from step_bound device_bound table m number at here on place e (known ∷ r
     let within : at < table.longest = omega arith in
     on within next.0 next.1 known next.2 holds.0 place e rest got (omega arith) leads.1 holds.1 fits
 
+-- nothing fits with so many frames on top, if nothing does from their number on
+pub none_on_top : (step_bound device_bound : ℕ) (table : Table) (m : Moment) (many number : ℕ) (o : Option Future) → number ≡ place_number (take many m.frames)
+    → MatchOption o (NoneFrom step_bound device_bound table m number 0) (TakesOne step_bound device_bound table.entries.items m) → MatchOption o (NoneOnTop step_bound device_bound table m many) (TakesOne step_bound device_bound table.entries.items m)
+none_on_top step_bound device_bound table m many number None is none = λ within. subst (λ (n : ℕ). NoneFrom step_bound device_bound table m n 0) is none
+none_on_top step_bound device_bound table m many number (Some f) is takes = takes
+
 -- ---- noting
 
 -- what is left of the way leads to the entry, if the rest does
@@ -202,7 +209,8 @@ way_over old table place number at known entry l so_far later es e more begin go
     so_far later es e more begin got is (subst (λ (ks : List Known). LeadTo later es number at ks entry) (sym (drop_all at known l)) here)
 
 -- what was noted still is
-module _ (old new : Table) (more : HasMoreWays (ways old) (ways new)) (alike : (number place : ℕ) → Contains (noted old.alike number) place → Contains (noted new.alike number) place) (begin : BeginWith old.entries.items new.entries.items) where
+module _ (old new : Table) (more : HasMoreWays (ways old) (ways new)) (alike : (number place : ℕ) → Contains (noted old.alike number) place → Contains (noted new.alike number) place) (begin : BeginWith old.entries.items new.entries.items)
+    (deeper : (depth : ℕ) → Contains old.depths.items depth → Contains new.depths.items depth) where
   leads_still : (number at : ℕ) (rest : List Known) (place : ℕ) → LeadTo old old.entries.items number at rest place → LeadTo new new.entries.items number at rest place
   leads_still number at [] place h = alike number place h
   leads_still number at (known ∷ rest) place h =
@@ -210,16 +218,18 @@ module _ (old new : Table) (more : HasMoreWays (ways old) (ways new)) (alike : (
 
   noted_still : old.longest ≤ new.longest → (place : ℕ) (e : Entry) → IsNoted old old.entries.items place e → IsNoted new new.entries.items place e
   noted_still longer place e h = record {
+    deep = λ part. deeper (length e.frames.items) (h.deep part);
     short = let l = h.short in omega arith;
     leads = leads_still (place_number (reverse e.frames.items)) 0 e.known.items place h.leads;
   }
 
 -- the same entries, noted in the same way
-pub noted_same : (old new : Table) → HasMoreWays (ways old) (ways new) → ((number place : ℕ) → Contains (noted old.alike number) place → Contains (noted new.alike number) place) → new.entries.items ≡ old.entries.items → new.longest ≡ old.longest → AreNoted old → AreNoted new
-noted_same old new more alike same longest all place e got =
+pub noted_same : (old new : Table) → HasMoreWays (ways old) (ways new) → ((number place : ℕ) → Contains (noted old.alike number) place → Contains (noted new.alike number) place) → new.entries.items ≡ old.entries.items → new.longest ≡ old.longest
+    → ((depth : ℕ) → Contains old.depths.items depth → Contains new.depths.items depth) → AreNoted old → AreNoted new
+noted_same old new more alike same longest deeper all place e got =
     let begin : BeginWith old.entries.items new.entries.items = ([], same ∙ sym (append-nil old.entries.items)) in
     let longer : old.longest ≤ new.longest = omega (arith, longest) in
-    noted_still old new more alike begin longer place e (all place e (ap (λ (es : List Entry). slice_get es place) (sym same) ∙ got))
+    noted_still old new more alike begin deeper longer place e (all place e (ap (λ (es : List Entry). slice_get es place) (sym same) ∙ got))
 
 got_more : {A : Type 0} (xs : List A) (x : A) (i : ℕ) (y : A) → slice_get (xs ++ x ∷ []) i ≡ Some y → (slice_get xs i ≡ Some y) ⊎ ((i ≡ length xs) × (y ≡ x))
 got_more [] x zero y e = inr (refl, (let f = e in cc))
@@ -238,8 +248,9 @@ got_last (y ∷ xs) x = got_last xs x
 -- one more entry is noted
 pub all_noted : (old mid new : Table) (number place at : ℕ) (e : Entry) → AreNoted old → mid.entries.items ≡ old.entries.items
     → HasMoreWays (ways old) (ways mid) → WayIsNoted old.entries.items mid number place e.known.items at → ((n : ℕ) → ways new n ≡ ways mid n) → mid.alike ≡ old.alike → NotesOne mid.alike new.alike number at
-    → mid.longest ≡ old.longest → new.longest ≡ max mid.longest (length e.known.items) → new.entries.items ≡ old.entries.items ++ e ∷ [] → at ≡ length old.entries.items → place ≡ place_number (reverse e.frames.items) → AreNoted new
-all_noted old mid new number place at e noted_old same more way kept alike notes longest longer entries here is p other got = by (got_more old.entries.items e p other (ap (λ (es : List Entry). slice_get es p) (sym entries) ∙ got))
+    → mid.longest ≡ old.longest → new.longest ≡ max mid.longest (length e.known.items) → new.entries.items ≡ old.entries.items ++ e ∷ [] → at ≡ length old.entries.items → place ≡ place_number (reverse e.frames.items)
+    → ((depth : ℕ) → Contains old.depths.items depth → Contains new.depths.items depth) → (e.whole ≡ false → Contains new.depths.items (length e.frames.items)) → AreNoted new
+all_noted old mid new number place at e noted_old same more way kept alike notes longest longer entries here is deeper deep p other got = by (got_more old.entries.items e p other (ap (λ (es : List Entry). slice_get es p) (sym entries) ∙ got))
   where
     begin : BeginWith old.entries.items new.entries.items
     begin = (e ∷ [], entries)
@@ -260,10 +271,11 @@ all_noted old mid new number place at e noted_old same more way kept alike notes
 
     newest : IsNoted new new.entries.items at e
     newest = record {
+      deep = deep;
       short = let l = longer in omega (arith, le-max_right mid.longest (length e.known.items));
       leads = subst (λ (n : ℕ). LeadTo new new.entries.items n 0 e.known.items at) is (way new new.entries.items e (λ n q h. subst (λ (xs : List ℕ). Contains xs q) (sym (kept n)) h) begin there refl at_end);
     }
 
     by : (slice_get old.entries.items p ≡ Some other) ⊎ ((p ≡ length old.entries.items) × (other ≡ e)) → IsNoted new new.entries.items p other
-    by (inl h) = noted_still old new wider old_alike begin (let a = longer in let b = longest in omega (arith, le-max_left mid.longest (length e.known.items))) p other (noted_old p other h)
+    by (inl h) = noted_still old new wider old_alike begin deeper (let a = longer in let b = longest in omega (arith, le-max_left mid.longest (length e.known.items))) p other (noted_old p other h)
     by (inr h) = subst (λ (n : ℕ). IsNoted new new.entries.items n other) (here ∙ sym h.0) (subst (IsNoted new new.entries.items at) (sym h.1) newest)

@@ -1,6 +1,6 @@
 -- The search over the states in which device commands ask.
-use Rattle.std.proofs.Common.{ℕ, zero, suc, get_or, ◌+◌, ◌*◌, ◌≤◌, ◌<◌, Bool, true, false, List, [], ◌∷◌, ◌++◌, map, length, reverse, Option, Some, None, refl, sym, ap, subst, ◌∙◌, ◌≡◌, ◌≢◌, arith, append-nil, length-append}
-use Rattle.std.proofs.lemmas.List.{length-map}
+use Rattle.std.proofs.Common.{ℕ, zero, suc, get_or, ◌+◌, ◌-◌, ◌*◌, ◌≤◌, ◌<◌, nat_eq, cond, Bool, true, false, List, [], ◌∷◌, ◌++◌, map, length, reverse, Option, Some, None, refl, sym, ap, subst, ◌∙◌, ◌≡◌, ◌≢◌, arith, append-nil, length-append}
+use Rattle.std.proofs.lemmas.List.{length-map, length-reverse}
 use Rattle.std.proofs.lemmas.List.Elements.{All-append}
 use Rattle.std.proofs.lemmas.Bool.{ltb-true}
 use Rattle.std.specs.Prelude.{nat_lt, MatchOption, ⊤}
@@ -8,7 +8,7 @@ use Rattle.std.specs.FinMap.{entries}
 use Rattle.bootstore_state.specs.Record.{Record, with_mark, gone_back, returned}
 use Rattle.rehearse_terms.specs.Bounds.{most_steps}
 use Rattle.rehearse_machine.specs.Machine.{outcome_when, Stops, IsAsking, asked_at}
-use Rattle.bootstore_state.specs.Moment.{Moment}
+use Rattle.bootstore_state.specs.Moment.{Moment, RunningFrame}
 use Rattle.rehearse_terms.specs.Outcomes.{OutcomeWord, Outcome, Success, Failure}
 use Rattle.rehearse_terms.specs.State.{Text, State, LoggedCommand, asked_of, start}
 use Rattle.bootstore_state.specs.StoredState.{state_at}
@@ -34,21 +34,24 @@ use Rattle.rehearse_states.specs.RowsShown.{saturated, of_both_up, summary_with,
 use Rattle.rehearse_states.specs.SumNodes.{SumNode, DrawsRows, HasMoreSums, IsSummary, sums_shown}
 use Rattle.rehearse_states.proofs.SumLemmas.{draws_further}
 use Rattle.rehearse_reuse.specs.Reuse.{FitsByKeys}
-use Rattle.rehearse_reuse.proofs.ReusedSummaries.{summaries_are_reused, nodes_are_reused, keys_are_reused}
-use Rattle.rehearse_reads.specs.Keys.{Key, Access, AreAmong, AgreeOn, keys_in_front}
+use Rattle.rehearse_reuse.proofs.ReusedSummaries.{summaries_are_reused, nodes_are_reused, keys_are_reused, no_returns_are_reused}
+use Rattle.rehearse_reads.specs.Keys.{Key, AreAmong, AgreeOn}
+use Rattle.rehearse_frames.specs.Above.{above, without_lowest}
 use Rattle.rehearse_frames.specs.KeysToCome.{AreEnoughAt, asks_at}
+use Rattle.rehearse_frames.proofs.LowestFrames.{asks_above}
 use Rattle.rehearse_frames.proofs.EnoughKeys.{agree_fewer, more_keys_are_enough}
 use Rattle.rehearse_reports.specs.Asked.{asked_reads}
-use Rattle.rehearse_reports.specs.Following.{IsReportedFor, AreEnoughFor, AreEnoughAtStop}
+use Rattle.rehearse_reports.specs.Following.{AreEnoughAtStop, HasFramesAtStop}
 use Rattle.rehearse_reports.specs.Known.{AllHold, keys_of}
 use Rattle.rehearse_reports.specs.ReportsShown.{keys_shown}
 use Rattle.rehearse_reports.proofs.AskedSame.{places_are_same}
-use Rattle.rehearse_reports.proofs.FollowingLemmas.{keys_of_both_outcomes}
 use Rattle.rehearse_reports.proofs.KnownLemmas.{agree_on_known}
 use Rattle.rehearse_states.specs.PlaceNumbers.{place_number}
 use Rattle.std.proofs.lemmas.Option.{get_or_from_slice_get, slice_get_within}
-use Rattle.rehearse_endings.specs.Indexed.{AreNoted, Fits, IsNoted, IsTaken, LeadTo, NoneFits, NoneFrom, TakesOne}
-use Rattle.rehearse_endings.specs.Searching.{future, SummedFrom, seen_from, IsReached, IsEntry, AreEntries, IsFound, IsKeptAt}
+use Rattle.rehearse_endings.specs.Indexed.{AllOf, AreNoted, Fits, IsNoted, IsTaken, LeadTo, NoneFits, NoneFrom, NoneOnTop, TakesOne, how_many_below}
+use Rattle.rehearse_endings.specs.OnTop.{HasOnTop}
+use Rattle.rehearse_endings.specs.Searching.{future, SummedFrom, seen_from, IsReached, IsEntry, AreEntries, IsFound, IsKeptAt, NeverReturnsTo}
+use Rattle.rehearse_endings.proofs.BelowLemmas.{Side, all_held_without, asked_without, below_top, both_enough, innermost_are, neither_comes_back, seen_below, some_frames, sums_above, sums_below, top_of}
 use Rattle.rehearse_endings.specs.Searched.{IsSearched, IsSpent}
 use Rattle.rehearse_endings.specs.declared.table.Future.{Future}
 use Rattle.rehearse_endings.specs.declared.table.Table.{Table}
@@ -204,9 +207,30 @@ module _ (names : List Text) (task : Task) (depth : ℕ) (m : Moment) (reached :
 
 -- ---- the table
 
--- an entry that fits
+-- an entry that fits, at a moment, and at the moment without the frames below those of the entry
 module _ (names : List Text) (limits : Limits) (nodes : List Node) (sum_nodes : List SumNode) (e : Entry) (t : Moment) (h : IsEntry names limits nodes sum_nodes e) (asks : IsAsking limits t) (fits : Fits limits.step_bound limits.device_bound e t) where
-  fits_there : FitsByKeys limits (keys_of e.known.items) h.summary h.moment t
+  abbrev below : ℕ
+  below = how_many_below e t
+
+  abbrev u : Moment
+  u = without_lowest below t
+
+  many : length e.frames.items ≡ length (reverse e.frames.items)
+  many = sym (length-reverse e.frames.items)
+
+  top : above below t.frames ≡ reverse e.frames.items
+  top = top_of e.whole (reverse e.frames.items) t.frames (length e.frames.items) many fits.frames
+
+  some_on_top : 0 < length (reverse e.frames.items)
+  some_on_top = let some = some_frames limits h.moment h.asks in let same = ap (λ (fs : List RunningFrame). length fs) h.frames in omega arith
+
+  within_there : below < length t.frames
+  within_there = below_top e.whole (reverse e.frames.items) t.frames (length e.frames.items) many some_on_top fits.frames
+
+  asks_there : IsAsking limits u
+  asks_there = asks_above limits below t asks within_there
+
+  fits_there : FitsByKeys limits (keys_of e.known.items) h.summary h.moment u
   fits_there =
       let m : Moment = h.moment in
       let kept : Summary = h.summary in
@@ -218,11 +242,18 @@ module _ (names : List Text) (limits : Limits) (nodes : List Node) (sum_nodes : 
       subst (λ (x : Summary). FitsIf x.cut_devices (length m.log) (length t.log) x.devices limits.device_bound) shown
       (subst (λ (n : ℕ). FitsIf e.summary.cut_devices n (length t.log) e.summary.devices limits.device_bound) h.devices fits.devices) in
       record {
-        place = places_are_same limits m t h.asks asks (sym fits.frames ∙ h.frames) (agree_fewer (asked_reads m) (keys_of e.known.items) (state_at m []) (state_at t []) h.asked agree);
+        place = places_are_same limits m u h.asks asks_there (top ∙ h.frames) (agree_fewer (asked_reads m) (keys_of e.known.items) (state_at m []) (state_at t []) h.asked agree);
         agree = agree;
         steps = fits_steps;
         devices = fits_devices;
       }
+
+  never_there : NeverReturnsTo below (asked_at limits u)
+  never_there = by e.whole refl
+    where
+      by : (whole : Bool) → e.whole ≡ whole → NeverReturnsTo below (asked_at limits u)
+      by true whole some = absurd (some (ap (λ (b : Bool). cond b 0 (length t.frames - length e.frames.items)) whole))
+      by false whole some = no_returns_are_reused limits names h.moment u (keys_of e.known.items) h.summary h.asks asks_there h.enough h.sums fits_there (h.apart whole)
 
   abbrev rows_there : List Row
   rows_there = map saturated h.summary.rows
@@ -236,7 +267,7 @@ module _ (names : List Text) (limits : Limits) (nodes : List Node) (sum_nodes : 
       let kept : Summary = h.summary in
       let shown : summary_with rows_there e.summary ≡ saturated_summary kept = h.shown.1 in (
         moved_on m t kept,
-        summaries_are_reused limits names m t (keys_of e.known.items) kept h.asks asks h.enough h.sums fits_there,
+        sums_below limits names (moved_on m t kept) below t asks within_there never_there (summaries_are_reused limits names m u (keys_of e.known.items) kept h.asks asks_there h.enough h.sums fits_there),
         ap (λ (n : ℕ). moved_by n t.steps e.devices (length t.log) (summary_with rows_there e.summary)) h.steps
             ∙ ap (λ (n : ℕ). moved_by m.steps t.steps n (length t.log) (summary_with rows_there e.summary)) h.devices
             ∙ ap (λ (x : Summary). moved_by m.steps t.steps (length m.log) (length t.log) x) shown,
@@ -245,7 +276,11 @@ module _ (names : List Text) (limits : Limits) (nodes : List Node) (sum_nodes : 
   drawn_there : (place : ℕ) → place ≡ e.summary.place → Draws nodes place (seen_at limits t)
   drawn_there place is =
       subst (λ (p : ℕ). Draws nodes p (seen_at limits t)) (sym is)
-      (draws_as nodes e.summary.place (seen_at limits h.moment) (seen_at limits t) (λ w. sym (nodes_are_reused limits names h.moment t (keys_of e.known.items) h.summary h.asks asks h.enough h.sums fits_there w)) h.draws)
+      (draws_as nodes e.summary.place (seen_at limits h.moment) (seen_at limits t)
+      (λ w. sym (seen_below limits below t asks within_there never_there w ∙ nodes_are_reused limits names h.moment u (keys_of e.known.items) h.summary h.asks asks_there h.enough h.sums fits_there w)) h.draws)
+
+  keys_there : AreEnoughAt limits names u (keys_of e.known.items)
+  keys_there = keys_are_reused limits names h.moment u (keys_of e.known.items) h.summary h.asks asks_there h.enough h.sums fits_there
 
   -- what a look-up in the table finds
   found_there : (es : List Entry) (i : ℕ) (f : Future) → slice_get es i ≡ Some e → IsTaken e t f → IsFound names limits nodes sum_nodes es t f
@@ -254,23 +289,47 @@ module _ (names : List Text) (limits : Limits) (nodes : List Node) (sum_nodes : 
     is = (subst (λ (n : ℕ). DrawsRows sum_nodes n rows_there) (sym taken.node) h.shown.0, taken.sums rows_there);
     sums = summed_there;
     draws = drawn_there f.summary.place taken.place;
-    keys = subst (AreEnoughAt limits names t) (sym taken.keys) (keys_are_reused limits names h.moment t (keys_of e.known.items) h.summary h.asks asks h.enough h.sums fits_there);
+    within = subst (λ (n : ℕ). n < length t.frames) (sym taken.below) within_there;
+    keys = subst (λ (n : ℕ). AreEnoughAt limits names (without_lowest n t) (keys_shown f.keys.items)) (sym taken.below) (subst (AreEnoughAt limits names u) (sym taken.keys) keys_there);
+    apart = subst (λ (n : ℕ). NeverReturnsTo n (asked_at limits (without_lowest n t))) (sym taken.below) never_there;
     some = λ none. let l = slice_get_within es i e got in let a : length es ≡ 0 = ap length none in absurd (omega arith);
   }
 
 entry_in : (names : List Text) (limits : Limits) (nodes : List Node) (sum_nodes : List SumNode) (es : List Entry) (i : ℕ) (e : Entry) → slice_get es i ≡ Some e → AreEntries names limits nodes sum_nodes es → IsEntry names limits nodes sum_nodes e
 entry_in names limits nodes sum_nodes es i e got all = subst (IsEntry names limits nodes sum_nodes) (get_or_from_slice_get es i e e got) (all i e (slice_get_within es i e got))
 
--- what a look-up in the table finds, and if it finds nothing, no entry fits
-pub looked_up : (names : List Text) (limits : Limits) (nodes : List Node) (sum_nodes : List SumNode) (table : Table) (t : Moment) (number : ℕ) → AreEntries names limits nodes sum_nodes table.entries.items → AreNoted table → IsAsking limits t → number ≡ place_number t.frames
-    → (o : Option Future) → MatchOption o (NoneFrom limits.step_bound limits.device_bound table t number 0) (TakesOne limits.step_bound limits.device_bound table.entries.items t)
-    → MatchOption o (NoneFits limits.step_bound limits.device_bound table.entries.items t) (IsFound names limits nodes sum_nodes table.entries.items t)
-looked_up names limits nodes sum_nodes table t number all noted asks is None none = λ place e got fits.
-    let here : IsNoted table table.entries.items place e = noted place e got in
-    let same : place_number (reverse e.frames.items) ≡ number = ap place_number fits.frames ∙ sym is in
-    none place e e.known.items got (let l = here.short in omega arith) (subst (λ (n : ℕ). LeadTo table table.entries.items n 0 e.known.items place) same here.leads) fits.known fits
-looked_up names limits nodes sum_nodes table t number all noted asks is (Some f) takes =
+-- what a look-up in the table finds
+pub found_one : (names : List Text) (limits : Limits) (nodes : List Node) (sum_nodes : List SumNode) (table : Table) (t : Moment) (f : Future) → AreEntries names limits nodes sum_nodes table.entries.items → IsAsking limits t
+    → TakesOne limits.step_bound limits.device_bound table.entries.items t f → IsFound names limits nodes sum_nodes table.entries.items t f
+found_one names limits nodes sum_nodes table t f all asks takes =
     found_there names limits nodes sum_nodes takes.1 t (entry_in names limits nodes sum_nodes table.entries.items takes.0 takes.1 takes.2 all) asks takes.3 table.entries.items takes.0 f takes.2 takes.4
+
+-- if it finds nothing, no entry fits
+none_fits : (limits : Limits) (table : Table) (t : Moment) → AreNoted table → NoneFrom limits.step_bound limits.device_bound table t (place_number t.frames) 0
+    → AllOf table.depths.items (NoneOnTop limits.step_bound limits.device_bound table t) → NoneFits limits.step_bound limits.device_bound table.entries.items t
+none_fits limits table t noted none deeper place e got fits = by e.whole refl
+  where
+    here : IsNoted table table.entries.items place e
+    here = noted place e got
+
+    short : 0 + length e.known.items ≤ table.longest
+    short = let l = here.short in omega arith
+
+    by : (whole : Bool) → e.whole ≡ whole → ⊥
+    by true whole =
+        let same : t.frames ≡ reverse e.frames.items = subst (λ (b : Bool). HasOnTop b (reverse e.frames.items) t.frames) whole fits.frames in
+        none place e e.known.items got short (subst (λ (fs : List RunningFrame). LeadTo table table.entries.items (place_number fs) 0 e.known.items place) (sym same) here.leads) fits.known fits
+    by false whole =
+        let inner = innermost_are (reverse e.frames.items) t.frames (length e.frames.items) (sym (length-reverse e.frames.items)) (subst (λ (b : Bool). HasOnTop b (reverse e.frames.items) t.frames) whole fits.frames) in
+        deeper (length e.frames.items) (here.deep whole) inner.0 place e e.known.items got short
+        (subst (λ (fs : List RunningFrame). LeadTo table table.entries.items (place_number fs) 0 e.known.items place) (sym inner.1) here.leads) fits.known fits
+
+pub looked_up : (names : List Text) (limits : Limits) (nodes : List Node) (sum_nodes : List SumNode) (table : Table) (t : Moment) (number : ℕ) → AreEntries names limits nodes sum_nodes table.entries.items → AreNoted table → IsAsking limits t → number ≡ place_number t.frames
+    → NoneFrom limits.step_bound limits.device_bound table t number 0
+    → (o : Option Future) → MatchOption o (AllOf table.depths.items (NoneOnTop limits.step_bound limits.device_bound table t)) (TakesOne limits.step_bound limits.device_bound table.entries.items t)
+    → MatchOption o (NoneFits limits.step_bound limits.device_bound table.entries.items t) (IsFound names limits nodes sum_nodes table.entries.items t)
+looked_up names limits nodes sum_nodes table t number all noted asks is first None none = none_fits limits table t noted (subst (λ (n : ℕ). NoneFrom limits.step_bound limits.device_bound table t n 0) is first) none
+looked_up names limits nodes sum_nodes table t number all noted asks is first (Some f) takes = found_one names limits nodes sum_nodes table t f all asks takes
 
 module _ (names : List Text) (limits : Limits) (nodes : List Node) (sum_nodes : List SumNode) where
   one_at : (e : Entry) → IsEntry names limits nodes sum_nodes e → (n : ℕ) (d : Entry) → n < 1 → IsEntry names limits nodes sum_nodes (get_or (e ∷ []) n d)
@@ -289,6 +348,7 @@ module _ (names : List Text) (limits : Limits) (nodes : List Node) (sum_nodes : 
     known = k.known;
     asked = k.asked;
     enough = k.enough;
+    apart = k.apart;
     steps = k.steps;
     devices = k.devices;
     summary = k.summary;
@@ -303,49 +363,60 @@ module _ (names : List Text) (limits : Limits) (nodes : List Node) (sum_nodes : 
   pub all_wider : (new : List Node) (new_sums : List SumNode) (es : List Entry) → HasMore nodes new → HasMoreSums sum_nodes new_sums → AreEntries names limits nodes sum_nodes es → AreEntries names limits new new_sums es
   all_wider new new_sums es h more k = λ n d l. wider new new_sums (get_or es n d) h more (k n d l)
 
+-- frames of which none are left out are whole
+pub not_whole : (n : ℕ) → nat_eq n 0 ≡ false → n ≡ 0 → ⊥
+not_whole n part z = let yes : nat_eq n 0 ≡ true = ap (λ (k : ℕ). nat_eq k 0) z in absurd (cc)
+
 -- the summary that is kept
 pub shown_as : (sum_nodes : List SumNode) (whole copy : rt.Summary) (s t : Summary) → copy ≡ whole → s ≡ t → IsSummary sum_nodes whole s → IsSummary sum_nodes copy t
 shown_as sum_nodes whole copy s t e f h = subst (λ (x : rt.Summary). IsSummary sum_nodes x t) (sym e) (subst (IsSummary sum_nodes whole) f h)
 
 -- one more entry
-pub entries_more : (names : List Text) (task : Task) (nodes : List Node) (sum_nodes : List SumNode) (depth devices : ℕ) (m n : Moment) (keys : List Key) (old new : List Entry) (whole : rt.Summary) (s : Summary) → IsReached task depth Asks m → AreEntries names task.limits nodes sum_nodes old → n ≡ m
-    → IsSummary sum_nodes whole s → SummedFrom names task.limits Asks m s → Draws nodes whole.place (seen_at task.limits m) → devices ≡ length m.log → AreAmong (asked_reads n) keys → AreEnoughAt task.limits names m keys → IsKeptAt old new n keys devices whole
-    → AreEntries names task.limits nodes sum_nodes new
-entries_more names task nodes sum_nodes depth devices m n keys old new whole s reached all same is summed draws log asked enough kept_there =
-    let kept : IsKeptAt old new m keys devices whole = subst (λ (x : Moment). IsKeptAt old new x keys devices whole) same kept_there in
+pub entries_more : (names : List Text) (task : Task) (nodes : List Node) (sum_nodes : List SumNode) (depth devices below : ℕ) (m n : Moment) (keys : List Key) (old new : List Entry) (whole : rt.Summary) (s : Summary) → IsReached task depth Asks m → AreEntries names task.limits nodes sum_nodes old → n ≡ m
+    → IsSummary sum_nodes whole s → SummedFrom names task.limits Asks m s → Draws nodes whole.place (seen_at task.limits m) → devices ≡ length m.log → AreAmong (asked_reads n) keys → below < length m.frames → AreEnoughAt task.limits names (without_lowest below m) keys
+    → NeverReturnsTo below (asked_at task.limits (without_lowest below m)) → IsKeptAt old new below n keys devices whole → AreEntries names task.limits nodes sum_nodes new
+entries_more names task nodes sum_nodes depth devices below m n keys old new whole s reached all same is summed draws log asked within enough never kept_there =
+    let kept : IsKeptAt old new below m keys devices whole = subst (λ (x : Moment). IsKeptAt old new below x keys devices whole) same kept_there in
     let e : Entry = kept.kept.0 in
     let known : keys_of e.known.items ≡ keys = ap keys_of kept.kept.3 ∙ kept.same in
+    let asks : IsAsking task.limits m = reached_asks task depth m reached in
+    let u : Moment = without_lowest below m in
+    let asked_here : AreAmong (asked_reads u) keys = subst (λ (ks : List Key). AreAmong ks keys) (sym (asked_without below m within)) (subst (λ (x : Moment). AreAmong (asked_reads x) keys) same asked) in
     let entry : IsEntry names task.limits nodes sum_nodes e = record {
-      moment = m;
-      asks = reached_asks task depth m reached;
+      moment = u;
+      asks = asks_above task.limits below m asks within;
       frames = ap reverse kept.kept.2 ∙ kept.frames;
-      known = subst (AllHold m) (sym kept.kept.3) kept.holds;
-      asked = subst (AreAmong (asked_reads m)) (sym known) (subst (λ (x : Moment). AreAmong (asked_reads x) keys) same asked);
-      enough = subst (AreEnoughAt task.limits names m) (sym known) enough;
+      known = subst (AllHold u) (sym kept.kept.3) (all_held_without below m kept.known kept.holds);
+      asked = subst (AreAmong (asked_reads u)) (sym known) asked_here;
+      enough = subst (AreEnoughAt task.limits names u) (sym known) enough;
+      apart = λ part. never (λ z. not_whole below (sym kept.kept.7 ∙ part) z);
       steps = kept.kept.4;
       devices = kept.kept.5 ∙ log;
       summary = summed.0;
-      sums = summed.1;
+      sums = sums_above task.limits names summed.0 below m asks within never summed.1;
       shown = shown_as sum_nodes whole e.summary s (saturated_summary summed.0) kept.kept.6 summed.2 is;
-      draws = subst (λ (x : rt.Summary). Draws nodes x.place (seen_at task.limits m)) (sym kept.kept.6) draws;
+      draws = subst (λ (x : rt.Summary). Draws nodes x.place (seen_at task.limits u)) (sym kept.kept.6) (draws_as nodes whole.place (seen_at task.limits m) (seen_at task.limits u) (λ w. seen_below task.limits below m asks within never w) draws);
     } in
     subst (AreEntries names task.limits nodes sum_nodes) (sym kept.kept.1) (all_append names task.limits nodes sum_nodes old e all entry)
 
 -- ---- keys
 
--- what was reported of both outcomes, and the keys behind
-pub keys_of_sides : (names : List Text) (task : Task) (m first second : Moment) (won_stop lost_stop : Stop) (won_at lost_at : Moment) (won lost : List Access) (after_won after_lost keys : List Key) → IsAsking task.limits m → first ≡ m → second ≡ m
-    → IsReportedFor task.limits Success first won_stop won_at won → AreEnoughAtStop task.limits names won_stop won_at after_won
-    → IsReportedFor task.limits Failure second lost_stop lost_at lost → AreEnoughAtStop task.limits names lost_stop lost_at after_lost
-    → AreAmong (keys_in_front won after_won ++ keys_in_front lost after_lost) keys → AreEnoughAt task.limits names m keys
-keys_of_sides names task m first second won_stop lost_stop won_at lost_at won lost after_won after_lost keys asks at at' from_won enough_won from_lost enough_lost all =
-    let limits : Limits = task.limits in
-    let before_won : List Key = keys_in_front won after_won in
-    let before_lost : List Key = keys_in_front lost after_lost in
-    more_keys_are_enough limits names (asks_at limits m) (before_won ++ before_lost) keys
-    (keys_of_both_outcomes limits names m before_won before_lost asks
-    (subst (λ (x : Moment). AreEnoughFor limits names Success x before_won) at (from_won names after_won enough_won))
-    (subst (λ (x : Moment). AreEnoughFor limits names Failure x before_lost) at' (from_lost names after_lost enough_lost))) all
+-- what was reported of both outcomes, and the keys behind, without the lowest frames
+pub record Both (names : List Text) (limits : Limits) (below : ℕ) (m : Moment) (keys : List Key) : Type 0 where
+  pub within : below < length m.frames
+  pub enough : AreEnoughAt limits names (without_lowest below m) keys
+  pub never : NeverReturnsTo below (asked_at limits (without_lowest below m))
+
+pub keys_of_sides : (names : List Text) (task : Task) (below : ℕ) (m : Moment) (won lost keys : List Key) (frames : ℕ) → IsAsking task.limits m → below ≤ frames - 1 → frames ≤ length m.frames
+    → Side names task.limits below m Success won → Side names task.limits below m Failure lost → AreAmong (won ++ lost) keys → Both names task.limits below m keys
+keys_of_sides names task below m won lost keys frames asks less all from_won from_lost among =
+    let some = some_frames task.limits m asks in
+    let within : below < length m.frames = omega arith in
+    record {
+      within = within;
+      enough = more_keys_are_enough task.limits names (asks_at task.limits (without_lowest below m)) (won ++ lost) keys (both_enough names task.limits below m won lost asks within from_won from_lost) among;
+      never = neither_comes_back names task.limits below m won lost asks within from_won from_lost;
+    }
 
 -- ---- marks
 
@@ -407,7 +478,9 @@ searched_behind names task stop r here done last before after f is returns h =
       is = h.is;
       sums = subst (λ (m : Moment). SummedFrom names task.limits stop m h.shown) present h.sums;
       draws = subst (λ (m : Moment). Draws (nodes_shown after.flow.nodes) f.summary.place (seen_from task.limits stop m)) present h.draws;
-      keys = subst (λ (m : Moment). AreEnoughAtStop task.limits names stop m (keys_shown f.keys.items)) present h.keys;
+      within = subst (λ (m : Moment). HasFramesAtStop (f.below + 1) stop m) present h.within;
+      keys = subst (λ (m : Moment). AreEnoughAtStop task.limits names stop (without_lowest f.below m) (keys_shown f.keys.items)) present h.keys;
+      apart = subst (λ (m : Moment). NeverReturnsTo f.below (future task.limits stop (without_lowest f.below m))) present h.apart;
       grows = h.grows;
       more = h.more;
       last = h.last;

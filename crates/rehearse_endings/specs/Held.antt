@@ -6,10 +6,11 @@ use Rattle.bootstore_state.specs.Moment.{Moment, RunningFrame}
 use Rattle.rehearse_terms.specs.State.{Text}
 use Rattle.rehearse_rules.specs.Runs.{Task}
 use Rattle.rehearse_reads.specs.Keys.{Key}
+use Rattle.rehearse_frames.specs.Above.{above}
 use Rattle.rehearse_reports.specs.Known.{AllHold, keys_of}
 use Rattle.rehearse_reports.specs.declared.known.Known.{Known}
 use Rattle.rehearse_reports.specs.declared.known.Known.TheVariants.{Environment, Local, AnswerTo, Succeeded, Status}
-use Rattle.rehearse_endings.specs.States.{AreApart, Asked, Searched}
+use Rattle.rehearse_endings.specs.States.{AreApart, Asked, Searched, frames_in}
 use Rattle.rehearse_endings.specs.declared.table.Entry.{Entry}
 use Rattle.rehearse_endings.specs.declared.table.Table.{Table}
 
@@ -33,7 +34,7 @@ size_of_known (Status status) = 192
 abbrev pub size_of_all : List Known → ℕ
 size_of_all known = sum_by size_of_known known
 
--- a state: 512, 64 for each of its frames, whose scripts and words are shared, and what is known there
+-- a state: 512, 64 for each of its frames that count, whose scripts and words are shared, and what is known there
 abbrev pub size_of : List RunningFrame → List Known → ℕ
 size_of frames known = 512 + (64 * length frames + size_of_all known)
 
@@ -51,9 +52,9 @@ size_of_entry e = size_of e.frames.items e.known.items
 abbrev pub most_held : Table → ℕ
 most_held table = sum_by size_of_entry table.entries.items + table.room
 
--- a moment, with what it has at these keys, has no room
-abbrev pub HasNoRoom : (room : ℕ) → Moment → List Key → Type 0
-HasNoRoom room m keys = (known : List Known) × AllHold m known × (keys_of known ≡ keys) × (room < size_of m.frames known)
+-- a moment without so many of its lowest frames, with what it has at these keys, has no room
+abbrev pub HasNoRoom : (room below : ℕ) → Moment → List Key → Type 0
+HasNoRoom room below m keys = (known : List Known) × AllHold m known × (keys_of known ≡ keys) × (room < size_of (above below m.frames) known)
 
 -- ---- the states of a search
 
@@ -67,7 +68,7 @@ pub record IsHeld (h : Held) : Type 0 where
   pub keys : keys_of h.known ≡ h.state.keys
 
 abbrev pub size_of_held : Held → ℕ
-size_of_held h = size_of h.state.asked.1.frames h.known
+size_of_held h = size_of (frames_in h.state) h.known
 
 -- states that were searched, each with what is known at its keys, and states on one run whose search has begun: runs of the task
 -- come to all of them, and no two are alike

@@ -1,5 +1,5 @@
 -- Where the table notes its entries: from the number of a place, what an entry knows leads to it. Ours.
-use Rattle.std.specs.Prelude.{◌≡◌, ℕ, suc, ◌+◌, ◌≤◌, nat_eq, cond, List, [], ◌∷◌, ◌++◌, length, reverse, Option, Some, None, Contains}
+use Rattle.std.specs.Prelude.{◌≡◌, ℕ, suc, ◌+◌, ◌-◌, ◌≤◌, nat_eq, cond, false, List, [], ◌∷◌, ◌++◌, length, take, reverse, Option, Some, None, Contains}
 use Rattle.std.specs.List.{slice_get}
 use Rattle.std.specs.HashMap.{HashMap, get}
 use Rattle.std.specs.declared.alloc.Global.{Global}
@@ -16,6 +16,7 @@ use Rattle.rehearse_states.specs.PlaceNumbers.{place_number}
 use Rattle.rehearse_states.specs.Endings.{Row}
 use Rattle.rehearse_states.specs.RowsShown.{summary_with}
 use Rattle.rehearse_endings.specs.Numbers.{mixed_known}
+use Rattle.rehearse_endings.specs.OnTop.{HasOnTop}
 use Rattle.rehearse_endings.specs.declared.table.Entry.{Entry}
 use Rattle.rehearse_endings.specs.declared.table.Future.{Future}
 use Rattle.rehearse_endings.specs.declared.table.Table.{Table}
@@ -66,8 +67,10 @@ LeadTo table entries number at [] place = Contains (noted table.alike number) pl
 LeadTo table entries number at (known ∷ rest) place =
     Leads (ways table number) entries at (key_of known) × LeadTo table entries (mixed_known number known) (suc at) rest place
 
--- what an entry knows leads to it from the number of its place, and is no longer than that of any
+-- what an entry knows leads to it from the number of its place, and is no longer than that of any; the table has how many
+-- frames it has, if others may be below them
 pub record IsNoted (table : Table) (entries : List Entry) (place : ℕ) (e : Entry) : Type 0 where
+  pub deep : e.whole ≡ false → Contains table.depths.items (length e.frames.items)
   pub short : length e.known.items ≤ table.longest
   pub leads : LeadTo table entries (place_number (reverse e.frames.items)) 0 e.known.items place
 
@@ -79,10 +82,14 @@ AreNoted table = (place : ℕ) (e : Entry) → slice_get table.entries.items pla
 
 -- the moment is at the place of the entry, what was known there holds here, and the runs of the entry have room here
 pub record Fits (step_bound device_bound : ℕ) (e : Entry) (m : Moment) : Type 0 where
-  pub frames : reverse e.frames.items ≡ m.frames
+  pub frames : HasOnTop e.whole (reverse e.frames.items) m.frames
   pub known : AllHold m e.known.items
   pub steps : FitsIf e.summary.cut_steps e.steps m.steps e.summary.steps step_bound
   pub devices : FitsIf e.summary.cut_devices e.devices (length m.log) e.summary.devices device_bound
+
+-- how many frames the moment has below those of an entry that fits
+abbrev pub how_many_below : Entry → Moment → ℕ
+how_many_below e m = cond e.whole 0 (length m.frames - length e.frames.items)
 
 -- what is to come after the entry, as it is at the moment
 pub record IsTaken (e : Entry) (m : Moment) (f : Future) : Type 0 where
@@ -90,6 +97,7 @@ pub record IsTaken (e : Entry) (m : Moment) (f : Future) : Type 0 where
   pub node : f.summary.sum ≡ e.summary.sum
   pub place : f.summary.place ≡ e.summary.place
   pub keys : keys_shown f.keys.items ≡ keys_of e.known.items
+  pub below : f.below ≡ how_many_below e m
 
 -- each of these places has the property
 abbrev pub AllOf : (places : List ℕ) → (ℕ → Type 0) → Type 0
@@ -112,6 +120,10 @@ module _ (step_bound device_bound : ℕ) where
   abbrev pub NoneFrom : Table → Moment → (number at : ℕ) → Type 0
   NoneFrom table m number at = (place : ℕ) (e : Entry) (rest : List Known) → slice_get table.entries.items place ≡ Some e →
       at + length rest ≤ table.longest → LeadTo table table.entries.items number at rest place → AllHold m rest → Fits step_bound device_bound e m → ⊥
+
+  -- none with so many frames, if they may have others below them
+  abbrev pub NoneOnTop : Table → Moment → (many : ℕ) → Type 0
+  NoneOnTop table m many = many ≤ length m.frames → NoneFrom table m (place_number (take many m.frames)) 0
 
   -- none by what the entry at a place knows next
   abbrev pub NoneBy : Table → Moment → (number at place : ℕ) → Type 0

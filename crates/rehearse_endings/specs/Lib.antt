@@ -1,4 +1,5 @@
 pub mod Numbers
+pub mod OnTop
 pub mod Indexed
 pub mod Searching
 pub mod States

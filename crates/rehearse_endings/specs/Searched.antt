@@ -11,11 +11,12 @@ use Rattle.rehearse_reuse.specs.DrawnRuns.{Draws}
 use Rattle.rehearse_states.specs.Drawing.{HasMore, nodes_shown}
 use Rattle.rehearse_states.specs.Summaries.{Summary}
 use Rattle.rehearse_states.specs.SumNodes.{HasMoreSums, IsSummary, sums_shown}
-use Rattle.rehearse_endings.specs.Searching.{SummedFrom, seen_from, AreEntries}
+use Rattle.rehearse_endings.specs.Searching.{SummedFrom, seen_from, future, AreEntries, NeverReturnsTo}
 use Rattle.rehearse_endings.specs.Held.{ComesToBytes, most_held}
 use Rattle.rehearse_endings.specs.Indexed.{AreNoted}
 use Rattle.rehearse_endings.specs.States.{Asked, ComesBy, HasEntered}
-use Rattle.rehearse_reports.specs.Following.{AreEnoughAtStop}
+use Rattle.rehearse_frames.specs.Above.{without_lowest}
+use Rattle.rehearse_reports.specs.Following.{AreEnoughAtStop, HasFramesAtStop}
 use Rattle.rehearse_reports.specs.ReportsShown.{keys_shown}
 use Rattle.rehearse_endings.specs.declared.table.Future.{Future}
 use Rattle.rehearse_endings.specs.declared.table.Table.{Table}
@@ -28,13 +29,16 @@ IsSpent work count r table = (work < r.begun) × (r.begun ≤ work + most_steps)
 abbrev pub IsFull : (names : List Text) → Task → (count bytes : ℕ) → Table → Type 0
 IsFull names task count bytes table = (count ≡ table.visited) × ComesToBytes names task count bytes
 
--- everything after the stop is searched: the summary says what is to come, the keys are enough for it, and the table has what was entered
+-- everything after the stop is searched: the summary says what is to come, the keys are enough for it, nothing comes back to the
+-- frames that do not count, and the table has what was entered
 pub record IsSearched (names : List Text) (task : Task) (stop : Stop) (old new : Record) (before after : Table) (f : Future) : Type 0 where
   pub shown : Summary
   pub is : IsSummary (sums_shown after.sums) f.summary shown
   pub sums : SummedFrom names task.limits stop old.present shown
   pub draws : Draws (nodes_shown after.flow.nodes) f.summary.place (seen_from task.limits stop old.present)
-  pub keys : AreEnoughAtStop task.limits names stop old.present (keys_shown f.keys.items)
+  pub within : HasFramesAtStop (f.below + 1) stop old.present
+  pub keys : AreEnoughAtStop task.limits names stop (without_lowest f.below old.present) (keys_shown f.keys.items)
+  pub apart : NeverReturnsTo f.below (future task.limits stop (without_lowest f.below old.present))
   pub grows : HasMore (nodes_shown before.flow.nodes) (nodes_shown after.flow.nodes)
   pub more : HasMoreSums (sums_shown before.sums) (sums_shown after.sums)
   pub last : before.entries.items ≡ [] → before.flow.nodes.items ≡ [] → f.summary.place + 1 ≡ length after.flow.nodes.items

@@ -1,7 +1,7 @@
 -- The states in which device commands ask, and to which the runs of a task come. Ours.
-use Rattle.std.specs.Prelude.{◌≡◌, ℕ, ◌+◌, ◌*◌, ◌<◌, List, [], ◌∷◌, ◌++◌, length, map, reverse, ◌⊎◌}
+use Rattle.std.specs.Prelude.{◌≡◌, ℕ, ◌+◌, ◌*◌, ◌<◌, nat_eq, List, [], ◌∷◌, ◌++◌, length, map, reverse, ◌⊎◌}
 use Rattle.std.specs.List.{AllByRecursion}
-use Rattle.bootstore_state.specs.Moment.{Moment}
+use Rattle.bootstore_state.specs.Moment.{Moment, RunningFrame}
 use Rattle.bootstore_state.specs.StoredState.{state_at}
 use Rattle.rehearse_terms.specs.Bounds.{most_steps}
 use Rattle.rehearse_terms.specs.Outcomes.{OutcomeWord, Outcome, Short}
@@ -11,12 +11,16 @@ use Rattle.rehearse_rules.specs.Runs.{Task, kind}
 use Rattle.rehearse_machine.specs.declared.rehearsal.Stop.TheVariants.{Asks}
 use Rattle.rehearse_machine.specs.StoppedTexts.{StoppedAt}
 use Rattle.rehearse_reads.specs.Keys.{Key, AgreeOn}
+use Rattle.rehearse_machine.specs.Machine.{asked_at}
+use Rattle.rehearse_frames.specs.Above.{above, without_lowest}
 use Rattle.rehearse_frames.specs.KeysToCome.{AreEnoughAt}
 use Rattle.rehearse_reports.specs.Known.{AllHold, keys_of}
 use Rattle.rehearse_reuse.specs.SummedRuns.{FitsIf, SumsAt}
 use Rattle.rehearse_states.specs.Drawing.{asks_in, nodes_shown}
 use Rattle.rehearse_states.specs.RowsShown.{saturated, saturated_summary, summary_with}
 use Rattle.rehearse_states.specs.Summaries.{Summary}
+use Rattle.rehearse_endings.specs.OnTop.{HasOnTop}
+use Rattle.rehearse_endings.specs.Searching.{NeverReturnsTo}
 use Rattle.rehearse_endings.specs.declared.table.Entry.{Entry}
 use Rattle.rehearse_endings.specs.declared.table.Table.{Table}
 
@@ -28,21 +32,30 @@ Asked = OutcomeWord × Moment
 abbrev pub IsMet : Task → Asked → Type 0
 IsMet task s = (kind task s.0 ≡ Short) × StoppedAt task s.0 Asks s.1
 
--- a state that was searched, keys that it was found to depend on, and what was found to come after it
+-- a state that was searched, how many of its lowest frames do not count, keys that it was found to depend on, and what was found
+-- to come after it
 pub record Searched : Type 0 where
   pub asked : Asked
+  pub below : ℕ
   pub keys : List Key
   pub to_come : Summary
 
--- runs of the task come to the state, the keys are enough for what is to come, and that is what the summary says
+-- the frames of it that count
+abbrev pub frames_in : Searched → List RunningFrame
+frames_in s = above s.below s.asked.1.frames
+
+-- runs of the task come to the state, the keys are enough for what is to come, nothing comes back to frames that do not count, and
+-- what is to come is what the summary says
 pub record IsSearchedIn (names : List Text) (task : Task) (s : Searched) : Type 0 where
   pub met : IsMet task s.asked
-  pub enough : AreEnoughAt task.limits names s.asked.1 s.keys
+  pub enough : AreEnoughAt task.limits names (without_lowest s.below s.asked.1) s.keys
+  pub apart : NeverReturnsTo s.below (asked_at task.limits (without_lowest s.below s.asked.1))
   pub sums : SumsAt names task.limits s.asked.1 s.to_come
 
--- another state is at the same place, agrees on the keys of the one that was searched, and leaves room for what is to come
+-- another state has the frames that count, and below them any others if some do not; it agrees on the keys of the one that was
+-- searched, and leaves room for what is to come
 pub record IsLike (limits : Limits) (s : Searched) (m : Moment) : Type 0 where
-  pub frames : m.frames ≡ s.asked.1.frames
+  pub frames : HasOnTop (nat_eq s.below 0) (frames_in s) m.frames
   pub agree : AgreeOn s.keys (state_at s.asked.1 []) (state_at m [])
   pub steps : FitsIf s.to_come.cut_steps s.asked.1.steps m.steps s.to_come.steps limits.step_bound
   pub devices : FitsIf s.to_come.cut_devices (length s.asked.1.log) (length m.log) s.to_come.devices limits.device_bound
@@ -91,7 +104,8 @@ ComesToSteps names task count steps = ComesToStates names task count × (steps <
 
 -- the entry of a state that was searched, apart from its rows
 pub record IsKeptAs (s : Searched) (e : Entry) : Type 0 where
-  pub frames : reverse e.frames.items ≡ s.asked.1.frames
+  pub frames : reverse e.frames.items ≡ frames_in s
+  pub whole : e.whole ≡ nat_eq s.below 0
   pub known : AllHold s.asked.1 e.known.items
   pub keys : keys_of e.known.items ≡ s.keys
   pub steps : e.steps ≡ s.asked.1.steps

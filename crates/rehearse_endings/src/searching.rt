@@ -1,5 +1,5 @@
 //! The search through the states in which device commands ask.
-ghost use Rattle.std.specs.Prelude.{ℕ, ◌≡◌, ◌≢◌, ◌+◌, ◌*◌, ◌≤◌, ◌<◌, ◌^◌, true, false, List, [], ◌∷◌, length, map, IfOk, IfErr, OnOk};
+ghost use Rattle.std.specs.Prelude.{ℕ, ◌≡◌, ◌≢◌, ◌+◌, ◌-◌, ◌*◌, ◌≤◌, ◌<◌, ◌^◌, true, false, List, [], ◌∷◌, length, map, IfOk, IfErr, OnOk};
 ghost use Rattle.rehearse_terms.specs.Bounds.{most_steps};
 ghost use Rattle.rehearse_terms.specs.Outcomes.{OutcomeWord};
 ghost use Rattle.rehearse_machine.specs.Came.{settled};
@@ -10,7 +10,9 @@ ghost use Rattle.rehearse_rules.specs.Runs.{run_on};
 ghost use Rattle.rehearse_states.specs.RowsShown.{rows_shown, saturated};
 ghost use Rattle.rehearse_states.specs.SumNodes.{sums_shown};
 ghost use Rattle.rehearse_states.specs.Endings.{endings};
-ghost use Rattle.rehearse_reports.specs.Following.{IsReportedFor};
+ghost use Rattle.rehearse_rules.specs.EndingsShown.{halt_shown};
+ghost use Rattle.rehearse_frames.specs.Above.{IsNoEnd};
+ghost use Rattle.rehearse_reports.specs.Following.{HasFramesAtStop, IsReportedAbove};
 ghost use Rattle.rehearse_reports.specs.ReportsShown.{accesses_shown, keys_shown};
 ghost use Rattle.rehearse_states.specs.Flow.{IsFlow};
 ghost use Rattle.rehearse_states.specs.Drawing.{asks_in, nodes_shown};
@@ -18,7 +20,6 @@ ghost use Rattle.rehearse_endings.specs.Held.{ComesToBytes, HasNoRoom, HoldsStat
 ghost use Rattle.rehearse_endings.specs.Searching.{IsReached, AreEntries, IsKeptAt};
 ghost use Rattle.rehearse_endings.specs.Indexed.{AreNoted};
 ghost use Rattle.rehearse_endings.specs.States.{Asked, ComesBy, ComesToStates, ComesToSteps, HasEntered, HasStates};
-ghost use Rattle.rehearse_states.specs.PlaceNumbers.{place_number};
 ghost use Rattle.rehearse_endings.specs.Searched.{IsFull, IsSearched, IsSpent};
 ghost use Rattle.rehearse_endings.specs.declared.sum_error.SumError.TheVariants.{Bytes, Memory, States, Steps};
 
@@ -28,8 +29,10 @@ use crate::table::{Future, Table};
 use bootstore_state::Store;
 use rehearse_machine::{Rehearsal, Stop};
 use rehearse_reports::{Key, Reported, begin_watched, keys_of, known_at, resume_reported};
+use rehearse_rules::Halt;
 use rehearse_states::{
-    Node, Row, Summary, copy_frames, hash_of, of_end, of_sides, rows_of, run_end_of, words_at,
+    Node, Row, Summary, copy_frames, hash_of, number_of, of_end, of_sides, rows_of, run_end_of,
+    words_at,
 };
 use std::alloc::Global;
 
@@ -53,25 +56,50 @@ fn logged<S: Store>(store: &S) -> u32
     store.log().len() as u32
 }
 
+/// How many of the lowest frames do not count at an end: all, unless the text came to its end.
+fn below_end(halt: &Halt) -> usize
+    ensures { result ≢ 0 → IsNoEnd (halt_shown halt.now) }
+{
+    match halt {
+        Halt::End(_) => 0,
+        Halt::CutDevices | Halt::CutSteps | Halt::Size => usize::MAX,
+        Halt::Unknown(_) | Halt::Syntax(_) | Halt::Unsupported(_) | Halt::Panic(_) => usize::MAX,
+        Halt::Finished(_, _) => usize::MAX,
+    }
+}
+
+/// How many of the lowest frames neither outcome reaches, by how many frames there were at least behind each, and how many
+/// did not count behind its stretch.
+fn behind_both(won_frames: usize, won: usize, lost_frames: usize, lost: usize) -> usize
+    ensures won { result ≤ won_frames - 1 }
+    ensures behind_won { result ≤ won }
+    ensures lost { result ≤ lost_frames - 1 }
+    ensures behind_lost { result ≤ lost }
+{
+    let behind_won = won_frames.saturating_sub(1).min(won);
+    let behind_lost = lost_frames.saturating_sub(1).min(lost);
+    behind_won.min(behind_lost)
+}
+
 /// Keeps the summary of a state in which a device command asked, with the values of keys that are enough
-/// for it. Returns these keys. Errors: `Memory`; `Bytes`, only if that has no room, with the number of states that were
-/// entered.
+/// for it. So many of its lowest frames do not count. Returns these keys. Errors: `Memory`; `Bytes`, only if that has no
+/// room, with the number of states that were entered.
 fn keep<S: Store>(
     alloc: Global,
     store: &S,
     table: &mut Table,
-    hash: u64,
     keys: Vec<Key>,
+    below: usize,
     devices: u32,
     summary: Summary,
 ) -> Result<Vec<Key>, SumError>
-    requires { hash ≡ place_number (S.record_of store.now).present.frames }
+    requires { below ≤ length (S.record_of store.now).present.frames }
     ensures err { IfErr result (λ e. (e ≢ States) × ((count : ℕ) → e ≢ Steps count)) }
     ensures full { (count : ℕ) → IfErr result
-        (λ e. e ≡ Bytes count → HasNoRoom table.old.room (S.record_of store.now).present (keys_shown keys.items)) }
+        (λ e. e ≡ Bytes count → HasNoRoom table.old.room below (S.record_of store.now).present (keys_shown keys.items)) }
     ensures counted { (count : ℕ) → IfErr result (λ e. e ≡ Bytes count → count ≡ table.old.visited) }
     ensures keys { IfOk result (λ kept. keys_shown kept.items ≡ keys_shown keys.items) }
-    ensures kept { OnOk result (IsKeptAt table.old.entries.items table.new.entries.items
+    ensures kept { OnOk result (IsKeptAt table.old.entries.items table.new.entries.items below
         (S.record_of store.now).present (keys_shown keys.items) devices summary) }
     ensures noted { OnOk result (AreNoted table.old → AreNoted table.new) }
     ensures held { OnOk result (most_held table.new ≡ most_held table.old) }
@@ -82,8 +110,19 @@ fn keep<S: Store>(
 {
     let known = known_at(alloc, store, keys)?;
     let keys = keys_of(alloc, &known)?;
-    let frames = copy_frames(alloc, store.frames())?;
-    table.keep(alloc, hash, frames, known, store.steps(), devices, summary)?;
+    let (_below, top) = store.frames().split_at(below);
+    let frames = copy_frames(alloc, top)?;
+    let place = number_of(&frames);
+    table.keep(
+        alloc,
+        place,
+        frames,
+        below == 0,
+        known,
+        store.steps(),
+        devices,
+        summary,
+    )?;
     Ok(keys)
 }
 
@@ -96,11 +135,12 @@ fn is_spent<S: Store>(store: &S, most_work: u32) -> bool
 }
 
 /// Gives the device command that asks an outcome, and goes on until the text stops again. So many states were entered
-/// before. Errors: `Memory`; `Steps` with this number, behind the stretch with which more steps were begun than allowed.
+/// before. Says how many frames there were at least: none if the text came to its end. Errors: `Memory`; `Steps` with this number, behind the stretch with which more steps were begun than allowed.
 fn resumed<S: Store>(
     rehearsal: &Rehearsal<'_>,
     reported: &mut Reported,
     store: &mut S,
+    fewest: &mut usize,
     most_work: u32,
     entered: u32,
     success: bool,
@@ -117,9 +157,11 @@ fn resumed<S: Store>(
         ((S.record_of store.new).begun + (S.record_of store.old).present.steps
         ≡ (S.record_of store.old).begun + (S.record_of store.new).present.steps) }
     ensures within { OnOk result ((S.record_of store.new).present.steps ≤ most_steps) }
-    ensures keys { IfOk result (λ stop. IsReportedFor (task_in rehearsal.now).limits
+    ensures keys { IfOk result (λ stop. IsReportedAbove (task_in rehearsal.now).limits fewest.new
         (outcome_when success) (S.record_of store.old).present stop
         (S.record_of store.new).present (accesses_shown reported.new)) }
+    ensures all { OnOk result (fewest.new ≤ length (S.record_of store.old).present.frames) }
+    ensures frames { IfOk result (λ stop. HasFramesAtStop fewest.new stop (S.record_of store.new).present) }
     ensures worked { OnOk result ((S.record_of store.new).begun ≤ most_work) }
     ensures err { IfErr result (λ e. (e ≢ States) × ((count : ℕ) → e ≢ Bytes count)) }
     ensures spent { (count : ℕ) → IfErr result (λ e. e ≡ Steps count → most_work < (S.record_of store.new).begun) }
@@ -127,7 +169,7 @@ fn resumed<S: Store>(
         (λ e. e ≡ Steps count → (S.record_of store.new).begun ≤ (S.record_of store.old).begun + most_steps) }
     ensures counted { (count : ℕ) → IfErr result (λ e. e ≡ Steps count → count ≡ entered) }
 {
-    let stop = resume_reported(rehearsal, reported, store, success)?;
+    let stop = resume_reported(rehearsal, reported, store, fewest, success)?;
     if is_spent(store, most_work) {
         return Err(SumError::Steps(entered));
     }
@@ -194,6 +236,7 @@ fn summed<S: Store>(
     let devices = logged(store);
     match stop {
         Stop::Ends(halt) => {
+            let below = below_end(&halt);
             let place = table.flow.end(&halt)?;
             let run_end = run_end_of(rehearsal.alloc, store, halt, names)?;
             let summary = of_end(
@@ -205,7 +248,11 @@ fn summed<S: Store>(
                 place,
             )?;
             let keys = keys_at_end(rehearsal.alloc, names)?;
-            Ok(Future { summary, keys })
+            Ok(Future {
+                summary,
+                keys,
+                below,
+            })
         }
         Stop::Asks => {
             let hash = hash_of(store);
@@ -224,8 +271,17 @@ fn summed<S: Store>(
             store.mark()?;
             store.mark()?;
             let mut won_way = Reported::new(rehearsal.alloc);
+            let mut won_frames = 0;
             let entered = table.visited;
-            let won_stop = resumed(rehearsal, &mut won_way, store, most_work, entered, true)?;
+            let won_stop = resumed(
+                rehearsal,
+                &mut won_way,
+                store,
+                &mut won_frames,
+                most_work,
+                entered,
+                true,
+            )?;
             let words = words_at(rehearsal.alloc, store, devices)?;
             let won = summed(
                 rehearsal,
@@ -238,8 +294,17 @@ fn summed<S: Store>(
             )?;
             store.back();
             let mut lost_way = Reported::new(rehearsal.alloc);
+            let mut lost_frames = 0;
             let entered = table.visited;
-            let lost_stop = resumed(rehearsal, &mut lost_way, store, most_work, entered, false)?;
+            let lost_stop = resumed(
+                rehearsal,
+                &mut lost_way,
+                store,
+                &mut lost_frames,
+                most_work,
+                entered,
+                false,
+            )?;
             let lost = summed(
                 rehearsal,
                 store,
@@ -258,6 +323,7 @@ fn summed<S: Store>(
                 lost_way,
                 lost.keys,
             )?;
+            let below = behind_both(won_frames, won.below, lost_frames, lost.below);
             let normal = rehearsal.devices.fails_normally(&words);
             let place = table
                 .flow
@@ -272,8 +338,12 @@ fn summed<S: Store>(
                 lost.summary,
                 place,
             )?;
-            let keys = keep(rehearsal.alloc, store, table, hash, both, devices, summary)?;
-            Ok(Future { summary, keys })
+            let keys = keep(rehearsal.alloc, store, table, both, below, devices, summary)?;
+            Ok(Future {
+                summary,
+                keys,
+                below,
+            })
         }
     }
 }
@@ -283,10 +353,10 @@ fn summed<S: Store>(
 /// unexpected answers. Runs that leave other values of the named variables are told apart. The endings are in
 /// the order of their first runs. Enters no more states than allowed,
 /// and searches each once, so at most two stretches of steps start at a state. Returns `States` if
-/// the runs come to more states than allowed, no two of them alike: at the same place, with the same at the keys
-/// that were found to be enough, and with room for the same runs. Returns `Steps` behind the first stretch with which
+/// the runs come to more states than allowed, no two of them alike: at the same place, but for frames to which nothing
+/// comes back, with the same at the keys that were found to be enough, and with room for the same runs. Returns `Steps` behind the first stretch with which
 /// more steps were begun than allowed, in all stretches together. Returns `Bytes` if the states that were searched
-/// count more bytes than allowed, each by its frames and what is known at its keys. Both have the number of states that
+/// count more bytes than allowed, each by its frames that count and what is known at its keys. Both have the number of states that
 /// were entered by then, no two of them alike.
 /// Errors: `Memory`, `States`, `Steps`, `Bytes`.
 pub fn sum_endings<S: Store>(

@@ -1,5 +1,5 @@
 //! The table of the states in which device commands asked.
-ghost use Rattle.std.specs.Prelude.{ℕ, ◌≡◌, ◌≢◌, ◌≤◌, ◌<◌, ◌+◌, ◌++◌, ◌∷◌, ◌^◌, IfOk, IfErr, OnOk, MatchOption, IsTrue, List, length, map, reverse, [], option_map, Some, ◌-◌};
+ghost use Rattle.std.specs.Prelude.{ℕ, ◌≡◌, ◌≢◌, ◌≤◌, ◌<◌, ◌+◌, ◌++◌, ◌∷◌, ◌^◌, IfOk, IfErr, OnOk, MatchOption, IsTrue, Contains, false, List, length, take, map, reverse, [], option_map, Some, ◌-◌};
 ghost use Rattle.std.specs.List.{slice_get};
 ghost use Rattle.rehearse_machine.specs.Machine.{IsAsking};
 ghost use Rattle.rehearse_machine.specs.MovesShown.{limits_of};
@@ -9,8 +9,9 @@ ghost use Rattle.rehearse_states.specs.Endings.{Row};
 ghost use Rattle.rehearse_states.specs.RowsShown.{summary_with};
 ghost use Rattle.rehearse_states.specs.SumNodes.{sums_shown};
 ghost use Rattle.rehearse_endings.specs.Held.{most_held, size_of};
+ghost use Rattle.rehearse_endings.specs.OnTop.{HasOnTop};
 ghost use Rattle.rehearse_endings.specs.Searching.{AreEntries, IsFound, IsKept};
-ghost use Rattle.rehearse_endings.specs.Indexed.{AllOf, AreNoted, BeginWith, Fits, FitsNot, HasMoreWays, IsNumberBehind, KnowsNext, Leads, NoneBy, NoneFits, NoneFrom, NotesOne, TakesOne, WayIsNoted, known_in, noted, ways};
+ghost use Rattle.rehearse_endings.specs.Indexed.{AllOf, AreNoted, BeginWith, Fits, FitsNot, HasMoreWays, IsNumberBehind, KnowsNext, Leads, NoneBy, NoneFits, NoneFrom, NoneOnTop, NotesOne, TakesOne, WayIsNoted, how_many_below, known_in, noted, ways};
 ghost use Rattle.rehearse_reports.specs.Known.{AllHold, key_of, keys_of};
 ghost use Rattle.rehearse_reports.specs.ReportsShown.{keys_shown};
 ghost use Rattle.rehearse_states.specs.Drawing.{nodes_shown};
@@ -22,25 +23,30 @@ use crate::sum_error::SumError;
 use bootstore_state::{Frame, Store, StoreError};
 use device_list::Devices;
 use rehearse_reports::{Key, Known, all_hold, keys_of};
-use rehearse_states::{Flow, SumNode, Summary, same_frames};
+use rehearse_states::{Flow, SumNode, Summary, number_of, same_frames};
 use rehearse_terms::RunBounds;
-use std::alloc::Global;
+use std::alloc::{AllocError, Global};
 use std::collections::HashMap;
 
-/// What is to come after a state: its summary, and the keys on which it depends.
+/// What is to come after a state: its summary, and the keys and frames on which it depends.
 #[derive(Drop)]
 pub(crate) struct Future {
     /// How the runs end.
     pub(crate) summary: Summary,
     /// The keys that are enough for it.
     pub(crate) keys: Vec<Key>,
+    /// How many of the lowest frames do not count: nothing comes back to them.
+    pub(crate) below: usize,
 }
 
 /// A place at which a device command asked, what was known there of the keys that are enough, and the summary of what
 /// is to come after it.
 #[derive(Drop)]
 pub struct Entry {
+    /// The frames that count.
     pub frames: Vec<Frame>,
+    /// Whether they are all frames: else any others may be below them.
+    pub whole: bool,
     pub known: Vec<Known>,
     pub steps: u32,
     pub devices: u32,
@@ -61,6 +67,8 @@ pub(crate) struct Table {
     pub(crate) alike: HashMap<u64, Vec<usize>>,
     /// How many keys an entry has at most.
     pub(crate) longest: usize,
+    /// How many frames the entries have that others may have below them, each number once.
+    pub(crate) depths: Vec<usize>,
     /// The nodes of the states, and of the ways to end.
     pub(crate) flow: Flow,
     /// What the rows of the states are made of, and those of the runs that are over.
@@ -92,6 +100,7 @@ impl Table {
             forks: HashMap::new(alloc),
             alike: HashMap::new(alloc),
             longest: 0,
+            depths: Vec::new(alloc),
             flow: Flow::new(alloc),
             sums: Vec::new(alloc),
             visited: 0,
@@ -145,7 +154,53 @@ impl Table {
             (sums_shown self.now.sums) self.now.entries.items (S.record_of store.now).present)) }
     {
         let (_devices, _names) = (devices, names);
-        let found = self.look(alloc, store, bounds, place, 0, depth)?;
+        if let Some(found) = self.look(alloc, store, bounds, place, 0, depth)? {
+            return Ok(Some(found));
+        }
+        let found = self.find_on_top(alloc, store, bounds, depth)?;
+        Ok(found)
+    }
+
+    /// What is to come, if an entry fits whose frames are the innermost ones of the present state. Errors: `Memory`.
+    fn find_on_top<S: Store>(
+        &self,
+        alloc: Global,
+        store: &S,
+        bounds: RunBounds,
+        depth: u32,
+    ) -> Result<Option<Future>, StoreError>
+        requires { length (S.record_of store.now).present.log ≡ depth }
+        ensures { IfOk result
+            (λ found. MatchOption found (AllOf self.now.depths.items
+            (NoneOnTop bounds.steps bounds.devices self.now (S.record_of store.now).present))
+            (TakesOne bounds.steps bounds.devices self.now.entries.items (S.record_of store.now).present)) }
+    {
+        for many in &self.depths {
+            if let Some(found) = self.look_on_top(alloc, store, bounds, *many, depth)? {
+                return Ok(Some(found));
+            }
+        }
+        Ok(None)
+    }
+
+    /// The same, if these are so many. Errors: `Memory`.
+    fn look_on_top<S: Store>(
+        &self,
+        alloc: Global,
+        store: &S,
+        bounds: RunBounds,
+        many: usize,
+        depth: u32,
+    ) -> Result<Option<Future>, StoreError>
+        requires { length (S.record_of store.now).present.log ≡ depth }
+        ensures { IfOk result
+            (λ found. MatchOption found (NoneOnTop bounds.steps bounds.devices self.now (S.record_of store.now).present many)
+            (TakesOne bounds.steps bounds.devices self.now.entries.items (S.record_of store.now).present)) }
+    {
+        let Some(top) = innermost(store, many) else {
+            return Ok(None);
+        };
+        let found = self.look(alloc, store, bounds, number_of(top), 0, depth)?;
         Ok(found)
     }
 
@@ -293,7 +348,8 @@ impl Table {
         };
         for place in places {
             if let Some(entry) = self.fitting(store, bounds, *place, depth) {
-                let found = moved(alloc, bounds, entry, store.steps(), depth)?;
+                let below = below_entry(store, entry);
+                let found = moved(alloc, bounds, entry, store.steps(), depth, below)?;
                 return Ok(Some(found));
             }
         }
@@ -320,13 +376,15 @@ impl Table {
         }
     }
 
-    /// Keeps the summary of a state in which a device command asked, whose place has this number. Errors: `Bytes`,
+    /// Keeps the summary of a state in which a device command asked. The place that its frames that count make has this
+    /// number, and they are all frames, or any others may be below them. Errors: `Bytes`,
     /// exactly if the state has no room, with the number of states that were entered, and then nothing changes; `Memory`.
     pub(crate) fn keep(
         &mut self,
         alloc: Global,
         place: u64,
         frames: Vec<Frame>,
+        whole: bool,
         known: Vec<Known>,
         steps: u32,
         devices: u32,
@@ -338,7 +396,7 @@ impl Table {
         ensures limit { self.old.room < size_of frames.items known.items
             → (result ≡ Err (Bytes self.old.visited)) × (self.new ≡ self.old) }
         ensures kept { OnOk result
-            (IsKept self.old.entries.items self.new.entries.items frames.items known.items steps devices
+            (IsKept self.old.entries.items self.new.entries.items frames.items whole known.items steps devices
             summary) }
         ensures noted { OnOk result (AreNoted self.old → AreNoted self.new) }
         ensures held { OnOk result (most_held self.new ≡ most_held self.old) }
@@ -354,8 +412,10 @@ impl Table {
         let number = self.note_ways(alloc, place, &known, at)?;
         note(alloc, &mut self.alike, number, at)?;
         self.longest = self.longest.max(known.len());
+        note_depth(&mut self.depths, whole, frames.len())?;
         self.entries.push(Entry {
             frames,
+            whole,
             known,
             steps,
             devices,
@@ -380,6 +440,7 @@ impl Table {
         ensures entries { self.new.entries ≡ self.old.entries }
         ensures alike { self.new.alike ≡ self.old.alike }
         ensures longest { self.new.longest ≡ self.old.longest }
+        ensures depths { self.new.depths ≡ self.old.depths }
         ensures flow { self.new.flow ≡ self.old.flow }
         ensures sums { self.new.sums ≡ self.old.sums }
         ensures visited { self.new.visited ≡ self.old.visited }
@@ -411,6 +472,7 @@ impl Table {
         ensures entries { self.new.entries ≡ self.old.entries }
         ensures alike { self.new.alike ≡ self.old.alike }
         ensures longest { self.new.longest ≡ self.old.longest }
+        ensures depths { self.new.depths ≡ self.old.depths }
         ensures flow { self.new.flow ≡ self.old.flow }
         ensures sums { self.new.sums ≡ self.old.sums }
         ensures visited { self.new.visited ≡ self.old.visited }
@@ -489,22 +551,83 @@ fn has_room(cut: bool, here: u32, there: u32, reach: u64, bound: u32) -> bool
     }
 }
 
-/// Whether the present state is at the place of an entry.
+/// So many of the innermost frames of the present state, if it has so many.
+fn innermost<S: Store>(store: &S, many: usize) -> Option<&[Frame]>
+    ensures { MatchOption result (length (S.record_of store.now).present.frames < many)
+        (λ top. (many ≤ length (S.record_of store.now).present.frames)
+        × (reverse top.now ≡ take many (S.record_of store.now).present.frames)) }
+{
+    let frames = store.frames();
+    let below = frames.len().checked_sub(many)?;
+    let (_below, top) = frames.split_at(below);
+    Some(top)
+}
+
+/// Whether these are the innermost frames of the present state.
+fn is_on_top<S: Store>(store: &S, frames: &[Frame]) -> bool
+    ensures same { IsTrue result → HasOnTop false (reverse frames.now) (S.record_of store.now).present.frames }
+    ensures told { HasOnTop false (reverse frames.now) (S.record_of store.now).present.frames → IsTrue result }
+{
+    match innermost(store, frames.len()) {
+        Some(top) => same_frames(frames, top),
+        None => false,
+    }
+}
+
+/// Whether the present state is at the place of an entry: its frames are those of the entry, or the innermost ones are.
 fn is_at<S: Store>(store: &S, entry: &Entry) -> bool
-    ensures same { IsTrue result → reverse entry.now.frames.items
-        ≡ (S.record_of store.now).present.frames }
-    ensures told { reverse entry.now.frames.items ≡ (S.record_of store.now).present.frames
+    ensures same { IsTrue result
+        → HasOnTop entry.now.whole (reverse entry.now.frames.items) (S.record_of store.now).present.frames }
+    ensures told { HasOnTop entry.now.whole (reverse entry.now.frames.items) (S.record_of store.now).present.frames
         → IsTrue result }
 {
-    same_frames(&entry.frames, store.frames())
+    if entry.whole {
+        same_frames(&entry.frames, store.frames())
+    } else {
+        is_on_top(store, &entry.frames)
+    }
+}
+
+/// How many frames the present state has below those of an entry that fits.
+fn below_entry<S: Store>(store: &S, entry: &Entry) -> usize
+    ensures { result ≡ how_many_below entry.now (S.record_of store.now).present }
+{
+    if entry.whole {
+        return 0;
+    }
+    store.frames().len().saturating_sub(entry.frames.len())
+}
+
+/// Whether a number is among others.
+fn is_noted(depths: &[usize], depth: usize) -> bool
+    ensures { IsTrue result → Contains depths.now depth }
+{
+    for other in depths {
+        if *other == depth {
+            return true;
+        }
+    }
+    false
+}
+
+/// Notes how many frames an entry has, if they are not whole, and it is not noted yet. Errors: memory ran out.
+fn note_depth(depths: &mut Vec<usize>, whole: bool, depth: usize) -> Result<(), AllocError>
+    ensures more { OnOk result ((n : ℕ) → Contains depths.old.items n → Contains depths.new.items n) }
+    ensures there { OnOk result (whole ≡ false → Contains depths.new.items depth) }
+{
+    if whole || is_noted(depths, depth) {
+        return Ok(());
+    }
+    depths.push(depth)?;
+    Ok(())
 }
 
 /// Whether the present state is at the place of an entry, what was known there holds here, and its runs
 /// have room here.
 fn fits<S: Store>(store: &S, bounds: RunBounds, entry: &Entry, depth: u32) -> bool
     requires { length (S.record_of store.now).present.log ≡ depth }
-    ensures frames { IsTrue result → reverse entry.now.frames.items
-        ≡ (S.record_of store.now).present.frames }
+    ensures frames { IsTrue result
+        → HasOnTop entry.now.whole (reverse entry.now.frames.items) (S.record_of store.now).present.frames }
     ensures known { IsTrue result → AllHold (S.record_of store.now).present entry.now.known.items }
     ensures steps { IsTrue result → FitsIf entry.now.summary.cut_steps entry.now.steps
         (S.record_of store.now).present.steps entry.now.summary.steps bounds.steps }
@@ -538,13 +661,15 @@ fn reach_from(cut: bool, here: u32, there: u32, reach: u64, bound: u32) -> u64
     u64::from(there) + further
 }
 
-/// What is to come after an entry that fits, as it is at these steps and device commands.
+/// What is to come after an entry that fits, as it is at these steps and device commands, with so many frames below those
+/// of the entry.
 fn moved(
     alloc: Global,
     bounds: RunBounds,
     entry: &Entry,
     steps: u32,
     devices: u32,
+    below: usize,
 ) -> Result<Future, StoreError>
     requires steps { FitsIf entry.now.summary.cut_steps entry.now.steps steps entry.now.summary.steps bounds.steps }
     requires devices { FitsIf entry.now.summary.cut_devices entry.now.devices devices entry.now.summary.devices bounds.devices }
@@ -553,6 +678,7 @@ fn moved(
     ensures node { IfOk result (λ f. f.summary.sum ≡ entry.now.summary.sum) }
     ensures place { IfOk result (λ f. f.summary.place ≡ entry.now.summary.place) }
     ensures keys { IfOk result (λ f. keys_shown f.keys.items ≡ keys_of entry.now.known.items) }
+    ensures below { IfOk result (λ f. f.below ≡ below) }
 {
     let old = &entry.summary;
     let keys = keys_of(alloc, &entry.known)?;
@@ -570,5 +696,9 @@ fn moved(
         cut_devices: old.cut_devices,
         place: old.place,
     };
-    Ok(Future { summary, keys })
+    Ok(Future {
+        summary,
+        keys,
+        below,
+    })
 }

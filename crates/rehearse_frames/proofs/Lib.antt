@@ -9,4 +9,5 @@ pub mod OtherSteps
 pub mod LoopLemmas
 pub mod MovesOver
 pub mod LowestFrames
+mod AboveExamples
 mod MoveExamples

@@ -1,11 +1,10 @@
-use Rattle.std.proofs.Common.{ℕ, length, refl, arith, rules, map, ap, sym, subst, ◌∙◌, ◌≡◌, ◌+◌, List, Vec, [], ◌∷◌, ◌++◌}
+use Rattle.std.proofs.Common.{ℕ, length, refl, arith, rules, map, ap, sym, subst, ◌∙◌, ◌≡◌, ◌≤◌, ◌+◌, List, Vec, [], ◌∷◌, ◌++◌}
 use Rattle.std.specs.declared.alloc.Global.{Global}
 use Rattle.device_list.specs.DeviceList.{fails_normally}
 use Rattle.rehearse_terms.specs.Outcomes.{Success, Failure}
 use Rattle.rehearse_machine.specs.Tasks.{task_in}
 use Rattle.rehearse_machine.specs.declared.rehearsal.Stop.{Stop}
 use Rattle.rehearse_machine.specs.declared.rehearsal.Stop.TheVariants.{Asks}
-use Rattle.rehearse_states.specs.PlaceNumbers.{place_number}
 use Rattle.rehearse_states.specs.RowsShown.{of_both_up, run_end_shown}
 use Rattle.rehearse_states.specs.Summaries.{Summary, summary_at_end, summary_of_sides}
 use Rattle.rehearse_states.specs.SumNodes.{SumNode, HasMoreSums, IsSummary, sums_shown}
@@ -18,9 +17,12 @@ use Rattle.rehearse_states.specs.Drawing.{node_shown, nodes_shown}
 use Rattle.rehearse_states.specs.declared.flow.Flow.{Flow}
 use Rattle.bootstore_state.specs.Moment.{Moment}
 use Rattle.rehearse_frames.specs.KeysToCome.{AreEnoughAt}
-use Rattle.rehearse_reports.specs.Following.{AreEnoughAtStop}
+use Rattle.rehearse_frames.specs.Above.{without_lowest}
+use Rattle.rehearse_reads.specs.Keys.{keys_in_front}
+use Rattle.rehearse_reports.specs.Following.{AreEnoughAtStop, HasFramesAtStop}
 use Rattle.rehearse_reports.specs.ReportsShown.{accesses_shown, keys_shown}
-use Rattle.rehearse_endings.specs.Searching.{future, seen_from, IsFound, IsKeptAt, SummedFrom}
+use Rattle.rehearse_endings.specs.Searching.{future, seen_from, IsFound, IsKeptAt, NeverReturnsTo, SummedFrom}
+use Rattle.rehearse_endings.proofs.BelowLemmas.{end_never, side_of}
 use Rattle.rehearse_endings.specs.Held.{ComesToBytes, HasNoRoom, most_held}
 use Rattle.rehearse_endings.specs.Searched.{IsFull, IsSpent}
 use Rattle.rehearse_endings.specs.States.{ComesToStates, ComesToSteps}
@@ -117,7 +119,10 @@ keep-requires g t c =
     let second = c.in_ok-mark-in-Asks-2.ensures.ok in
     let at_last = last_there r₀ r done last first c.back-in-Asks.ensures
     (marks_back r marked tried behind back failed done second c.in_ok-won_stop-in-Asks.ensures.marks c.in_ok-won-in-Asks.ensures.searched.marks c.back.ensures c.in_ok-lost_stop-in-Asks.ensures.marks c.in_ok-lost-in-Asks.ensures.searched.marks) in
-    c.hash_of-hash.ensures ∙ ap (λ (m : Moment). place_number m.frames) (sym (at_last ∙ marked_present r₀ r first))
+    let same = ap (λ (m : Moment). length m.frames) (at_last ∙ sym (marked_present r marked second)) in
+    let less = c.behind_both-below.ensures.won in
+    let all = c.in_ok-won_stop-in-Asks.ensures.all in
+    omega arith
 
 -- ---- what was searched
 
@@ -135,7 +140,11 @@ returns-in_ok-keys-in-Ends-clause-searched g t c =
           subst (λ (x : Stop). SummedFrom (map (λ n. n.now) c.args.names.now) task.limits x m shown) (sym c.in-Ends.is)
           (summed_end (map (λ n. n.now) c.args.names.now) task.limits c.in-Ends.halt (run_end_shown c.in_ok-run_end-in-Ends.run_end) m c.logged-devices.result c.steps.result shown (sym c.logged-devices.ensures) c.steps.ensures c.in_ok-run_end-in-Ends.ensures refl);
       draws = ended_drawn task.limits nodes c.in_ok-place-in-Ends.place c.in_ok-summary-in-Ends.summary.place c.in-Ends.halt c.args.stop m c.in-Ends.is c.in_ok-summary-in-Ends.ensures.place c.in_ok-place-in-Ends.ensures.place;
-      keys = subst (λ (x : Stop). AreEnoughAtStop task.limits (map (λ n. n.now) c.args.names.now) x m (keys_shown c.in_ok-keys-in-Ends.keys.items)) (sym c.in-Ends.is) c.in_ok-keys-in-Ends.ensures;
+      within = subst (λ (x : Stop). HasFramesAtStop (c.below_end-below.result + 1) x m) (sym c.in-Ends.is) tt;
+      keys = subst (λ (x : Stop). AreEnoughAtStop task.limits (map (λ n. n.now) c.args.names.now) x (without_lowest c.below_end-below.result m) (keys_shown c.in_ok-keys-in-Ends.keys.items)) (sym c.in-Ends.is) c.in_ok-keys-in-Ends.ensures;
+      apart =
+          subst (λ (x : Stop). NeverReturnsTo c.below_end-below.result (future task.limits x (without_lowest c.below_end-below.result m))) (sym c.in-Ends.is)
+          (end_never task.limits c.in-Ends.halt (without_lowest c.below_end-below.result m) c.below_end-below.result c.below_end-below.ensures);
       grows = c.in_ok-place-in-Ends.ensures.grows;
       more = c.in_ok-summary-in-Ends.ensures.grows;
       last = λ none no_nodes. ap (λ (n : ℕ). n + 1) c.in_ok-summary-in-Ends.ensures.place ∙ c.in_ok-place-in-Ends.ensures.last no_nodes;
@@ -145,7 +154,7 @@ returns-in_ok-keys-in-Ends-clause-searched g t c =
       room = c.requires.room;
       most = refl;
       held = refl;
-      noted = noted_same c.args.table.now _ (λ n p h. h) (λ n p h. h) refl refl c.requires.noted;
+      noted = noted_same c.args.table.now _ (λ n p h. h) (λ n p h. h) refl refl (λ n h. h) c.requires.noted;
       entered = λ p begun at by entered. none_entered (map (λ n. n.now) c.args.names.now) task begun c.args.table.now _ refl c.in_ok-place-in-Ends.ensures.asks refl entered;
     }
 
@@ -162,7 +171,9 @@ returns-in-Some-clause-searched g t c =
       is = found.is;
       sums = subst (λ (x : Stop). SummedFrom names limits x m found.shown) (sym c.in-Asks.is) found.sums;
       draws = subst (λ (x : Stop). Draws nodes c.in-Some.found.summary.place (seen_from limits x m)) (sym c.in-Asks.is) found.draws;
-      keys = subst (λ (x : Stop). AreEnoughAtStop limits names x m (keys_shown c.in-Some.found.keys.items)) (sym c.in-Asks.is) found.keys;
+      within = subst (λ (x : Stop). HasFramesAtStop (c.in-Some.found.below + 1) x m) (sym c.in-Asks.is) (let within = found.within in omega arith);
+      keys = subst (λ (x : Stop). AreEnoughAtStop limits names x (without_lowest c.in-Some.found.below m) (keys_shown c.in-Some.found.keys.items)) (sym c.in-Asks.is) found.keys;
+      apart = subst (λ (x : Stop). NeverReturnsTo c.in-Some.found.below (future limits x (without_lowest c.in-Some.found.below m))) (sym c.in-Asks.is) found.apart;
       grows = no_more nodes nodes refl;
       more = no_more_sums sum_nodes sum_nodes refl;
       last = λ none no_nodes. absurd (found.some none);
@@ -208,9 +219,16 @@ returns-in_ok-keys-in-Asks-clause-searched g t c =
     (marks_back r marked tried behind back failed done second c.in_ok-won_stop-in-Asks.ensures.marks c.in_ok-won-in-Asks.ensures.searched.marks c.back.ensures c.in_ok-lost_stop-in-Asks.ensures.marks c.in_ok-lost-in-Asks.ensures.searched.marks) in
     let log = c.logged-devices.ensures ∙ ap (λ (m : Moment). length m.log) (sym (marked_present r₀ r first)) in
     let steps = c.steps-steps.ensures ∙ ap (λ (m : Moment). m.steps) at_last in
-    let keys_at = keys_of_sides names task r.present marked.present back.present c.in_ok-won_stop-in-Asks.won_stop c.in_ok-lost_stop-in-Asks.lost_stop won_at lost_at (accesses_shown c.resumed.new.reported) (accesses_shown c.resumed-in-Asks.new.reported) (keys_shown won.keys.items) (keys_shown lost.keys.items) (keys_shown c.in_ok-both-in-Asks.both.items) (reached_asks task c.args.depth r.present sides.reached) at_mark at_back
-    c.in_ok-won_stop-in-Asks.ensures.keys c.in_ok-won-in-Asks.ensures.searched.keys c.in_ok-lost_stop-in-Asks.ensures.keys c.in_ok-lost-in-Asks.ensures.searched.keys c.in_ok-both-in-Asks.ensures.both in
-    let keys_kept = subst (AreEnoughAt task.limits names r.present) (sym c.in_ok-keys-in-Asks.ensures.keys) keys_at in
+    let below = c.behind_both-below.result in
+    let alone = c.behind_both-below.ensures in
+    let won_side = side_of names task.limits below r.present Success marked.present won_at c.in_ok-won_stop-in-Asks.won_stop (accesses_shown c.resumed.new.reported) (keys_shown won.keys.items) c.resumed.new.fewest won.below at_mark alone.won alone.behind_won sides.won
+    c.in_ok-won-in-Asks.ensures.searched.within c.in_ok-won_stop-in-Asks.ensures.keys c.in_ok-won-in-Asks.ensures.searched.keys c.in_ok-won-in-Asks.ensures.searched.apart in
+    let lost_side = side_of names task.limits below r.present Failure back.present lost_at c.in_ok-lost_stop-in-Asks.lost_stop (accesses_shown c.resumed-in-Asks.new.reported) (keys_shown lost.keys.items) c.resumed-in-Asks.new.fewest lost.below at_back alone.lost alone.behind_lost sides.lost
+    c.in_ok-lost-in-Asks.ensures.searched.within c.in_ok-lost_stop-in-Asks.ensures.keys c.in_ok-lost-in-Asks.ensures.searched.keys c.in_ok-lost-in-Asks.ensures.searched.apart in
+    let most_frames = subst (λ (m : Moment). c.resumed.new.fewest ≤ length m.frames) at_mark c.in_ok-won_stop-in-Asks.ensures.all in
+    let keys_at = keys_of_sides names task below r.present (keys_in_front (accesses_shown c.resumed.new.reported) (keys_shown won.keys.items)) (keys_in_front (accesses_shown c.resumed-in-Asks.new.reported) (keys_shown lost.keys.items)) (keys_shown c.in_ok-both-in-Asks.both.items) c.resumed.new.fewest
+    (reached_asks task c.args.depth r.present sides.reached) alone.won most_frames won_side lost_side c.in_ok-both-in-Asks.ensures.both in
+    let keys_kept = subst (AreEnoughAt task.limits names (without_lowest below r.present)) (sym c.in_ok-keys-in-Asks.ensures.keys) keys_at.enough in
     let words_are : c.deref.result.now ≡ c.in_ok-words-in-Asks.words.items = search rules in
     let normal = c.fails_normally-normal.ensures ∙ ap (λ (ws : List (Vec ℕ Global)). fails_normally task.limits.devices (bytes_of_words ws)) words_are in
     let won_shown = c.in_ok-won-in-Asks.ensures.searched.shown in
@@ -238,15 +256,17 @@ returns-in_ok-keys-in-Asks-clause-searched g t c =
     sides.reached sides.won sides.lost log c.in_ok-words-in-Asks.ensures c.in_ok-won-in-Asks.ensures.searched.draws c.in_ok-lost-in-Asks.ensures.searched.grows c.in_ok-lost-in-Asks.ensures.searched.draws at c.in_ok-place-in-Asks.ensures.nodes in
     let draws = kept_drawn task.limits r.present (nodes_shown c.ask.new.self.nodes) (nodes_shown after.flow.nodes) place summary.place same kept_at drawn in
     let more = more_nodes (nodes_shown nodes) (nodes_shown c.ask.new.self.nodes) (nodes_shown after.flow.nodes) _ c.in_ok-place-in-Asks.ensures.nodes same in
-    let kept : IsKeptAt c.summed-in-Asks.new.table.entries.items after.entries.items r.present (keys_shown c.in_ok-both-in-Asks.both.items) c.logged-devices.result summary =
-    subst (λ (m : Moment). IsKeptAt c.summed-in-Asks.new.table.entries.items after.entries.items m (keys_shown c.in_ok-both-in-Asks.both.items) c.logged-devices.result summary) at_last c.in_ok-keys-in-Asks.ensures.kept in
+    let kept : IsKeptAt c.summed-in-Asks.new.table.entries.items after.entries.items below r.present (keys_shown c.in_ok-both-in-Asks.both.items) c.logged-devices.result summary =
+    subst (λ (m : Moment). IsKeptAt c.summed-in-Asks.new.table.entries.items after.entries.items below m (keys_shown c.in_ok-both-in-Asks.both.items) c.logged-devices.result summary) at_last c.in_ok-keys-in-Asks.ensures.kept in
     searched_behind names task c.args.stop r₀ r done last before after _ first c.back-in-Asks.ensures
     (record {
       shown = shown;
       is = is;
       sums = subst (λ (x : Stop). SummedFrom names task.limits x r.present shown) (sym c.in-Asks.is) summed;
       draws = subst (λ (x : Stop). Draws (nodes_shown after.flow.nodes) summary.place (seen_from task.limits x r.present)) (sym c.in-Asks.is) draws;
-      keys = subst (λ (x : Stop). AreEnoughAtStop task.limits names x r.present (keys_shown c.in_ok-keys-in-Asks.keys.items)) (sym c.in-Asks.is) keys_kept;
+      within = subst (λ (x : Stop). HasFramesAtStop (below + 1) x r.present) (sym c.in-Asks.is) (let within = keys_at.within in omega arith);
+      keys = subst (λ (x : Stop). AreEnoughAtStop task.limits names x (without_lowest below r.present) (keys_shown c.in_ok-keys-in-Asks.keys.items)) (sym c.in-Asks.is) keys_kept;
+      apart = subst (λ (x : Stop). NeverReturnsTo below (future task.limits x (without_lowest below r.present))) (sym c.in-Asks.is) keys_at.never;
       grows =
           let one = nodes_shown c.args.table.now.flow.nodes in
           let entered = nodes_shown c.enter.new.self.flow.nodes in
@@ -265,15 +285,15 @@ returns-in_ok-keys-in-Asks-clause-searched g t c =
       last = λ none no_nodes. last_made nodes c.ask.new.self.nodes after.flow.nodes _ place summary.place c.in_ok-place-in-Asks.ensures.place c.in_ok-place-in-Asks.ensures.nodes (ap (λ (x : Flow). x.nodes) c.keep.ensures.flow) kept_at;
       marks = marks_back r marked tried behind back failed done second c.in_ok-won_stop-in-Asks.ensures.marks c.in_ok-won-in-Asks.ensures.searched.marks c.back.ensures c.in_ok-lost_stop-in-Asks.ensures.marks c.in_ok-lost-in-Asks.ensures.searched.marks;
       table =
-          entries_more names task (nodes_shown after.flow.nodes) sum_nodes c.args.depth c.logged-devices.result r.present last.present (keys_shown c.in_ok-both-in-Asks.both.items) c.summed-in-Asks.new.table.entries.items after.entries.items summary shown sides.reached
+          entries_more names task (nodes_shown after.flow.nodes) sum_nodes c.args.depth c.logged-devices.result below r.present last.present (keys_shown c.in_ok-both-in-Asks.both.items) c.summed-in-Asks.new.table.entries.items after.entries.items summary shown sides.reached
           (all_wider names task.limits (nodes_shown nodes) lost_sums (nodes_shown after.flow.nodes) sum_nodes c.summed-in-Asks.new.table.entries.items more grown c.in_ok-lost-in-Asks.ensures.searched.table)
-          at_last is summed draws log c.in_ok-both-in-Asks.ensures.asked keys_at c.in_ok-keys-in-Asks.ensures.kept;
+          at_last is summed draws log c.in_ok-both-in-Asks.ensures.asked keys_at.within keys_at.enough keys_at.never c.in_ok-keys-in-Asks.ensures.kept;
       begun = begun_sides r marked tried behind back failed done before.visited c.enter.new.self.visited c.summed.new.table.visited c.summed-in-Asks.new.table.visited after.visited second c.in_ok-won_stop-in-Asks.ensures.begun c.in_ok-won_stop-in-Asks.ensures.within c.in_ok-enter-in-Asks.ensures.visited
           c.in_ok-won-in-Asks.ensures.searched.begun c.back.ensures c.in_ok-lost_stop-in-Asks.ensures.begun c.in_ok-lost_stop-in-Asks.ensures.within c.in_ok-lost-in-Asks.ensures.searched.begun c.keep.ensures.visited;
       room = room_kept c.summed-in-Asks.new.table.visited c.summed-in-Asks.new.table.most after.visited after.most c.keep.ensures.visited c.keep.ensures.most c.in_ok-lost-in-Asks.ensures.searched.room;
       most = c.keep.ensures.most ∙ c.in_ok-lost-in-Asks.ensures.searched.most ∙ c.in_ok-won-in-Asks.ensures.searched.most ∙ c.enter.ensures.most;
       held = c.in_ok-keys-in-Asks.ensures.held ∙ c.in_ok-lost-in-Asks.ensures.searched.held ∙ c.in_ok-won-in-Asks.ensures.searched.held ∙ c.enter.ensures.held;
-      noted = c.in_ok-keys-in-Asks.ensures.noted (noted_same c.summed-in-Asks.new.table _ (λ n p h. h) (λ n p h. h) refl refl c.in_ok-lost-in-Asks.ensures.searched.noted);
+      noted = c.in_ok-keys-in-Asks.ensures.noted (noted_same c.summed-in-Asks.new.table _ (λ n p h. h) (λ n p h. h) refl refl (λ n h. h) c.in_ok-lost-in-Asks.ensures.searched.noted);
       entered = λ p begun at by entered.
           let met = met_as task p c.args.stop Asks r.present c.in-Asks.is at in
           let gone =
@@ -281,7 +301,7 @@ returns-in_ok-keys-in-Asks-clause-searched g t c =
           (enters names task p r.present begun met by c.args.table.now entered none_here c.enter.new.self c.enter.ensures.entries c.enter.ensures.flow c.in_ok-enter-in-Asks.ensures.visited) in
           let left =
           c.in_ok-lost-in-Asks.ensures.searched.entered (p ++ Failure ∷ []) ((p, r.present) ∷ begun) (stopped_on task p r.present lost_at Failure c.in_ok-lost_stop-in-Asks.lost_stop met sides.lost) (comes_by p Failure r.present begun by) gone in
-          gone_through names task p r.present begun c.summed-in-Asks.new.table after c.ask.new.self words won.summary.place lost.summary.place (keys_shown c.in_ok-both-in-Asks.both.items) c.logged-devices.result sum_nodes summary shown
+          gone_through names task p r.present begun c.summed-in-Asks.new.table after c.ask.new.self words won.summary.place lost.summary.place (keys_shown c.in_ok-both-in-Asks.both.items) c.logged-devices.result below sum_nodes summary shown
           left c.in_ok-place-in-Asks.ensures.nodes kept c.keep.ensures.flow c.keep.ensures.visited keys_at is summed log;
     })
 
@@ -629,8 +649,15 @@ returns-in_err-keys-in-Asks-clause-large g t c = λ count p begun at by entered.
     let log = c.logged-devices.ensures ∙ ap (λ (m : Moment). length m.log) (sym (marked_present r₀ r first)) in
     let steps = c.steps-steps.ensures ∙ ap (λ (m : Moment). m.steps) at_last in
     let keys = keys_shown c.in_ok-both-in-Asks.both.items in
-    let keys_at = keys_of_sides names task r.present marked.present back.present c.in_ok-won_stop-in-Asks.won_stop c.in_ok-lost_stop-in-Asks.lost_stop won_at lost_at (accesses_shown c.resumed.new.reported) (accesses_shown c.resumed-in-Asks.new.reported) (keys_shown won.keys.items) (keys_shown lost.keys.items) keys (reached_asks task c.args.depth r.present sides.reached) at_mark at_back
-    c.in_ok-won_stop-in-Asks.ensures.keys c.in_ok-won-in-Asks.ensures.searched.keys c.in_ok-lost_stop-in-Asks.ensures.keys c.in_ok-lost-in-Asks.ensures.searched.keys c.in_ok-both-in-Asks.ensures.both in
+    let below = c.behind_both-below.result in
+    let alone = c.behind_both-below.ensures in
+    let won_side = side_of names task.limits below r.present Success marked.present won_at c.in_ok-won_stop-in-Asks.won_stop (accesses_shown c.resumed.new.reported) (keys_shown won.keys.items) c.resumed.new.fewest won.below at_mark alone.won alone.behind_won sides.won
+    c.in_ok-won-in-Asks.ensures.searched.within c.in_ok-won_stop-in-Asks.ensures.keys c.in_ok-won-in-Asks.ensures.searched.keys c.in_ok-won-in-Asks.ensures.searched.apart in
+    let lost_side = side_of names task.limits below r.present Failure back.present lost_at c.in_ok-lost_stop-in-Asks.lost_stop (accesses_shown c.resumed-in-Asks.new.reported) (keys_shown lost.keys.items) c.resumed-in-Asks.new.fewest lost.below at_back alone.lost alone.behind_lost sides.lost
+    c.in_ok-lost-in-Asks.ensures.searched.within c.in_ok-lost_stop-in-Asks.ensures.keys c.in_ok-lost-in-Asks.ensures.searched.keys c.in_ok-lost-in-Asks.ensures.searched.apart in
+    let most_frames = subst (λ (m : Moment). c.resumed.new.fewest ≤ length m.frames) at_mark c.in_ok-won_stop-in-Asks.ensures.all in
+    let keys_at = keys_of_sides names task below r.present (keys_in_front (accesses_shown c.resumed.new.reported) (keys_shown won.keys.items)) (keys_in_front (accesses_shown c.resumed-in-Asks.new.reported) (keys_shown lost.keys.items)) (keys_shown c.in_ok-both-in-Asks.both.items) c.resumed.new.fewest
+    (reached_asks task c.args.depth r.present sides.reached) alone.won most_frames won_side lost_side c.in_ok-both-in-Asks.ensures.both in
     let words_are : c.deref.result.now ≡ c.in_ok-words-in-Asks.words.items = search rules in
     let normal = c.fails_normally-normal.ensures ∙ ap (λ (ws : List (Vec ℕ Global)). fails_normally task.limits.devices (bytes_of_words ws)) words_are in
     let won_shown = c.in_ok-won-in-Asks.ensures.searched.shown in
@@ -651,5 +678,5 @@ returns-in_err-keys-in-Asks-clause-large g t c = λ count p begun at by entered.
       counted ∙ sym c.keep.ensures.visited,
       subst (λ (n : ℕ). ComesToBytes names task n (most_held c.args.table.now)) (sym counted)
           (subst (ComesToBytes names task table.visited) (c.in_ok-lost-in-Asks.ensures.searched.held ∙ c.in_ok-won-in-Asks.ensures.searched.held ∙ c.enter.ensures.held)
-          (too_large names task p r.present begun table keys shown left (subst (λ (m : Moment). HasNoRoom table.room m keys) at_last (c.in_err-keys-in-Asks.ensures.full count is)) keys_at summed)),
+          (too_large names task p r.present begun table below keys shown left (subst (λ (m : Moment). HasNoRoom table.room below m keys) at_last (c.in_err-keys-in-Asks.ensures.full count is)) keys_at summed)),
     ))

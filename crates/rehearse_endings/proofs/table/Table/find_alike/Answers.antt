@@ -26,5 +26,6 @@ returns-in-Some-fitting g c =
       node = c.in_ok-found.ensures.node;
       place = c.in_ok-found.ensures.place;
       keys = c.in_ok-found.ensures.keys;
+      below = c.in_ok-found.ensures.below ∙ c.below_entry-below.ensures;
     } in
     (get_or c.deref-place-items.result.now c.loop-place.place-index 0, e, c.in-Some-fitting.ensures.0, c.in-Some-fitting.ensures.1, taken)
