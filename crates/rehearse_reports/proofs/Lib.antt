@@ -16,6 +16,7 @@ pub mod AskedLemmas
 pub mod FollowingLemmas
 pub mod SameLemmas
 pub mod StepLemmas
+pub mod DropLemmas
 pub mod LoopingLemmas
 pub mod AskedSame
 pub mod OutcomeLemmas

@@ -43,7 +43,7 @@ least_of a b c m n e f =
 
 -- ---- if frames are dropped, fewer are left
 
-blocks_shorter : (fs : List RunningFrame) → length (below_blocks fs) ≤ length fs
+pub blocks_shorter : (fs : List RunningFrame) → length (below_blocks fs) ≤ length fs
 blocks_shorter [] = omega arith
 blocks_shorter (f ∷ fs) = by (is_done f) (blocks_shorter fs)
   where
@@ -56,7 +56,7 @@ two_shorter [] some = some
 two_shorter (x ∷ []) some = omega arith
 two_shorter (x ∷ y ∷ fs) some = omega arith
 
-both_hold : (a b : Bool) → a && b ≡ true → b ≡ true
+pub both_hold : (a b : Bool) → a && b ≡ true → b ≡ true
 both_hold true b e = e
 both_hold false b e = absurd (cc)
 
@@ -78,13 +78,6 @@ as_long_as_before fs true e same =
     let is : length (lightened fs) ≡ length (without_text fs) = ap (λ (xs : List RunningFrame). length xs) (lightened_by fs true e) in
     absurd (omega arith)
 as_long_as_before fs false e same = lightened_by fs false e
-
--- all frames count as reached where some are dropped
-pub drops_above : (left : ℕ) (old new : Record) → DropsEnded old new → left ≡ 0 → GoAlikeAbove left old.present new.present
-drops_above left old new drops none below within limits a =
-    let lowest : below ≡ 0 = omega arith in
-    subst (λ (n : ℕ). continue limits (frames_of (above n new.present.frames)) a ≡ continue limits (frames_of (above n old.present.frames)) a) (sym lowest)
-    (ap (λ (fs : List RunningFrame). continue limits (frames_of fs) a) (above_none new.present.frames) ∙ drops.alike limits a ∙ ap (λ (fs : List RunningFrame). continue limits (frames_of fs) a) (sym (above_none old.present.frames)))
 
 pub keeps_above : (left : ℕ) (old new : Record) → DropsEnded old new → length new.present.frames ≡ length old.present.frames → GoAlikeAbove left old.present new.present
 keeps_above left old new drops same below within limits a =

@@ -1,11 +1,11 @@
 -- A stretch of a run that comes back to the moment at which it began, but for the count of steps. Ours.
-use Rattle.std.specs.Prelude.{◌≡◌, ℕ, ◌*◌, ◌<◌, ◌≤◌, [], List, length}
-use Rattle.bootstore_state.specs.Moment.{Moment}
+use Rattle.std.specs.Prelude.{◌≡◌, ℕ, ◌*◌, ◌<◌, ◌≤◌, true, false, [], ◌∷◌, List, length}
+use Rattle.bootstore_state.specs.Moment.{Moment, RunningFrame}
 use Rattle.bootstore_state.specs.Record.{Record, stepped_by}
 use Rattle.bootstore_state.specs.StoredState.{state_at}
 use Rattle.rehearse_terms.specs.Outcomes.{OutcomeWord}
 use Rattle.rehearse_rules.specs.Execution.{Limits}
-use Rattle.rehearse_machine.specs.EndedTexts.{GoOnAlike}
+use Rattle.rehearse_machine.specs.EndedTexts.{GoOnAlike, is_run}
 use Rattle.rehearse_machine.specs.Frames.{Next, Go}
 use Rattle.rehearse_machine.specs.MovesShown.{next_shown}
 use Rattle.rehearse_machine.specs.Places.{next_of, frames_of, place_move}
@@ -67,6 +67,11 @@ MovesAbove limits fewest m step n old new =
 abbrev pub LeadsAbove : Limits → (fewest : ℕ) → (m n : Moment) → (old new : List Access) → Type 0
 LeadsAbove limits fewest m n old new =
     AboveAll fewest (λ below. LeadsOn limits (without_lowest below m) (without_lowest below n) old new)
+
+-- the frames below the innermost `run`
+abbrev pub below_run : List RunningFrame → List RunningFrame
+below_run [] = []
+below_run (f ∷ fs) = elim (is_run f.kind) [ true ↦ fs | false ↦ below_run fs ]
 
 -- the frames of both moments make the same of every answer
 abbrev pub GoAlikeAbove : (fewest : ℕ) → (m n : Moment) → Type 0

@@ -1,21 +1,21 @@
 //! The machine, with a report of what its moves read and write.
-ghost use Rattle.std.specs.Prelude.{[], ◌+◌, ◌<◌, ◌≤◌, ◌^◌, IfOk, OnOk, IsFalse, length};
+ghost use Rattle.std.specs.Prelude.{◌≡◌, [], ◌+◌, ◌<◌, ◌≤◌, ◌^◌, IfOk, OnOk, IsFalse, length, reverse};
 ghost use Rattle.bootstore_state.specs.StoredState.{state_at};
 ghost use Rattle.rehearse_machine.specs.Places.{place_move};
 ghost use Rattle.rehearse_machine.specs.MovesShown.{Comes, limits_of};
 ghost use Rattle.rehearse_machine.specs.Turning.{IsSound, Turns, Drives};
-ghost use Rattle.rehearse_machine.specs.EndedTexts.{DropsEnded};
+ghost use Rattle.rehearse_machine.specs.EndedTexts.{DropsEnded, is_run};
 ghost use Rattle.rehearse_rules.specs.EndingsShown.{halt_shown};
 ghost use Rattle.rehearse_frames.specs.Above.{IsNoEnd};
 ghost use Rattle.rehearse_reports.specs.Following.{FollowsAbove};
-ghost use Rattle.rehearse_reports.specs.Looping.{FramesLeft, GoAlikeAbove, HasFrames, MovesAbove, StepsAbove};
+ghost use Rattle.rehearse_reports.specs.Looping.{FramesLeft, GoAlikeAbove, HasFrames, MovesAbove, StepsAbove, below_run};
 ghost use Rattle.rehearse_reports.specs.Reports.{ReportsAbove};
 ghost use Rattle.rehearse_reports.specs.ReportsShown.{accesses_shown};
 
 use crate::looping::{begin_rounds, is_back};
 use crate::moves::report_move;
 use crate::reported::Reported;
-use bootstore_state::{Store, StoreError, copy_of};
+use bootstore_state::{Frame, FrameKind, Store, StoreError, copy_of};
 use device_list::Devices;
 use hushlang::Fields;
 use rehearse_machine::{Step, drop_ended, step};
@@ -120,8 +120,32 @@ fn reported_turn<'d, S: Store>(
     }
 }
 
-/// Drops an ended text that changes nothing, if it can: then all frames count as reached, since frames
-/// below it were looked at. Errors: `Memory`.
+/// Whether it is a `run`.
+fn is_run(kind: FrameKind) -> bool
+    ensures { result ≡ is_run kind }
+{
+    match kind {
+        FrameKind::Run => true,
+        FrameKind::Text | FrameKind::Block | FrameKind::For => false,
+    }
+}
+
+/// The frames below the innermost `run`.
+fn below_run(frames: &[Frame]) -> &[Frame]
+    ensures { reverse result.now ≡ below_run (reverse frames.now) }
+{
+    let mut left = frames;
+    while let Some((frame, below)) = left.split_last() {
+        if is_run(frame.kind()) {
+            return below;
+        }
+        left = below;
+    }
+    left
+}
+
+/// Drops an ended text that changes nothing, if it can. Then two further ones were looked at, each with its
+/// `run`: these frames count as reached. Errors: `Memory`.
 fn drop_noted<S: Store>(store: &mut S, fewest: &mut usize) -> Result<(), StoreError>
     ensures drops { OnOk result (DropsEnded (S.record_of store.old) (S.record_of store.new)) }
     ensures alike { OnOk result (GoAlikeAbove fewest.new (S.record_of store.old).present
@@ -131,7 +155,8 @@ fn drop_noted<S: Store>(store: &mut S, fewest: &mut usize) -> Result<(), StoreEr
     let before = store.frames().len();
     drop_ended(store)?;
     if store.frames().len() != before {
-        *fewest = 0;
+        let lowest = below_run(below_run(below_run(store.frames())));
+        *fewest = (*fewest).min(lowest.len());
     }
     Ok(())
 }

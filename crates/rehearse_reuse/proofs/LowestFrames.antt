@@ -1,15 +1,13 @@
 -- What is to come with frames below to which nothing comes back, and without them.
-use Rattle.std.proofs.Common.{◌≡◌, sym, ap, subst, ℕ, ◌<◌, List, length}
+use Rattle.std.proofs.Common.{◌≡◌, sym, ap, subst, ℕ, ◌<◌, length}
 use Rattle.bootstore_state.specs.Moment.{Moment}
 use Rattle.rehearse_terms.specs.Outcomes.{OutcomeWord}
-use Rattle.rehearse_terms.specs.State.{Text}
 use Rattle.rehearse_rules.specs.Execution.{Limits}
 use Rattle.rehearse_rules.specs.Expected.{asked_in}
 use Rattle.rehearse_machine.specs.Came.{Came}
 use Rattle.rehearse_machine.specs.Machine.{IsAsking, asked_at}
 use Rattle.rehearse_frames.specs.Above.{without_lowest, NeverReturns}
 use Rattle.rehearse_frames.proofs.LowestFrames.{lowest_make_no_difference}
-use Rattle.rehearse_states.specs.Summaries.{Summary}
 use Rattle.rehearse_reuse.specs.DrawnRuns.{seen_behind}
 use Rattle.rehearse_reuse.specs.SummedRuns.{Sums}
 use Rattle.rehearse_reuse.specs.Reuse.{SummariesHoldBelow, SummariesHoldAbove, NodesHoldBelow}
