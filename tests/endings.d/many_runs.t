@@ -142,6 +142,17 @@ and so in the last `if`, by each shell
   ends >=340282366920938463463374607431768211455
   all >=340282366920938463463374607431768211455 states 1000
 
+With commands behind that no run comes back to, the states grow by steps with the device commands, and not by their square.
+
+  $ printf '%s\n' 'a=if load; then true; else run b; fi; probe; if bootm; then true; else run b; fi' 'b=dhcp; run a' 'bootcmd=run a' |
+  >     lines_image behind
+  $ printf '%s\n' load probe dhcp 'final bootm' >booting
+  $ for bound in 100 200 400 1000; do ubtool endings -c behind.config -d booting --devices $bound | sed -n 's/^all .* //p'; done
+  296
+  596
+  1196
+  2996
+
 a million steps of such texts, in 20 MiB
   $ printf '%s\n' 'a=if true; then run b; fi' 'b=if false; then true; else if true; then run a; fi; fi' 'bootcmd=run a' | lines_image steps
   $ (ulimit -v 20480; ubtool rehearse -c steps.config -d devices --steps 1000000)
