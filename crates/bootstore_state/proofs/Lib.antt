@@ -4,3 +4,4 @@ pub mod PresentLemmas
 pub mod KeptScripts
 pub mod StateLemmas
 pub mod LogLemmas
+mod DeviceLogLemmas

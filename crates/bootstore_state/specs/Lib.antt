@@ -1,4 +1,5 @@
 pub mod ScriptCode
+pub mod DeviceLog
 pub mod Moment
 pub mod Record
 pub mod Slots

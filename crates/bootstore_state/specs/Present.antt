@@ -20,7 +20,7 @@ moment_of p =
       locals = variables_of p.locals;
       status = p.status;
       text = option_items p.text;
-      log = p.log.items;
+      log = p.log;
       steps = p.steps;
       frames = reverse p.frames.items;
     }

@@ -4,20 +4,8 @@ ghost use Rattle.bootstore_state.specs.Present.{moment_of};
 ghost use Rattle.text.specs.TextsShown.{option_items};
 
 use crate::frame::Frame;
-use crate::log::LogEntry;
 use crate::present::Present;
 use std::alloc::{AllocError, Global};
-
-/// A copy of a log. Errors: memory ran out.
-fn copy_log(alloc: Global, log: &[LogEntry]) -> Result<Vec<LogEntry>, AllocError>
-    ensures { IfOk result (λ copies. copies.items ≡ log.now) }
-{
-    let mut copies = Vec::new(alloc);
-    for entry in log {
-        copies.push(entry.copy()?)?;
-    }
-    Ok(copies)
-}
 
 /// A copy of frames, which share their scripts with these. Errors: memory ran out.
 fn copy_frames(alloc: Global, frames: &[Frame]) -> Result<Vec<Frame>, AllocError>
@@ -44,7 +32,7 @@ fn copy_text(text: &Option<Vec<u8>>) -> Result<Option<Vec<u8>>, AllocError>
 pub fn copy_of(present: &Present, alloc: Global) -> Result<Present, AllocError>
     ensures { IfOk result (λ copy. moment_of copy ≡ moment_of present.now) }
 {
-    let log = copy_log(alloc, &present.log)?;
+    let log = present.log.copy(alloc)?;
     let frames = copy_frames(alloc, &present.frames)?;
     Ok(Present {
         environment: present.environment.copy()?,

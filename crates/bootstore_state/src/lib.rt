@@ -2,6 +2,8 @@
 #![tactic(auto)]
 
 mod copies;
+mod device_line;
+mod device_log;
 mod frame;
 mod kept_text;
 pub mod laws;
@@ -12,6 +14,7 @@ mod store;
 mod table;
 
 pub use copies::copy_of;
+pub use device_log::DeviceLog;
 pub use frame::{At, Frame, FrameKind};
 pub use kept_text::{add_text, cut_text, text_length};
 pub use log::{LogEntry, has_succeeded};

@@ -2,9 +2,9 @@
 ghost use Rattle.std.specs.Prelude.{◌≡◌, IfOk, Some, option_map, slice_get, vec_len, vec_capacity};
 ghost use Rattle.std.specs.Borrow.{sem};
 
+use crate::device_log::DeviceLog;
 use crate::frame::{At, Frame};
 use crate::kept_text::no_text;
-use crate::log::LogEntry;
 use crate::table::Table;
 use envtools::Env;
 use rehearse_terms::Written;
@@ -26,7 +26,7 @@ pub struct Present {
     pub locals: Table,
     pub status: u8,
     pub text: Option<Vec<u8>>,
-    pub log: Vec<LogEntry>,
+    pub log: DeviceLog,
     pub steps: u32,
     pub frames: Vec<Frame>,
 }
@@ -48,7 +48,7 @@ impl Present {
             locals: Table::new(alloc),
             status: 0,
             text: no_text(alloc, written),
-            log: Vec::new(alloc),
+            log: DeviceLog::new(alloc),
             steps: 0,
             frames: Vec::new(alloc),
         }

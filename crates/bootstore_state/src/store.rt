@@ -1,5 +1,6 @@
 //! What a store of states can do.
 ghost use Rattle.std.specs.Prelude.{◌≡◌, ◌==◌, ◌+◌, ◌<◌, ◌≤◌, ◌^◌, not, length, IfOk, OnOk, OnErr, option_map, reverse, slice_get};
+ghost use Rattle.std.specs.List.{flat_map};
 ghost use Rattle.std.specs.FinMap.{get, entries};
 ghost use Rattle.bootstore_state.specs.Moment.{environment_of};
 ghost use Rattle.text.specs.TextsShown.{option_bytes};
@@ -7,6 +8,7 @@ ghost use Rattle.bootstore_state.specs.Present.{moment_of};
 ghost use Rattle.bootstore_state.specs.Record.{Record, fresh, started, stepped, stepped_by, with_mark, gone_back, changed, with_environment, with_local, with_echo, with_device, with_status, with_frame, with_place, without_frame};
 ghost use Rattle.bootstore_state.specs.Scripts.{text_found};
 ghost use Rattle.rehearse_terms.specs.Bounds.{most_steps};
+ghost use Rattle.bootstore_state.specs.DeviceLog.{entry_line};
 ghost use Rattle.hushlang_shells.specs.TreesByShell.{started_in};
 
 use crate::frame::{At, Frame};
@@ -184,7 +186,14 @@ pub trait Store: Drop {
     fn log(&self) -> &[LogEntry]
         ensures { result.now ≡ (record_of self.now).present.log }
     {
-        &self.present().log
+        self.present().log.entries()
+    }
+
+    /// Their lines in a record.
+    fn log_lines(&self) -> &[u8]
+        ensures { result.now ≡ flat_map entry_line (record_of self.now).present.log }
+    {
+        self.present().log.lines()
     }
 
     /// The variables of the environment, in byte order of their names.

@@ -112,7 +112,8 @@ fn is_again(first: &Present, present: &Present) -> bool
     if !same_variables(first.environment.iter(), present.environment.iter()) {
         return false;
     }
-    same_log(&first.log, &present.log) && same_frames(&first.frames, &present.frames)
+    same_log(first.log.entries(), present.log.entries())
+        && same_frames(&first.frames, &present.frames)
 }
 
 /// Whether a store is at the first state again, but for the count of steps. These keys were written since.
