@@ -1,22 +1,18 @@
 -- The parts of a record.
-use Rattle.std.proofs.Common.{◌≡◌, ℕ, Bool, List, [], ◌∷◌, ◌++◌, length, map, refl, sym, ap, ◌∙◌, append_assoc, append-nil, arith, Bor, Result}
+use Rattle.std.proofs.Common.{◌≡◌, ℕ, List, [], ◌∷◌, ◌++◌, length, map, refl, sym, ap, ◌∙◌, append_assoc, append-nil, arith, Bor, Result}
 use Rattle.std.specs.Prelude.{codes}
 use Rattle.std.specs.List.{flat_map}
 use Rattle.std.proofs.lemmas.List.Concat.{flat_map-append}
-use Rattle.std.specs.declared.alloc.Global.{Global}
-use Rattle.std.specs.declared.vec.Vec.{Vec}
 use Rattle.output.specs.Paging.{Put, Puts}
 use Rattle.output.specs.Sink.{Sink, BrokeOff}
 use Rattle.output.proofs.PageLemmas.{Breaks-as, Breaks-before, Puts-after, Puts-as}
-use Rattle.text.specs.TextsShown.{bytes_of_words}
 use Rattle.bootstore_state.specs.StoredState.{state_at}
 use Rattle.bootstore_state.specs.declared.store.Store.{Ghosts}
-use Rattle.rehearse_terms.specs.State.{Text, Variables, State, LoggedCommand}
+use Rattle.bootstore_state.specs.DeviceLog.{entry_line}
+use Rattle.rehearse_terms.specs.State.{Text, Variables, State}
 use Rattle.rehearse_rules.specs.Execution.{Ending}
-use Rattle.text.specs.Escapes.{word_form}
-use Rattle.text.specs.Words.{joined_words}
-use Rattle.rehearse_rules.specs.Listing.{line, digit_when, device_line, written_lines, variable_line, variable_lines, asked_line, last_line}
-use Rattle.rehearse_records.specs.Recording.{printed, entry_line, set_line, named_line, recorded}
+use Rattle.rehearse_rules.specs.Listing.{line, device_line, written_lines, variable_line, variable_lines, asked_line, last_line}
+use Rattle.rehearse_records.specs.Recording.{printed, set_line, named_line, recorded}
 use Rattle.rehearse_records.specs.RunViewShown.{shown_word, shown_moment, shown_ending}
 use Rattle.rehearse_records.specs.declared.run_view.RunView.{RunView}
 
@@ -53,13 +49,6 @@ record_parts digits s ending names =
     ∙ sym (flat_map-append line a (b ++ (v ++ z)))
     ∙ ap (flat_map line) (ap (λ t. a ++ t) (sym (append_assoc b v z)) ∙ sym (append_assoc a (b ++ v) z) ∙ ap (λ t. t ++ z) (sym (append_assoc a b v)))
     )
-
--- the line of a device command
-pub entry_parts : (d : ℕ) (success : Bool) (words : List (Vec ℕ Global)) (stays again : Bool) (e : LoggedCommand) → d ≡ digit_when success → record { success = success; words = bytes_of_words words; stays = stays; again = again } ≡ e
-    → (100 ∷ 101 ∷ 118 ∷ 32 ∷ d ∷ 32 ∷ []) ++ (joined_words (map word_form (bytes_of_words words)) ++ (10 ∷ [])) ≡ entry_line e
-entry_parts d success words stays again e o h =
-    let j = joined_words (map word_form (bytes_of_words words)) in
-    ap (λ n. (100 ∷ 101 ∷ 118 ∷ 32 ∷ n ∷ 32 ∷ []) ++ (j ++ (10 ∷ []))) o ∙ ap entry_line h
 
 -- ---- a record, part by part
 

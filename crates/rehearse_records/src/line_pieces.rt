@@ -196,11 +196,7 @@ fn put_bytes<O: Out>(
 }
 
 /// Puts bytes in word form.
-pub(crate) fn put_word<O: Out>(
-    out: &mut O,
-    page: &mut BytePage,
-    bytes: &[u8],
-) -> Result<(), OutFault>
+fn put_word<O: Out>(out: &mut O, page: &mut BytePage, bytes: &[u8]) -> Result<(), OutFault>
     ensures { Puts result (O.sink out.old) (O.sink out.new) page.old.items page.new.items
         (word_form bytes.now) }
 {

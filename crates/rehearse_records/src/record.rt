@@ -1,23 +1,20 @@
 //! The record of a run.
-ghost use Rattle.std.specs.Prelude.{◌≡◌, ◌++◌, ◌∷◌, [], map, codes, MatchBool};
+ghost use Rattle.std.specs.Prelude.{◌≡◌, ◌++◌, [], map, codes, MatchBool};
 ghost use Rattle.std.specs.List.{flat_map};
 ghost use Rattle.std.specs.FinMap.{entries};
-ghost use Rattle.text.specs.Bytes as ascii;
 ghost use Rattle.text.specs.Escapes.{word_form};
 ghost use Rattle.output.specs.Sink.{Prints};
-ghost use Rattle.text.specs.TextsShown.{bytes_of_words, option_bytes};
+ghost use Rattle.text.specs.TextsShown.{option_bytes};
 ghost use Rattle.bootstore_state.specs.StoredState.{state_at};
-ghost use Rattle.rehearse_rules.specs.Listing.{line, digit_when, text_lines, written_lines, variable_lines, last_line};
+ghost use Rattle.rehearse_rules.specs.Listing.{line, text_lines, written_lines, variable_lines, last_line};
 ghost use Rattle.output.specs.Paging.{Puts};
-ghost use Rattle.rehearse_records.specs.Recording.{printed, entry_line, set_line, named_line, recorded};
-ghost use Rattle.text.specs.TextsShown.{spaced};
-ghost use Rattle.text.specs.Words.{joined_words};
+ghost use Rattle.rehearse_records.specs.Recording.{printed, set_line, named_line, recorded};
 ghost use Rattle.rehearse_records.specs.RunViewShown.{shown_word, shown_moment, shown_ending};
 ghost use Rattle.rehearse_rules.specs.EndingsShown.{ending_shown};
 
-use crate::line_pieces::{Piece, is_plain_text, is_plain_word, put_pieces, put_word};
+use crate::line_pieces::{Piece, is_plain_text, is_plain_word, put_pieces};
 use crate::run_view::RunView;
-use bootstore_state::{LogEntry, Store, Variables};
+use bootstore_state::{Store, Variables};
 use output::{BytePage, Out, OutFault, flush, put};
 use rehearse_rules::{Ending, finish_word};
 
@@ -38,86 +35,6 @@ fn put_first<O: Out>(out: &mut O, page: &mut BytePage, word: &[u8]) -> Result<()
             Piece::Plain(b"\n"),
         ],
     )
-}
-
-/// Puts a space and a word, if all of its bytes are printed as they are and fit the page. Returns
-/// whether it did; if not, nothing changes.
-fn put_spaced_at_once(page: &mut BytePage, word: &[u8]) -> bool
-    ensures { MatchBool result
-        (page.new.items ≡ page.old.items ++ ascii.space ∷ word_form word.now)
-        (page.new.items ≡ page.old.items) }
-{
-    if word.len() >= page.room() || !is_plain_word(word) {
-        return false;
-    }
-    page.push(b' ');
-    let _put = page.extend(word);
-    true
-}
-
-/// Puts a space and a word in word form.
-fn put_one_spaced<O: Out>(out: &mut O, page: &mut BytePage, word: &[u8]) -> Result<(), OutFault>
-    ensures { Puts result (O.sink out.old) (O.sink out.new) page.old.items page.new.items
-        (ascii.space ∷ word_form word.now) }
-{
-    if put_spaced_at_once(page, word) {
-        return Ok(());
-    }
-    put_pieces(out, page, &[Piece::Plain(b" "), Piece::Word(word)])
-}
-
-/// Puts words in word form, a space before each.
-fn put_spaced<O: Out>(out: &mut O, page: &mut BytePage, words: &[Vec<u8>]) -> Result<(), OutFault>
-    ensures { Puts result (O.sink out.old) (O.sink out.new) page.old.items page.new.items
-        (flat_map spaced words.now) }
-{
-    for word in words {
-        put_one_spaced(out, page, word)?;
-    }
-    Ok(())
-}
-
-/// Puts words in word form, separated by spaces.
-fn put_words<O: Out>(out: &mut O, page: &mut BytePage, words: &[Vec<u8>]) -> Result<(), OutFault>
-    ensures { Puts result (O.sink out.old) (O.sink out.new) page.old.items page.new.items
-        (joined_words (map word_form (bytes_of_words words.now))) }
-{
-    match words.split_first() {
-        None => Ok(()),
-        Some((first, rest)) => {
-            put_word(out, page, first)?;
-            put_spaced(out, page, rest)
-        }
-    }
-}
-
-/// The digit of a device command: `0` if it succeeded, `1` if it failed.
-fn outcome_digit(success: bool) -> u8
-    ensures { result ≡ digit_when success }
-{
-    if success { b'0' } else { b'1' }
-}
-
-/// Puts the line of a device command.
-fn put_entry<O: Out>(out: &mut O, page: &mut BytePage, entry: &LogEntry) -> Result<(), OutFault>
-    ensures { Puts result (O.sink out.old) (O.sink out.new) page.old.items page.new.items
-        (entry_line entry.now) }
-{
-    let outcome = outcome_digit(entry.success);
-    put(out, page, &[b'd', b'e', b'v', b' ', outcome, b' '])?;
-    put_words(out, page, &entry.words)?;
-    put(out, page, b"\n")
-}
-
-/// Puts the lines of device commands.
-fn put_log<O: Out>(out: &mut O, page: &mut BytePage, log: &[LogEntry]) -> Result<(), OutFault>
-    ensures { Puts result (O.sink out.old) (O.sink out.new) page.old.items page.new.items
-        (flat_map entry_line log.now) }
-{
-    for entry in log {
-        put_entry(out, page, entry)?;
-    }
-    Ok(())
 }
 
 /// Puts the line of what was printed, if it is not empty.
@@ -360,24 +277,25 @@ fn put_record<S: Store, O: Out>(
         (shown_ending view.now) (map (λ n. n.now) names.now)) }
 {
     put_first(out, page, view.word())?;
-    put_log(out, page, view.log())?;
+    put(out, page, view.log_lines())?;
     put_written(out, page, view.text())?;
     put_variables(out, page, view, names)?;
     put_last(out, page, view.ending())
 }
 
-/// Writes the record of a run. Takes no memory. Errors: `Failed`, with a prefix of the record
-/// written.
+/// Writes the record of a run. Takes no memory, but gathers bytes on a page, whatever that held. Errors:
+/// `Failed`, with a prefix of the record written.
 pub fn write_record<S: Store, O: Out>(
     view: &RunView<'_, S>,
     names: &[&[u8]],
+    page: &mut BytePage,
     out: &mut O,
 ) -> Result<(), OutFault>
     ensures { Prints result (O.sink out.old) (O.sink out.new)
         (recorded (shown_word view.now) (state_at (shown_moment S.Store view.now) [])
         (shown_ending view.now) (map (λ n. n.now) names.now)) }
 {
-    let mut page = BytePage::new();
-    put_record(out, &mut page, view, names)?;
-    flush(out, &mut page)
+    page.clear();
+    put_record(out, page, view, names)?;
+    flush(out, page)
 }

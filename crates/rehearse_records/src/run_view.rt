@@ -1,7 +1,9 @@
 //! A run, as `next` shows it.
 ghost use Rattle.std.specs.Prelude.{◌≡◌};
 ghost use Rattle.std.specs.FinMap.{entries};
+ghost use Rattle.std.specs.List.{flat_map};
 ghost use Rattle.text.specs.TextsShown.{option_bytes};
+ghost use Rattle.bootstore_state.specs.DeviceLog.{entry_line};
 ghost use Rattle.rehearse_terms.specs.State.{get};
 
 use bootstore_state::{LogEntry, Store, Variables};
@@ -52,6 +54,13 @@ impl<'v, S: Store> RunView<'v, S> {
         ensures { result.now ≡ (shown_moment S.Store self.now).log }
     {
         self.store.log()
+    }
+
+    /// Their lines in a record.
+    pub fn log_lines(&self) -> &[u8]
+        ensures { result.now ≡ flat_map entry_line (shown_moment S.Store self.now).log }
+    {
+        self.store.log_lines()
     }
 
     /// What it printed, if that is kept.

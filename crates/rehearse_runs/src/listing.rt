@@ -8,7 +8,7 @@ ghost use Rattle.rehearse_runs.specs.ListingRuns.{reached, lowered, WroteRecords
 
 use crate::runs::Runs;
 use bootstore_state::Store;
-use output::{Out, OutFault, write_all, write_parts};
+use output::{BytePage, Out, OutFault, write_all, write_parts};
 use rehearse_records::write_record;
 use rehearse_rules::RehearseError;
 use rehearse_terms::Page;
@@ -57,11 +57,12 @@ fn write_records<S: Store, O: Out>(
         (map (λ n. n.now) names.now) page e) }
 {
     let mut left = page.limit;
+    let mut bytes = BytePage::new();
     while !is_reached(left) {
         let Some(view) = runs.next()? else {
             return Ok(());
         };
-        write_record(&view, names, out)?;
+        write_record(&view, names, &mut bytes, out)?;
         left = lower(left);
     }
     Ok(())

@@ -11,7 +11,7 @@ ghost use Rattle.rehearse_runs.specs.RunAlone.{BreaksAlone, WritesAlone};
 use crate::ask::digits_of;
 use crate::walking::{Walked, walk_to};
 use bootstore_state::Store;
-use output::{Bytes, Out, OutFault, write_all};
+use output::{BytePage, Bytes, Out, OutFault, write_all};
 use rehearse_machine::Rehearsal;
 use rehearse_records::{RunView, write_record};
 use rehearse_rules::RehearseError;
@@ -27,7 +27,8 @@ fn write_one<S: Store, O: Out>(
         (shown_ending view.now) (map (λ n. n.now) names.now)
         ++ line (codes "done")) }
 {
-    match write_record(view, names, out) {
+    let mut page = BytePage::new();
+    match write_record(view, names, &mut page, out) {
         Ok(()) => write_all(out, b"done\n"),
         Err(fault) => Err(fault),
     }

@@ -56,13 +56,21 @@ pub(crate) fn rehearsal_of<'a>(
     Rehearsal::of(alloc, env, devices, source, bounds.of_run())
 }
 
+/// Makes digits those of another word.
+fn set_to(digits: &mut Digits, other: &Digits)
+    ensures { digits.new.items ≡ other.now.items }
+{
+    let _len = other.len();
+    digits.clear();
+    let _fits = digits.extend(other.as_slice());
+}
+
 /// The same digits.
 fn copy_of(digits: &Digits) -> Digits
     ensures { result.items ≡ digits.now.items }
 {
-    let _len = digits.len();
     let mut copy = Bytes::new();
-    let _fits = copy.extend(digits.as_slice());
+    set_to(&mut copy, digits);
     copy
 }
 
@@ -74,6 +82,8 @@ pub struct Runs<'a, S: Store> {
     start: Option<Digits>,
     store: S,
     word: Digits,
+    /// Where the word of the next run is looked for, so that `word` stays as it is if memory runs out.
+    next: Digits,
     asks: Vec<Ask<'a>>,
     has_given: bool,
     phase: Phase,
@@ -160,6 +170,7 @@ impl<'a, S: Store> Runs<'a, S> {
             start: None,
             store: S::new(alloc),
             word: Bytes::new(),
+            next: Bytes::new(),
             asks: Vec::new(alloc),
             has_given: false,
             phase: Phase::Fresh,
@@ -192,6 +203,7 @@ impl<'a, S: Store> Runs<'a, S> {
             start: None,
             store: S::new(alloc),
             word: Bytes::new(),
+            next: Bytes::new(),
             asks: Vec::new(alloc),
             has_given: false,
             phase: Phase::Fresh,
@@ -263,6 +275,7 @@ impl<'a, S: Store> Runs<'a, S> {
             start: Some(copy_of(&digits)),
             store,
             word: digits,
+            next: Bytes::new(),
             asks,
             has_given: true,
             phase: Phase::At(halt),
@@ -276,27 +289,26 @@ impl<'a, S: Store> Runs<'a, S> {
     {
         match self.phase {
             Phase::Fresh => {
-                let mut word = Bytes::new();
                 let Ok(halt) = first_run(
                     &self.rehearsal,
                     &mut self.store,
-                    &mut word,
+                    &mut self.next,
                     &mut self.asks,
                 ) else {
                     self.phase = Phase::Failed;
                     return Err(RehearseError::Memory);
                 };
-                self.word = word;
+                set_to(&mut self.word, &self.next);
                 self.has_given = true;
                 self.phase = Phase::At(halt);
                 Ok(true)
             }
             Phase::At(_) => {
-                let mut word = copy_of(&self.word);
+                set_to(&mut self.next, &self.word);
                 let Ok(found) = next_run(
                     &self.rehearsal,
                     &mut self.store,
-                    &mut word,
+                    &mut self.next,
                     &mut self.asks,
                 ) else {
                     self.phase = Phase::Failed;
@@ -306,7 +318,7 @@ impl<'a, S: Store> Runs<'a, S> {
                     self.phase = Phase::Over;
                     return Ok(false);
                 };
-                self.word = word;
+                set_to(&mut self.word, &self.next);
                 self.phase = Phase::At(halt);
                 Ok(true)
             }
