@@ -3,19 +3,18 @@ use Rattle.std.proofs.Common.{◌≡◌, ◌∙◌, ◌+◌, ◌-◌, ◌<◌, �
 use Rattle.std.specs.Prelude.{slice_get}
 use Rattle.std.proofs.Math.Nat.{min-le_right}
 use Rattle.std.proofs.lemmas.List.{length-append, length-reverse}
-use Rattle.bootstore_state.specs.Moment.{Moment, RunningFrame}
+use Rattle.bootstore_state.specs.Moment.{RunningFrame}
 use Rattle.bootstore_state.specs.Record.{Record, changed, without_first}
 use Rattle.bootstore_state.specs.declared.frame.FrameKind.{FrameKind}
 use Rattle.bootstore_state.specs.declared.frame.FrameKind.TheVariants as kinds
-use Rattle.rehearse_rules.specs.Execution.{Limits, Answer}
-use Rattle.rehearse_machine.specs.EndedTexts.{DropsEnded, GoOnAlike, begins, below_blocks, below_ended, below_text, below_three, has_ended, has_run_all, is_at_end, is_block, is_done, is_run, is_text, lightened, may_drop, with_fewer, without_text}
+use Rattle.rehearse_machine.specs.EndedTexts.{DropsEnded, GoOnAlike, begins, below_blocks, below_ended, below_text, below_three, has_ended, has_run_all, is_at_end, is_block, is_done, is_run, is_text, lightened, may_drop, with_fewer}
 use Rattle.rehearse_machine.specs.Meaning.{continue}
 use Rattle.rehearse_machine.specs.Places.{frames_of}
 use Rattle.rehearse_machine.proofs.EndedLemmas.{drops_ended, lightened_by}
 use Rattle.rehearse_frames.specs.Above.{above}
 use Rattle.rehearse_frames.proofs.LowestFrames.{above_long, above_under, lowest, with_lowest}
 use Rattle.rehearse_reports.specs.Looping.{GoAlikeAbove, below_run}
-use Rattle.rehearse_reports.proofs.StepLemmas.{blocks_shorter, both_hold, keeps_above}
+use Rattle.rehearse_reports.proofs.StepLemmas.{blocks_shorter, both_hold}
 
 abbrev choose : Bool → (first second : List RunningFrame) → List RunningFrame
 choose b first second = elim b [ true ↦ first | false ↦ second ]
