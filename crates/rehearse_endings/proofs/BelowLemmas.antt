@@ -3,7 +3,7 @@ use Rattle.std.proofs.Common.{◌≡◌, ◌≢◌, ◌∙◌, ◌+◌, ◌-◌,
 use Rattle.std.proofs.lemmas.List.{length-append, length-drop, length-reverse, length-take-le, reverse-append, reverse-reverse, take-append-drop, take_at}
 use Rattle.bootstore_state.specs.Moment.{Moment, RunningFrame}
 use Rattle.rehearse_terms.specs.Outcomes.{OutcomeWord, Outcome, Success, Failure}
-use Rattle.rehearse_terms.specs.State.{Text, State, Memory}
+use Rattle.rehearse_terms.specs.State.{Text, Memory}
 use Rattle.rehearse_rules.specs.EndingsShown.{halt_shown}
 use Rattle.rehearse_rules.specs.Execution.{Limits, End}
 use Rattle.rehearse_rules.specs.declared.halt.Halt.{Halt}

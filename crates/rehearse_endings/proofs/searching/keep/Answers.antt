@@ -1,4 +1,4 @@
-use Rattle.std.proofs.Common.{◌∙◌, ◌≡◌, ap, sym, subst, nat_eq, reverse, ℕ, Err}
+use Rattle.std.proofs.Common.{◌∙◌, ◌≡◌, ap, subst, nat_eq, reverse, ℕ, Err}
 use Rattle.std.proofs.lemmas.Result.{err_from_is_err_and}
 use Rattle.rehearse_endings.proofs.BelowLemmas.{number_so, top_is}
 use Rattle.rehearse_reports.specs.ReportsShown.{keys_shown}
