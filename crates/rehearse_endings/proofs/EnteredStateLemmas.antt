@@ -36,7 +36,7 @@ use Rattle.rehearse_endings.specs.Searching.{IsKeptAt, SummedFrom}
 use Rattle.rehearse_endings.specs.States.{AreApart, AreKeptAs, AreOnOneRun, Asked, ComesBefore, ComesBy, ComesToStates, ComesToSteps, Entered, HasEntered, HasStates, IsKeptAs, IsLike, IsMet, IsSearchedIn, IsUnlike, NoTwoAlike, Searched}
 use Rattle.rehearse_endings.specs.declared.sum_error.SumError.{SumError}
 use Rattle.rehearse_endings.specs.declared.sum_error.SumError.TheVariants.{States}
-use Rattle.rehearse_endings.specs.declared.table.Entry.{Entry}
+use Rattle.rehearse_endings.specs.declared.entry.Entry.{Entry}
 use Rattle.rehearse_endings.specs.declared.table.Table.{Table}
 
 -- ---- lists

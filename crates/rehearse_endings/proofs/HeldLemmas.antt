@@ -16,7 +16,7 @@ use Rattle.rehearse_states.specs.Summaries.{Summary}
 use Rattle.rehearse_endings.specs.Held.{ComesToBytes, HasNoRoom, Held, HoldsStates, IsHeld, most_held, size_of, size_of_entry, size_of_held}
 use Rattle.rehearse_endings.specs.Searching.{SummedFrom}
 use Rattle.rehearse_endings.specs.States.{AreApart, AreKeptAs, Asked, HasEntered, Searched, frames_in}
-use Rattle.rehearse_endings.specs.declared.table.Entry.{Entry}
+use Rattle.rehearse_endings.specs.declared.entry.Entry.{Entry}
 use Rattle.rehearse_endings.specs.declared.table.Table.{Table}
 use Rattle.rehearse_endings.proofs.EnteredStateLemmas.{all_and, searched_last}
 use Rattle.rehearse_endings.proofs.SearchLemmas.{Both}

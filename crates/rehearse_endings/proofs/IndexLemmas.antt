@@ -21,8 +21,8 @@ use Rattle.rehearse_states.specs.PlaceNumbers.{mixed, mixed_text, mixed_words}
 use Rattle.rehearse_endings.specs.Numbers.{mixed_answer, mixed_flag, mixed_known, mixed_value}
 use Rattle.rehearse_endings.specs.Indexed.{AllOf, AreNoted, BeginWith, Fits, FitsNot, HasMoreWays, IsNoted, IsNumberBehind, KnowsNext, LeadTo, Leads, NoneBy, NoneFits, NoneFrom, NoneOnTop, NotesOne, TakesOne, WayIsNoted, Places, known_after, known_in, noted, one_place, ways}
 use Rattle.rehearse_reports.specs.declared.known.Known.{Known}
-use Rattle.rehearse_endings.specs.declared.table.Entry.{Entry}
-use Rattle.rehearse_endings.specs.declared.table.Future.{Future}
+use Rattle.rehearse_endings.specs.declared.entry.Entry.{Entry}
+use Rattle.rehearse_endings.specs.declared.entry.Future.{Future}
 use Rattle.rehearse_endings.specs.declared.table.Table.{Table}
 
 -- ---- lists

@@ -53,9 +53,9 @@ use Rattle.rehearse_endings.specs.OnTop.{HasOnTop}
 use Rattle.rehearse_endings.specs.Searching.{future, SummedFrom, seen_from, IsReached, IsEntry, AreEntries, IsFound, IsKeptAt, NeverReturnsTo}
 use Rattle.rehearse_endings.proofs.BelowLemmas.{Side, all_held_without, asked_without, below_top, both_enough, innermost_are, neither_comes_back, seen_below, some_frames, sums_above, sums_below, top_of}
 use Rattle.rehearse_endings.specs.Searched.{IsSearched, IsSpent}
-use Rattle.rehearse_endings.specs.declared.table.Future.{Future}
+use Rattle.rehearse_endings.specs.declared.entry.Future.{Future}
 use Rattle.rehearse_endings.specs.declared.table.Table.{Table}
-use Rattle.rehearse_endings.specs.declared.table.Entry.{Entry}
+use Rattle.rehearse_endings.specs.declared.entry.Entry.{Entry}
 use Rattle.rehearse_states.specs.declared.summary.Summary as rt
 use Rattle.rehearse_states.specs.Flow.{Node, asked_in}
 use Rattle.rehearse_reuse.specs.DrawnRuns.{further, Draws, seen_at}

@@ -11,7 +11,7 @@ use Rattle.rehearse_reports.specs.Known.{AllHold, keys_of}
 use Rattle.rehearse_reports.specs.declared.known.Known.{Known}
 use Rattle.rehearse_reports.specs.declared.known.Known.TheVariants.{Environment, Local, AnswerTo, Succeeded, Status}
 use Rattle.rehearse_endings.specs.States.{AreApart, Asked, Searched, frames_in}
-use Rattle.rehearse_endings.specs.declared.table.Entry.{Entry}
+use Rattle.rehearse_endings.specs.declared.entry.Entry.{Entry}
 use Rattle.rehearse_endings.specs.declared.table.Table.{Table}
 
 -- ---- sizes

@@ -17,8 +17,8 @@ use Rattle.rehearse_states.specs.Endings.{Row}
 use Rattle.rehearse_states.specs.RowsShown.{summary_with}
 use Rattle.rehearse_endings.specs.Numbers.{mixed_known}
 use Rattle.rehearse_endings.specs.OnTop.{HasOnTop}
-use Rattle.rehearse_endings.specs.declared.table.Entry.{Entry}
-use Rattle.rehearse_endings.specs.declared.table.Future.{Future}
+use Rattle.rehearse_endings.specs.declared.entry.Entry.{Entry}
+use Rattle.rehearse_endings.specs.declared.entry.Future.{Future}
 use Rattle.rehearse_endings.specs.declared.table.Table.{Table}
 
 -- lists of places, each under a number

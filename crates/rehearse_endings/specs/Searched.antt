@@ -18,7 +18,7 @@ use Rattle.rehearse_endings.specs.States.{Asked, ComesBy, HasEntered}
 use Rattle.rehearse_frames.specs.Above.{without_lowest}
 use Rattle.rehearse_reports.specs.Following.{AreEnoughAtStop, HasFramesAtStop}
 use Rattle.rehearse_reports.specs.ReportsShown.{keys_shown}
-use Rattle.rehearse_endings.specs.declared.table.Future.{Future}
+use Rattle.rehearse_endings.specs.declared.entry.Future.{Future}
 use Rattle.rehearse_endings.specs.declared.table.Table.{Table}
 
 -- more steps were begun than allowed, by one stretch at most, when this many states were entered

@@ -25,8 +25,8 @@ use Rattle.rehearse_reuse.specs.SummedRuns.{Summed, SumsAt}
 use Rattle.rehearse_states.specs.RowsShown.{saturated_summary}
 use Rattle.rehearse_states.specs.SumNodes.{SumNode, IsSummary}
 use Rattle.rehearse_states.specs.declared.summary.Summary as rt
-use Rattle.rehearse_endings.specs.declared.table.Entry.{Entry}
-use Rattle.rehearse_endings.specs.declared.table.Future.{Future}
+use Rattle.rehearse_endings.specs.declared.entry.Entry.{Entry}
+use Rattle.rehearse_endings.specs.declared.entry.Future.{Future}
 
 -- what is to come of a text that has stopped
 abbrev pub future : Limits → Stop → Moment → OutcomeWord → Came

@@ -21,7 +21,7 @@ use Rattle.rehearse_states.specs.RowsShown.{saturated, saturated_summary, summar
 use Rattle.rehearse_states.specs.Summaries.{Summary}
 use Rattle.rehearse_endings.specs.OnTop.{HasOnTop}
 use Rattle.rehearse_endings.specs.Searching.{NeverReturnsTo}
-use Rattle.rehearse_endings.specs.declared.table.Entry.{Entry}
+use Rattle.rehearse_endings.specs.declared.entry.Entry.{Entry}
 use Rattle.rehearse_endings.specs.declared.table.Table.{Table}
 
 -- a state in which a device command asks, and the outcomes that lead to it

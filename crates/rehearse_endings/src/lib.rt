@@ -2,6 +2,7 @@
 //! them.
 #![tactic(auto)]
 
+mod entry;
 mod held;
 mod keys;
 pub mod laws;

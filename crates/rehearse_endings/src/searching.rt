@@ -23,9 +23,10 @@ ghost use Rattle.rehearse_endings.specs.States.{Asked, ComesBy, ComesToStates, C
 ghost use Rattle.rehearse_endings.specs.Searched.{IsFull, IsSearched, IsSpent};
 ghost use Rattle.rehearse_endings.specs.declared.sum_error.SumError.TheVariants.{Bytes, Memory, States, Steps};
 
+use crate::entry::Future;
 use crate::keys::{keys_at_end, keys_of_both};
 use crate::sum_error::SumError;
-use crate::table::{Future, Table};
+use crate::table::Table;
 use bootstore_state::Store;
 use rehearse_machine::{Rehearsal, Stop};
 use rehearse_reports::{Key, Reported, begin_watched, keys_of, known_at, resume_reported};

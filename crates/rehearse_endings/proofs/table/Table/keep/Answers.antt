@@ -6,7 +6,7 @@ use Rattle.bootstore_state.specs.Moment.{RunningFrame}
 use Rattle.rehearse_endings.specs.Held.{size_of}
 use Rattle.rehearse_endings.specs.Indexed.{WayIsNoted}
 use Rattle.rehearse_reports.specs.declared.known.Known.{Known}
-use Rattle.rehearse_endings.specs.declared.table.Entry.{Entry}
+use Rattle.rehearse_endings.specs.declared.entry.Entry.{Entry}
 use Rattle.rehearse_endings.specs.declared.table.Table.{Table}
 use Rattle.rehearse_endings.proofs.HeldLemmas.{held_more, left_of}
 use Rattle.rehearse_endings.proofs.IndexLemmas.{all_noted}

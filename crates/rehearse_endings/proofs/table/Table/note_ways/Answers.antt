@@ -1,6 +1,6 @@
 use Rattle.std.proofs.Common.{ℕ, suc, ◌≡◌, ◌+◌, ◌∙◌, refl, sym, ap, subst, drop, List, arith}
 use Rattle.rehearse_endings.specs.Indexed.{BeginWith, ways}
-use Rattle.rehearse_endings.specs.declared.table.Entry.{Entry}
+use Rattle.rehearse_endings.specs.declared.entry.Entry.{Entry}
 use Rattle.rehearse_endings.specs.Numbers.{mixed_known}
 use Rattle.std.specs.declared.alloc.Global.{Global}
 use Rattle.std.specs.declared.vec.Vec.{Vec}

@@ -1,7 +1,7 @@
 use Rattle.std.proofs.Common.{reverse, sym, ap, ◌∙◌}
 use Rattle.std.proofs.lemmas.List.{reverse-reverse}
 use Rattle.rehearse_endings.proofs.BelowLemmas.{whole_told}
-use Rattle.rehearse_endings.proofs.table.is_at.Goals as goal
+use Rattle.rehearse_endings.proofs.entry.is_at.Goals as goal
 
 pub returns-then-entry-clause-told : goal.returns-then-entry-clause-told
 returns-then-entry-clause-told g c = λ h.
