@@ -55,7 +55,7 @@ fn has_room(cut: bool, here: u32, there: u32, reach: u64, bound: u32) -> bool
 }
 
 /// So many of the innermost frames of the present state, if it has so many.
-fn innermost<S: Store>(store: &S, many: usize) -> Option<&[Frame]>
+pub(crate) fn innermost<S: Store>(store: &S, many: usize) -> Option<&[Frame]>
     ensures { MatchOption result (length (S.record_of store.now).present.frames < many)
         (λ top. (many ≤ length (S.record_of store.now).present.frames)
         × (reverse top.now ≡ take many (S.record_of store.now).present.frames)) }

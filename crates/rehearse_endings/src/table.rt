@@ -12,7 +12,7 @@ ghost use Rattle.rehearse_reports.specs.Known.{key_of};
 ghost use Rattle.rehearse_states.specs.Drawing.{nodes_shown};
 ghost use Rattle.rehearse_endings.specs.declared.sum_error.SumError.TheVariants.{Memory};
 
-use crate::entry::{Entry, Future, below_entry, fits, moved};
+use crate::entry::{Entry, Future, below_entry, fits, innermost, moved};
 use crate::held::behind_state;
 use crate::numbers::{have_one_key, mix_known};
 use crate::sum_error::SumError;
