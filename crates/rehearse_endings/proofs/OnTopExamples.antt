@@ -1,7 +1,8 @@
 -- Frames on top of others, computed.
-use Rattle.std.proofs.Common.{◌≡◌, refl, true, false, [], ◌∷◌, codes}
+use Rattle.std.proofs.Common.{refl, ap, true, false, List, [], ◌∷◌, Option, None, Some, codes}
 use Rattle.hushlang.specs.Tree as tree
 use Rattle.bootstore_state.specs.Moment.{RunningFrame}
+use Rattle.bootstore_state.specs.declared.frame.FrameKind.{FrameKind}
 use Rattle.rehearse_machine.specs.Places.{text_frame, names_frame}
 use Rattle.rehearse_endings.specs.OnTop.{HasOnTop}
 
@@ -10,6 +11,11 @@ text = text_frame tree.Empty
 
 abbrev run : RunningFrame
 run = names_frame tree.Empty (codes "a" ∷ [])
+
+-- the kind of the innermost frame, if there is one
+abbrev kind_of_first : List RunningFrame → Option FrameKind
+kind_of_first [] = None
+kind_of_first (frame ∷ frames) = Some frame.kind
 
 -- all frames of a state
 all_frames : HasOnTop true (text ∷ run ∷ []) (text ∷ run ∷ [])
@@ -32,7 +38,7 @@ no_frame = (text ∷ run ∷ [], refl)
 
 -- others are not on top, even if they are there
 not_innermost : HasOnTop false (run ∷ []) (text ∷ run ∷ []) → ⊥
-not_innermost h = let same = h.1 in absurd (cc)
+not_innermost h = let kinds = ap kind_of_first h.1 in absurd (cc)
 
 -- and there are enough
 too_few : HasOnTop false (text ∷ run ∷ []) (text ∷ []) → ⊥
