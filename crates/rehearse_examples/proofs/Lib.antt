@@ -16,3 +16,4 @@ mod BoundExamples
 mod FailuresExamples
 mod ModernShellExamples
 mod ShellExamples
+mod LogLinesExamples
