@@ -5,7 +5,7 @@ use Rattle.std.proofs.lemmas.Bool.Decides.{eqb_tells}
 use Rattle.std.proofs.lemmas.List.Splits.{join_with_byte-slice_split}
 use Rattle.std.specs.List.{list_all, flat_map, enumerate_from, slice_split, join_with_byte}
 use Rattle.text.specs.Lines.{Text, numbered_lines, is_newline}
-use Rattle.device_list.specs.DeviceList.{listed}
+use Rattle.device_list.specs.DeviceList.{listed_with}
 use Rattle.board_start.specs.StartLines.{Said, Given, Before, Faulty, Other, said, front, line_left, without_start}
 use Rattle.board_start.specs.Start.{Start, no_start, started_by}
 use Rattle.board_start.specs.Boards.{board_with, board_from}
@@ -67,5 +67,6 @@ text-stands text e =
     ∙ (whole (slice_split is_newline text) ∙ (joined (slice_split is_newline text) 1 (omega arith) ∙ join_with_byte-slice_split 10 text))
 
 pub other_lists_stand : OtherListsStand
-other_lists_stand text e =
-    ap (board_from text) (starts (numbered_lines text) no_start e) ∙ ap (λ t. board_with no_start (listed t)) (text-stands text e)
+other_lists_stand list e =
+    ap (board_from list) (starts (numbered_lines list.text) no_start e)
+    ∙ ap (λ t. board_with no_start (listed_with list.files t)) (text-stands list.text e)

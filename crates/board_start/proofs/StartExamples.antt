@@ -7,7 +7,7 @@ use Rattle.device_list.specs.DeviceLaws.{quiet}
 use Rattle.device_list.specs.declared.devices_error.DevicesError.TheVariants.{BadLine}
 use Rattle.board_start.specs.StartLines.{Given, Before, Faulty, Other, said, without_start}
 use Rattle.board_start.specs.Start.{Start, no_start, start_of, choices, chosen, given_line, place_of, begun, after_said}
-use Rattle.board_start.specs.Boards.{board_of, OfDevices}
+use Rattle.board_start.specs.Boards.{board_of, text_alone, OfDevices}
 use Rattle.board_start.specs.declared.start_error.StartError.TheVariants.{TooMany, Alternatives, NoAlternative, Name}
 
 -- ---- lines
@@ -122,20 +122,20 @@ load_alone = (codes "load", quiet) ∷ []
 lines_apart : without_start (codes "given a=b\nload\nbefore c\n") ≡ codes "\nload\n\n"
 lines_apart = refl
 
-list_of_all : board_of (codes "given a=b\nload\nbefore c") ≡ Ok (record {
+list_of_all : board_of (text_alone (codes "given a=b\nload\nbefore c")) ≡ Ok (record {
   start = record { givens = (codes "a", record { first = codes "b"; others = [] }) ∷ []; before = codes "c" ∷ [] };
   devices = only load_alone;
 })
 list_of_all = refl
 
-list_without : board_of (codes "load") ≡ Ok (record { start = no_start; devices = only load_alone })
+list_without : board_of (text_alone (codes "load")) ≡ Ok (record { start = no_start; devices = only load_alone })
 list_without = refl
 
 -- a faulty line of the start is a bad line, and the first bad line is told
-faulty_is_bad : board_of (codes "load\ngiven a=b c\nload x") ≡ Err (OfDevices (BadLine 2))
+faulty_is_bad : board_of (text_alone (codes "load\ngiven a=b c\nload x")) ≡ Err (OfDevices (BadLine 2))
 faulty_is_bad = refl
 
-faulty_later : board_of (codes "load\nload x\ngiven a=b c") ≡ Err (OfDevices (BadLine 2))
+faulty_later : board_of (text_alone (codes "load\nload x\ngiven a=b c")) ≡ Err (OfDevices (BadLine 2))
 faulty_later = refl
 
 -- the values of a name, each once, in order, and the names whose texts run first, in theirs

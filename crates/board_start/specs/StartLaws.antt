@@ -3,10 +3,10 @@ use Rattle.std.specs.Prelude.{◌≡◌, ◌≤◌, Bool, true, false, List, Non
 use Rattle.std.specs.List.{list_all}
 use Rattle.text.specs.Lines.{Text, numbered_lines}
 use Rattle.envimage.specs.Data.{Pair}
-use Rattle.device_list.specs.DeviceList.{listed}
+use Rattle.device_list.specs.DeviceList.{listed_with}
 use Rattle.board_start.specs.StartLines.{Said, Given, Before, Faulty, Other, said}
 use Rattle.board_start.specs.Start.{Start, no_start, start_of, choices, most, begun}
-use Rattle.board_start.specs.Boards.{board_of, board_with}
+use Rattle.board_start.specs.Boards.{ListRead, board_of, board_with}
 
 -- whether a line says nothing of the start
 abbrev pub is_other : Said → Bool
@@ -17,8 +17,8 @@ is_other Other = true
 
 -- A list without lines of the start says of commands what it said before there were such lines, and nothing of the start.
 abbrev pub OtherListsStand : Type 0
-OtherListsStand = (text : Text) → list_all (λ l. is_other (said l.1)) (numbered_lines text) ≡ true →
-    board_of text ≡ board_with no_start (listed text)
+OtherListsStand = (list : ListRead) → list_all (λ l. is_other (said l.1)) (numbered_lines list.text) ≡ true →
+    board_of list ≡ board_with no_start (listed_with list.files list.text)
 
 -- And then a rehearsal begins with the environment that there is, and with the text that was given.
 abbrev pub NothingIsGiven : Type 0

@@ -3,13 +3,14 @@ ghost use Rattle.std.specs.Prelude.{◌≡◌, ◌++◌, OnOk};
 ghost use Rattle.board_start.specs.StartLines.{front, left_of, line_left, said};
 ghost use Rattle.board_start.specs.Start.{after_said, start_of};
 ghost use Rattle.board_start.specs.Boards.{board_of};
+ghost use Rattle.device_list.specs.CommandsShown.{files_shown};
 ghost use Rattle.board_start.specs.StartShown.{said_shown};
 ghost use Rattle.board_start.specs.StartAnswers.{Adds, IsBoard, IsRead, Starts};
 
 use crate::board_error::BoardError;
 use crate::said::{Said, read_line};
 use crate::start::Start;
-use device_list::{Devices, DevicesError};
+use device_list::{Devices, DevicesError, FileTexts};
 use keyed_hash::KeyedHash;
 use std::alloc::{AllocError, Global};
 use text::Lines;
@@ -78,14 +79,14 @@ impl Board {
     /// The board that a device list says. Beside the lines of `Devices::parse` it has the lines
     /// `given NAME=VALUE`, for a variable of the environment before the run, and `before NAME`, for a
     /// variable whose text runs first. A value may have quotes, as in a line of calls. Lines `given` of
-    /// one name with other values are alternatives, at most 64 in all. Errors in order: `Start` with
+    /// one name with other values are alternatives, at most 64 in all. Its lines may name these files. Errors in order: `Start` with
     /// `TooMany`, `Devices` with the first fault of the lines, a faulty line of the start among them;
     /// `Memory` wherever a growth is made.
-    pub fn parse(alloc: Global, text: &[u8]) -> Result<Board, BoardError>
-        ensures { IsBoard (board_of text.now) result }
+    pub fn parse(alloc: Global, text: &[u8], files: FileTexts) -> Result<Board, BoardError>
+        ensures { IsBoard (board_of (record { text = text.now; files = files_shown files.entries })) result }
     {
         let (start, rest) = read(alloc, text)?;
-        match Devices::parse(alloc, &rest) {
+        match Devices::parse_with(alloc, &rest, files) {
             Ok(devices) => Ok(Board { start, devices }),
             Err(DevicesError::Memory) => Err(BoardError::Memory),
             Err(fault) => Err(BoardError::Devices(fault)),

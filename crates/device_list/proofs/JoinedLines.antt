@@ -101,9 +101,9 @@ first-more (l ∷ before) one = by l.effect.ends (first-more before one)
 
 whole_effect-more : (before : List DeviceLine) (one : DeviceLine) → whole_effect (before ++ one ∷ []) ≡ Some (joint_behind one.effect (whole_effect before))
 whole_effect-more [] one =
-    ap (λ b. let e : Effect = record { ends = b; stays = one.effect.stays || false; always = one.effect.always; needs = one.effect.needs; normal = one.effect.normal; sets = one.effect.sets ++ [] } in Some e) (first-none one.effect.ends)
-    ∙ ap (λ b. let e : Effect = record { ends = one.effect.ends; stays = b; always = one.effect.always; needs = one.effect.needs; normal = one.effect.normal; sets = one.effect.sets ++ [] } in Some e) (or-false one.effect.stays)
-    ∙ ap (λ s. let e : Effect = record { ends = one.effect.ends; stays = one.effect.stays; always = one.effect.always; needs = one.effect.needs; normal = one.effect.normal; sets = s } in Some e) (append-nil one.effect.sets)
+    ap (λ b. let e : Effect = record { ends = b; stays = one.effect.stays || false; always = one.effect.always; needs = one.effect.needs; normal = one.effect.normal; runs = one.effect.runs; sets = one.effect.sets ++ [] } in Some e) (first-none one.effect.ends)
+    ∙ ap (λ b. let e : Effect = record { ends = one.effect.ends; stays = b; always = one.effect.always; needs = one.effect.needs; normal = one.effect.normal; runs = one.effect.runs; sets = one.effect.sets ++ [] } in Some e) (or-false one.effect.stays)
+    ∙ ap (λ s. let e : Effect = record { ends = one.effect.ends; stays = one.effect.stays; always = one.effect.always; needs = one.effect.needs; normal = one.effect.normal; runs = one.effect.runs; sets = s } in Some e) (append-nil one.effect.sets)
 whole_effect-more (l ∷ before) one =
     let ends : first_of (map (λ l. l.effect.ends) ((l ∷ before) ++ one ∷ [])) ≡ first_finish (first_of (map (λ l. l.effect.ends) (l ∷ before))) one.effect.ends = first-more (l ∷ before) one in
     let stays : list_any (λ l. l.effect.stays) ((l ∷ before) ++ one ∷ []) ≡ (list_any (λ l. l.effect.stays) (l ∷ before) || one.effect.stays) =
@@ -173,11 +173,11 @@ IsWhole-words devices next before number line (first ∷ words) e h =
     by (known_named first words) refl (is_steady_test first words) refl (begins_comment first) (has_nul line) (is_call first words) refl (line_of number (heading_of first words)) refl e
   where
     by : (o : Option Text) → known_named first words ≡ o → (test : Bool) → is_steady_test first words ≡ test → (comment nul call : Bool) → is_call first words ≡ call → (r : Result DeviceLine DevicesError) → line_of number (heading_of first words) ≡ r
-        → cond comment (Ok devices) (cond nul (Err (BadLine number)) (cond call (after_call devices (call_said number line first words)) (after_known devices o test r))) ≡ Ok next
+        → cond comment (Ok devices) (cond nul (Err (BadLine number)) (cond call (after_call devices (call_said devices.files number line first words)) (after_known devices o test r))) ≡ Ok next
         → IsWhole next (before ++ with_said (cond comment None (result_ok r)) [])
     by o is test at true nul call called r line_is e = IsWhole-kept devices next before (ok-same e) h
     by o is test at false true call called r line_is e = cc
-    by o is test at false false true called (Err fault) line_is e = IsWhole-call devices next before (call_said number line first words) e h
+    by o is test at false false true called (Err fault) line_is e = IsWhole-call devices next before (call_said devices.files number line first words) e h
     by o is test at false false true called (Ok one) line_is e = absurd (let bad = sym (calls_are_bad number first words called) ∙ line_is in cc)
     by None is false at false false false called (Err fault) line_is e = cc
     by None is false at false false false called (Ok one) line_is e = IsWhole-next devices next before one (ok-same e) h

@@ -242,7 +242,7 @@ module _ (kinds : List Kind) where
     read_other first words = after_known devices (cond (has kinds Known) (known_named first words) None) (has kinds Steady && is_steady_test first words) (said first words)
 
     abbrev calls_of : (line first : Text) → List Text → Result Devices DevicesError
-    calls_of line first words = after_call devices (call_said number line first words)
+    calls_of line first words = after_call devices (call_said devices.files number line first words)
 
     -- a line of calls
     calls-kinds : (line first : Text) (words : List Text) → is_call first words ≡ true → cond (has kinds Calls && true) (calls_of line first words) (read_other first words) ≡ cond (has kinds Calls && true) (calls_of line first words) refused

@@ -3,6 +3,7 @@ mod DeviceListExamples
 mod KindExamples
 mod CalledExamples
 mod CallExamples
+mod FileExamples
 pub mod MarkLemmas
 pub mod LineLemmas
 pub mod KindsOfLines
@@ -15,3 +16,4 @@ pub mod PlainLists
 pub mod SteadyLemmas
 pub mod WordLemmas
 pub mod QuoteLemmas
+pub mod FileLemmas

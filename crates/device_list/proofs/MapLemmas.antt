@@ -7,6 +7,7 @@ use Rattle.std.specs.Map.{lookup, set_value}
 use Rattle.std.proofs.lemmas.List.{map-append}
 use Rattle.indexmap.specs.IndexMap.{insert_entry}
 use Rattle.text.specs.Lines.{Text}
+use Rattle.text.specs.TextsShown.{option_items}
 use Rattle.device_list.specs.Finishes.{first_finish}
 use Rattle.device_list.specs.DeviceList.{joint, changed_at}
 use Rattle.device_list.specs.DevicesShown.{Bytes, setting_shown}
@@ -76,8 +77,9 @@ module _ {V S : Type 0} (shown : V → S) where
       ap table inserted ∙ (changed-absent change es k w absent e ∙ ap (changed_at change (table es)) key)
 
 -- one more line for what is listed
-pub listed-joined : (l w more : Listed) → w.ends ≡ first_finish l.ends more.ends → w.stays ≡ (l.stays || more.stays) → w.always ≡ l.always → w.needs ≡ l.needs → w.normal ≡ l.normal → w.sets.items ≡ l.sets.items ++ more.sets.items → listed_shown w ≡ joint (listed_shown l) (listed_shown more)
-listed-joined l w more ends stays always needs normal sets =
+pub listed-joined : (l w more : Listed) → w.ends ≡ first_finish l.ends more.ends → w.stays ≡ (l.stays || more.stays) → w.always ≡ l.always → w.needs ≡ l.needs → w.normal ≡ l.normal → w.runs ≡ l.runs → w.sets.items ≡ l.sets.items ++ more.sets.items → listed_shown w ≡ joint (listed_shown l) (listed_shown more)
+listed-joined l w more ends stays always needs normal runs sets =
+    let named : option_items w.runs ≡ option_items l.runs = ap option_items runs in
     let shown : map setting_shown w.sets.items ≡ map setting_shown l.sets.items ++ map setting_shown more.sets.items = ap (map setting_shown) sets ∙ map-append setting_shown l.sets.items more.sets.items in cc
 
 -- whether a map has a name

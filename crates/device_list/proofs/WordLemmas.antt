@@ -3,7 +3,8 @@ use Rattle.std.proofs.Common.{◌≡◌, ℕ, ◌+◌, ◌-◌, ◌≤◌, ◌<�
 use Rattle.std.proofs.lemmas.List.{take-map, drop-map, take_all, length-map, length-drop}
 use Rattle.std.proofs.lemmas.Bool.Decides.{nat_tests}
 use Rattle.text.specs.Lines.{Text}
-use Rattle.device_list.specs.CallLines.{Call, colon_place, call_parts, call_line, ends_in_rest, fixed_words}
+use Rattle.device_list.specs.CallLines.{Call, Files, colon_place, call_parts, call_line, ends_in_rest, fixed_words}
+use Rattle.device_list.specs.NamedFiles.{clause_words}
 use Rattle.device_list.specs.declared.devices_error.DevicesError.{DevicesError}
 use Rattle.device_list.specs.declared.devices_error.DevicesError.TheVariants.{BadLine}
 
@@ -11,12 +12,12 @@ abbrev pub bytes_of : List (Bor Text) → List Text
 bytes_of = map (λ w. w.now)
 
 -- the words on both sides of the `:`
-pub call_line_at : (number : ℕ) (ws : List (Bor Text)) (at : ℕ) → at ≡ colon_place (bytes_of ws) → nat_le (length (bytes_of ws)) at ≡ false
-    → call_parts number (bytes_of (take at ws)) (bytes_of (drop (at + 1) ws)) ≡ call_line number (bytes_of ws)
-call_line_at number ws at place whole =
-    (λ i. call_parts number (sym (take-map (λ (w : Bor Text). w.now) at ws) i) (sym (drop-map (λ (w : Bor Text). w.now) (at + 1) ws) i))
-    ∙ sym (ap (λ (b : Bool). cond b (Err (BadLine number)) (call_parts number (take at (bytes_of ws)) (drop (at + 1) (bytes_of ws)))) whole)
-    ∙ ap (λ (n : ℕ). let r : Result Call DevicesError = cond (nat_le (length (bytes_of ws)) n) (Err (BadLine number)) (call_parts number (take n (bytes_of ws)) (drop (n + 1) (bytes_of ws))) in r) place
+pub call_line_at : (files : Files) (number : ℕ) (ws : List (Bor Text)) (at : ℕ) → at ≡ colon_place (bytes_of ws) → nat_le (length (bytes_of ws)) at ≡ false
+    → call_parts files number (bytes_of (take at ws)) (bytes_of (drop (at + 1) ws)) ≡ call_line files number (bytes_of ws)
+call_line_at files number ws at place whole =
+    (λ i. call_parts files number (sym (take-map (λ (w : Bor Text). w.now) at ws) i) (sym (drop-map (λ (w : Bor Text). w.now) (at + 1) ws) i))
+    ∙ sym (ap (λ (b : Bool). cond b (Err (BadLine number)) (call_parts files number (take at (bytes_of ws)) (drop (at + 1) (bytes_of ws)))) whole)
+    ∙ ap (λ (n : ℕ). let r : Result Call DevicesError = cond (nat_le (length (bytes_of ws)) n) (Err (BadLine number)) (call_parts files number (take n (bytes_of ws)) (drop (n + 1) (bytes_of ws))) in r) place
 
 pub length_now : (ws : List (Bor Text)) → length (bytes_of ws) ≡ length ws
 length_now ws = length-map ws (λ (w : Bor Text). w.now)
@@ -37,3 +38,11 @@ not_below ws at l = ap (λ (n : ℕ). nat_le n at) (length_now ws) ∙ by (nat_l
 
 pub rest_is : (ws : List (Bor Text)) (n : ℕ) → take (length ws - n) (drop n ws) ≡ drop n ws
 rest_is ws n = take_all (length ws - n) (drop n ws) (let e = length-drop n ws in omega (arith, e))
+
+-- the words behind the `:`
+pub clauses_at : (ws : List (Bor Text)) (words : List Text) (at : ℕ) → bytes_of ws ≡ words → at ≡ colon_place (bytes_of ws) → bytes_of (take (length ws - (at + 1)) (drop (at + 1) ws)) ≡ clause_words words
+clauses_at ws words at are place =
+    ap bytes_of (rest_is ws (at + 1))
+    ∙ sym (drop-map (λ (w : Bor Text). w.now) (at + 1) ws)
+    ∙ ap (λ (n : ℕ). drop (n + 1) (bytes_of ws)) place
+    ∙ ap clause_words are

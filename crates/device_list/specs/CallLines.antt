@@ -2,11 +2,12 @@
 use Rattle.std.specs.Prelude.{ℕ, ◌+◌, ◌-◌, ◌==◌, nat_eq, nat_le, ◌&&◌, ◌||◌, not, Bool, true, false, List, [], ◌∷◌, ◌++◌, length, take, drop, Option, Some, None, is_some, option_map, Result, Ok, Err, codes, slice_get, if◌then◌else◌}
 use Rattle.std.specs.Str.{bytes_eq}
 use Rattle.std.specs.List.{list_any, starts_with}
+use Rattle.std.specs.Map.{lookup}
 use Rattle.text.specs.Words.{is_equals}
 use Rattle.text.specs.Lines.{Text}
 use Rattle.builtins.specs.Builtins.{is_built_in}
 use Rattle.device_list.specs.declared.clauses.Awaited.{Awaited}
-use Rattle.device_list.specs.declared.clauses.Awaited.TheVariants.{Clause, Status, Name, FirstWord, Expected}
+use Rattle.device_list.specs.declared.clauses.Awaited.TheVariants.{Clause, Status, Name, FirstWord, Expected, File}
 use Rattle.device_list.specs.Settings.{Setting, Effect, call_setting}
 use Rattle.device_list.specs.Finishes.{finish_named}
 use Rattle.device_list.specs.declared.finish.BoardEnd.{BoardEnd}
@@ -83,13 +84,13 @@ is_colon word = bytes_eq word (codes ":")
 -- ---- the clauses of a line
 
 -- the clauses so far, and what the next word may be: a clause; the `0` or the `1` behind `always`; the name behind `needs`;
--- the word behind that name, if it is no clause; or the `1` behind `normal`
+-- the word behind that name, if it is no clause; the `1` behind `normal`; or the name of a file behind `runs`
 pub record Clauses : Type 0 where
   pub effect : Effect
   pub awaited : Awaited
 
 abbrev pub no_clause : Clauses
-no_clause = record { effect = record { ends = None; stays = false; always = None; needs = []; normal = false; sets = [] }; awaited = Clause }
+no_clause = record { effect = record { ends = None; stays = false; always = None; needs = []; normal = false; runs = None; sets = [] }; awaited = Clause }
 
 -- the answer of a status
 abbrev pub answer_of : (word : Text) → Option Bool
@@ -122,11 +123,15 @@ with_expected clauses (Some false) =
 abbrev pub has_answer : Effect → Bool
 has_answer effect = is_some effect.always || effect.normal
 
--- how a success ends the run stands once; another word is a setting
+-- how a success goes on stands once: it ends the run, or the text of a file runs
+abbrev pub is_decided : Effect → Bool
+is_decided effect = is_some effect.ends || is_some effect.runs
+
+-- another word is a setting
 abbrev pub with_finish : Clauses → Option BoardEnd → (word : Text) → Option Clauses
 with_finish clauses None word = with_setting clauses (call_setting word)
 with_finish clauses (Some finish) word =
-    once (is_some clauses.effect.ends) (record clauses { effect = record clauses.effect { ends = Some finish } })
+    once (is_decided clauses.effect) (record clauses { effect = record clauses.effect { ends = Some finish } })
 
 -- the clauses after a word that begins one
 abbrev pub with_new : Clauses → (word : Text) → Option Clauses
@@ -135,14 +140,15 @@ with_new clauses word =
     then once clauses.effect.stays (record clauses { effect = record clauses.effect { stays = true } })
     else (if bytes_eq word (codes "always") then once (has_answer clauses.effect) (record clauses { awaited = Status })
     else (if bytes_eq word (codes "normal") then once (has_answer clauses.effect) (record clauses { awaited = Expected })
+    else (if bytes_eq word (codes "runs") then once (is_decided clauses.effect) (record clauses { awaited = File })
     else (if bytes_eq word (codes "needs")
     then once (not (length clauses.effect.needs == 0)) (record clauses { awaited = Name })
-    else with_finish clauses (finish_named word) word)))
+    else with_finish clauses (finish_named word) word))))
 
 -- the words of clauses
 abbrev pub is_clause_word : (word : Text) → Bool
 is_clause_word word = is_some (finish_named word)
-    || (list_any (bytes_eq word) (codes "steady" ∷ codes "always" ∷ codes "needs" ∷ codes "normal" ∷ []))
+    || (list_any (bytes_eq word) (codes "steady" ∷ codes "always" ∷ codes "needs" ∷ codes "normal" ∷ codes "runs" ∷ []))
 
 abbrev pub has_special : (word : Text) → Bool
 has_special word = list_any is_star word || (list_any is_quote word || list_any is_equals word)
@@ -166,29 +172,41 @@ with_first_word clauses word =
     if is_plain word then Some (with_needed clauses word Clause)
     else with_new (record clauses { awaited = Clause }) word
 
+-- the texts of the files that a line may name
+abbrev pub Files : Type 0
+Files = List (Text × Text)
+
+-- the file whose text runs is one of these
+abbrev pub with_file : Files → Clauses → (name : Text) → Option Clauses
+with_file files clauses name =
+    if is_some (lookup (bytes_eq name) files)
+    then Some (record { effect = record clauses.effect { runs = Some name }; awaited = Clause }) else None
+
 -- the clauses after one more word
-abbrev pub taken : Awaited → Clauses → (word : Text) → Option Clauses
-taken Clause clauses word = with_new clauses word
-taken Status clauses word = with_always clauses (answer_of word)
-taken Name clauses word = with_name clauses word
-taken FirstWord clauses word = with_first_word clauses word
-taken Expected clauses word = with_expected clauses (answer_of word)
+abbrev pub taken : Files → Awaited → Clauses → (word : Text) → Option Clauses
+taken files Clause clauses word = with_new clauses word
+taken files Status clauses word = with_always clauses (answer_of word)
+taken files Name clauses word = with_name clauses word
+taken files FirstWord clauses word = with_first_word clauses word
+taken files Expected clauses word = with_expected clauses (answer_of word)
+taken files File clauses word = with_file files clauses word
 
-abbrev pub with_clause : Clauses → (word : Text) → Option Clauses
-with_clause clauses word = taken clauses.awaited clauses word
+abbrev pub with_clause : Files → Clauses → (word : Text) → Option Clauses
+with_clause files clauses word = taken files clauses.awaited clauses word
 
--- `always`, `needs` and `normal` are not the last word
+-- `always`, `needs`, `normal` and `runs` are not the last word
 abbrev pub may_end : Awaited → Bool
 may_end Clause = true
 may_end Status = false
 may_end Name = false
 may_end FirstWord = true
 may_end Expected = false
+may_end File = false
 
-abbrev pub clauses_of : Clauses → List Text → Option Clauses
-clauses_of clauses [] = if may_end clauses.awaited then Some clauses else None
-clauses_of clauses (word ∷ words) =
-    elim (with_clause clauses word) [ None ↦ None | Some next ↦ clauses_of next words ]
+abbrev pub clauses_of : Files → Clauses → List Text → Option Clauses
+clauses_of files clauses [] = if may_end clauses.awaited then Some clauses else None
+clauses_of files clauses (word ∷ words) =
+    elim (with_clause files clauses word) [ None ↦ None | Some next ↦ clauses_of files next words ]
 
 -- An answer that is always the same need not be remembered.
 abbrev pub effect_said : Clauses → Effect
@@ -216,10 +234,11 @@ abbrev pub has_quote : (words : List Text) → Bool
 has_quote words = list_any (λ word. list_any is_quote word) words
 
 -- the words on both sides of the `:`, the name of the command first
-abbrev pub call_between : ℕ → (of_test : Bool) → (pattern clauses : List Text) → Result Call DevicesError
-call_between number of_test [] clauses = Err (BadLine number)
-call_between number of_test (name ∷ pattern) clauses =
-    if has_quote (name ∷ pattern) then Err (BadLine number) else call_with number name of_test (pattern_of pattern) (clauses_of no_clause clauses)
+abbrev pub call_between : Files → ℕ → (of_test : Bool) → (pattern clauses : List Text) → Result Call DevicesError
+call_between files number of_test [] clauses = Err (BadLine number)
+call_between files number of_test (name ∷ pattern) clauses =
+    if has_quote (name ∷ pattern) then Err (BadLine number)
+    else call_with number name of_test (pattern_of pattern) (clauses_of files no_clause clauses)
 
 -- Of a built-in command a line can say one thing: that a failure of `test -e` is nothing wrong.
 abbrev pub is_of_test : (pattern clauses : List Text) → Bool
@@ -227,8 +246,8 @@ is_of_test (name ∷ pattern) (first ∷ second ∷ []) =
     bytes_eq name (codes "test") && bytes_eq first (codes "normal") && bytes_eq second (codes "1")
 is_of_test pattern clauses = false
 
-abbrev pub call_parts : ℕ → (pattern clauses : List Text) → Result Call DevicesError
-call_parts number pattern clauses = call_between number (is_of_test pattern clauses) pattern clauses
+abbrev pub call_parts : Files → ℕ → (pattern clauses : List Text) → Result Call DevicesError
+call_parts files number pattern clauses = call_between files number (is_of_test pattern clauses) pattern clauses
 
 -- how many words come before the first `:`
 abbrev pub colon_place : (words : List Text) → ℕ
@@ -239,19 +258,19 @@ abbrev pub lacks_colon : (words : List Text) → Bool
 lacks_colon words = nat_le (length words) (colon_place words)
 
 -- a line `call PATTERN : CLAUSES`, the words after `call`
-abbrev pub call_line : ℕ → (words : List Text) → Result Call DevicesError
-call_line number words =
+abbrev pub call_line : Files → ℕ → (words : List Text) → Result Call DevicesError
+call_line files number words =
     if lacks_colon words then Err (BadLine number)
-    else call_parts number (take (colon_place words) words) (drop (colon_place words + 1) words)
+    else call_parts files number (take (colon_place words) words) (drop (colon_place words + 1) words)
 
 -- `absent NAME` is `call NAME ** : always 1`
 abbrev pub absent_words : (words : List Text) → List Text
 absent_words words = words ++ codes "**" ∷ codes ":" ∷ codes "always" ∷ codes "1" ∷ []
 
 -- what a line of calls says
-abbrev pub call_said : ℕ → (line first : Text) → (words : List Text) → Result Call DevicesError
-call_said number line first words =
-    call_line number (if bytes_eq first (codes "call") then drop 1 (quoted_words line) else absent_words words)
+abbrev pub call_said : Files → ℕ → (line first : Text) → (words : List Text) → Result Call DevicesError
+call_said files number line first words =
+    call_line files number (if bytes_eq first (codes "call") then drop 1 (quoted_words line) else absent_words words)
 
 abbrev pub is_lone : (name : Text) → (words : List Text) → Bool
 is_lone name [] = not (list_any is_equals name)

@@ -6,7 +6,7 @@ use Rattle.std.specs.Result.{result_ok}
 use Rattle.text.specs.Lines.{numbered_lines}
 use Rattle.text.specs.Lines.{Text}
 use Rattle.device_list.specs.Finishes.{first_of}
-use Rattle.device_list.specs.DeviceList.{Effect, Devices, DeviceLine, effect_at, effect_of, device_words, begins_comment, heading_of, line_of, listed}
+use Rattle.device_list.specs.DeviceList.{Effect, Devices, Files, DeviceLine, effect_at, effect_of, device_words, begins_comment, heading_of, line_of, listed, listed_with}
 
 -- the command that a line names, if it names one, in a list without a faulty line
 abbrev pub line_said : ℕ → List Text → Option DeviceLine
@@ -43,6 +43,7 @@ whole_effect (one ∷ more) = Some (record {
   always = one.effect.always;
   needs = one.effect.needs;
   normal = one.effect.normal;
+  runs = one.effect.runs;
   sets = flat_map (λ l. l.effect.sets) (one ∷ more);
 })
 
@@ -55,7 +56,7 @@ LinesAreJoined = (text : Text) (devices : Devices) → listed text ≡ Ok device
 
 -- a command that only succeeds or fails
 abbrev pub quiet : Effect
-quiet = record { ends = None; stays = false; always = None; needs = []; normal = false; sets = [] }
+quiet = record { ends = None; stays = false; always = None; needs = []; normal = false; runs = None; sets = [] }
 
 abbrev pub is_name_alone : Text → Bool
 is_name_alone line = nat_le (length (device_words line)) 1
@@ -65,3 +66,10 @@ abbrev pub NamesAreQuiet : Type 0
 NamesAreQuiet = (text : Text) (devices : Devices) → listed text ≡ Ok devices →
     list_all (λ l. is_name_alone l.1) (numbered_lines text) ≡ true
     → (name : Text) (words : List Text) (effect : Effect) → effect_of devices name words ≡ Some effect → effect ≡ quiet
+
+-- ---- files
+
+-- A list that is accepted without files is accepted with any, and says the same.
+abbrev pub FilesChangeNothing : Type 0
+FilesChangeNothing = (files : Files) (text : Text) (devices : Devices) → listed text ≡ Ok devices →
+    listed_with files text ≡ Ok (record devices { files = files })

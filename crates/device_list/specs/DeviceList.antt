@@ -11,7 +11,7 @@ use Rattle.builtins.specs.Builtins.{is_built_in}
 use Rattle.commands.specs.KnownCommands.{known_of}
 use Rattle.commands.specs.Computed.{Computed, computes}
 pub use Rattle.device_list.specs.Settings.{LeftSide, Variable, WordAt, LastWord, RightSide, Literal, ValueAt, LastValue, Setting, Effect, is_variable, is_decimal, word_of_call, left_side, setting, settings}
-pub use Rattle.device_list.specs.CallLines.{Pattern, Call, first_fitting, call_said, is_call}
+pub use Rattle.device_list.specs.CallLines.{Pattern, Call, Files, first_fitting, call_said, is_call}
 use Rattle.device_list.specs.Finishes.{finish_named, first_finish}
 use Rattle.device_list.specs.declared.finish.BoardEnd.{BoardEnd}
 use Rattle.device_list.specs.declared.devices_error.DevicesError.{DevicesError}
@@ -25,13 +25,15 @@ abbrev pub effect_in : Effects → Text → Option Effect
 effect_in effects name = lookup (bytes_eq name) effects
 
 -- what a list says of commands by their names, what its `sub` lines say of the calls of a name, and what its lines of calls
--- say of those that fit a pattern; which commands are computed, each once, and whether the answers of `test -e` stay
+-- say of those that fit a pattern; which commands are computed, each once, and whether the answers of `test -e` stay; and
+-- the files whose texts may run, each with its text
 pub record Devices : Type 0 where
   pub commands : Effects
   pub subs : List (Text × Effects)
   pub calls : List (Text × List (Pattern × Effect))
   pub known : List Text
   pub test_stays : Bool
+  pub files : Files
 
 -- what the lines of a name say, or its `sub` lines of a first word
 abbrev pub effect_at : Devices → (name : Text) → (word : Option Text) → Option Effect
@@ -70,6 +72,10 @@ abbrev pub computed_by : Devices → (name : Text) → (words : List Text) → O
 computed_by devices name words =
     if list_any (bytes_eq name) devices.known
     then elim (known_of name) [ Some known ↦ computes known words | None ↦ None ] else None
+
+-- the text of a file
+abbrev pub file_in : Devices → (name : Text) → Option Text
+file_in devices name = lookup (bytes_eq name) devices.files
 
 -- whether a line names the command
 abbrev pub is_listed : Devices → Text → Bool
@@ -140,7 +146,7 @@ pub record DeviceLine : Type 0 where
 abbrev pub line_with : ℕ → Heading → Option (List Setting) → Result DeviceLine DevicesError
 line_with number h None = Err (BadLine number)
 line_with number h (Some sets) = if is_built_in h.name then Err (BuiltIn number)
-    else Ok (record { name = h.name; word = h.word; effect = record { ends = h.ends; stays = h.stays; always = None; needs = []; normal = false; sets = sets } })
+    else Ok (record { name = h.name; word = h.word; effect = record { ends = h.ends; stays = h.stays; always = None; needs = []; normal = false; runs = None; sets = sets } })
 
 -- a line with the first word of its calls is a `sub` line
 abbrev pub line_of : ℕ → Heading → Result DeviceLine DevicesError
@@ -168,6 +174,7 @@ joint before more = record {
   always = before.always;
   needs = before.needs;
   normal = before.normal;
+  runs = before.runs;
   sets = before.sets ++ more.sets;
 }
 
@@ -238,7 +245,7 @@ after_words devices number line [] = Ok devices
 after_words devices number line (first ∷ words) =
     if begins_comment first then Ok devices
     else (if has_nul line then Err (BadLine number)
-    else (if is_call first words then after_call devices (call_said number line first words)
+    else (if is_call first words then after_call devices (call_said devices.files number line first words)
     else after_known devices (known_named first words) (is_steady_test first words)
     (line_of number (heading_of first words))))
 
@@ -256,7 +263,7 @@ listed_lines devices (l ∷ lines) =
 
 -- only commands by their names
 abbrev pub only : Effects → Devices
-only commands = record { commands = commands; subs = []; calls = []; known = []; test_stays = false }
+only commands = record { commands = commands; subs = []; calls = []; known = []; test_stays = false; files = [] }
 
 -- UTF-8's byte order mark, which some editors write in front of a text
 abbrev pub byte_order_mark : Text
@@ -265,9 +272,19 @@ byte_order_mark = 239 ∷ 187 ∷ 191 ∷ []
 abbrev pub is_marked : Text → Bool
 is_marked text = starts_with nat_eq text byte_order_mark
 
--- The commands that a device list names, or its first fault. The mark would be part of the first word.
+-- no command, and the files that lines may name
+abbrev pub with_files : Files → Devices
+with_files files = record (only []) { files = files }
+
+-- The commands that a device list names, or its first fault, if its lines may name these files. The mark would be part of the
+-- first word.
+abbrev pub listed_with : Files → Text → Result Devices DevicesError
+listed_with files text =
+    if is_marked text then Err ByteOrderMark else listed_lines (with_files files) (numbered_lines text)
+
+-- the same without files
 abbrev pub listed : Text → Result Devices DevicesError
-listed text = if is_marked text then Err ByteOrderMark else listed_lines (only []) (numbered_lines text)
+listed text = listed_with [] text
 
 -- ---- a list as if each of its lines said `steady`
 

@@ -1,9 +1,9 @@
 -- What reading a device list answers.
-use Rattle.std.specs.Prelude.{◌≡◌, ℕ, Result, Ok, Err}
+use Rattle.std.specs.Prelude.{◌≡◌, ℕ, [], Result, Ok, Err}
 use Rattle.text.specs.Lines.{Text}
 use Rattle.device_list.specs.CallLines.{Call}
 use Rattle.device_list.specs.CommandsShown.{said_shown}
-use Rattle.device_list.specs.DeviceList.{Devices, after_line, listed}
+use Rattle.device_list.specs.DeviceList.{Devices, Files, after_line, listed_with}
 use Rattle.device_list.specs.declared.call_line.Call.{Call as CallRead}
 use Rattle.device_list.specs.declared.devices_error.DevicesError.{DevicesError}
 use Rattle.device_list.specs.declared.devices_error.DevicesError.TheVariants.{BadLine, BuiltIn, ByteOrderMark, Memory}
@@ -28,9 +28,13 @@ SaysCall said (Err ByteOrderMark) = said ≡ Err ByteOrderMark
 SaysCall said (Err Memory) = Unit {0}
 
 -- The commands of the list, or its first fault; memory may run out before that is known.
+abbrev pub IsListedWith : Files → Text → Result Devices DevicesError → Type 0
+IsListedWith files text (Ok devices) = listed_with files text ≡ Ok devices
+IsListedWith files text (Err (BadLine n)) = listed_with files text ≡ Err (BadLine n)
+IsListedWith files text (Err (BuiltIn n)) = listed_with files text ≡ Err (BuiltIn n)
+IsListedWith files text (Err ByteOrderMark) = listed_with files text ≡ Err ByteOrderMark
+IsListedWith files text (Err Memory) = Unit {0}
+
+-- the same without files
 abbrev pub IsListed : Text → Result Devices DevicesError → Type 0
-IsListed text (Ok devices) = listed text ≡ Ok devices
-IsListed text (Err (BadLine n)) = listed text ≡ Err (BadLine n)
-IsListed text (Err (BuiltIn n)) = listed text ≡ Err (BuiltIn n)
-IsListed text (Err ByteOrderMark) = listed text ≡ Err ByteOrderMark
-IsListed text (Err Memory) = Unit {0}
+IsListed text result = IsListedWith [] text result

@@ -125,7 +125,7 @@ module _ (kinds : List Kind) where
   words_among devices number line (first ∷ words) =
       if begins_comment first then Ok devices
       else (if has_nul line then Err (BadLine number)
-      else (if has kinds Calls && is_call first words then after_call devices (call_said number line first words)
+      else (if has kinds Calls && is_call first words then after_call devices (call_said devices.files number line first words)
       else after_known devices (known_among first words) (has kinds Steady && is_steady_test first words)
       (said_among number (heading_among first words))))
 
@@ -179,7 +179,7 @@ SaysNothing Sub devices = devices.subs ≡ []
 SaysNothing Settings devices = EachCall (λ effect. effect.sets ≡ []) devices
 SaysNothing Known devices = devices.known ≡ []
 SaysNothing Calls devices =
-    EachCall (λ effect. (effect.always ≡ None) × (effect.needs ≡ []) × (effect.normal ≡ false)) devices × (devices.calls ≡ [])
+    EachCall (λ effect. (effect.always ≡ None) × (effect.needs ≡ []) × (effect.normal ≡ false) × (effect.runs ≡ None)) devices × (devices.calls ≡ [])
 
 -- a `call` line may say something of each kind
 abbrev pub may_say : List Kind → Kind → Bool

@@ -11,3 +11,4 @@ pub mod PlainList
 pub mod Kinds
 pub mod DeviceListAnswers
 pub mod NamedPlaces
+pub mod NamedFiles

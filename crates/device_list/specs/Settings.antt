@@ -26,7 +26,8 @@ pub data RightSide : Type 0 where
 abbrev pub Setting : Type 0
 Setting = LeftSide × RightSide
 
--- what a device command does on success: what it sets in the environment, in order, and how the run ends, if it ends; whether
+-- what a device command does on success: what it sets in the environment, in order, how the run ends, if it ends, and the
+-- file whose text runs then, if there is one; whether
 -- its answers stay: asked again with the same words in one run, it answers as before; the only answer that it has, if it
 -- has one: whether it succeeds; how the words of a call begin, its name first, that has to succeed before: none, if it needs
 -- no call; and whether a failure is what is expected of it
@@ -36,6 +37,7 @@ pub record Effect : Type 0 where
   pub always : Option Bool
   pub needs : List Text
   pub normal : Bool
+  pub runs : Option Text
   pub sets : List Setting
 
 -- ---- the settings of a line

@@ -3,11 +3,12 @@ ghost use Rattle.std.specs.Prelude.{◌≡◌, map, option_map, IfOk};
 ghost use Rattle.std.specs.List.{list_any};
 ghost use Rattle.commands.specs.TextsShown.{texts};
 ghost use Rattle.device_list.specs.CallLines.{colon_place, call_between, call_parts, call_line, absent_words, call_said, is_call, is_of_test, has_quote, is_colon, is_star, first_fitting};
-ghost use Rattle.device_list.specs.CommandsShown.{call_lines_shown, found_shown};
+ghost use Rattle.device_list.specs.CommandsShown.{call_lines_shown, files_shown, found_shown};
 ghost use Rattle.device_list.specs.DeviceListAnswers.{SaysCall};
 
 use crate::clauses::listed_of;
 use crate::device_line::has_equals;
+use crate::device_tables::FileTexts;
 use crate::devices_error::DevicesError;
 use crate::listed::Listed;
 use crate::pattern::{Pattern, pattern_of};
@@ -81,7 +82,7 @@ fn has_colon(words: &[&[u8]]) -> bool
 }
 
 /// How many words come before the first `:`.
-fn colon_place(words: &[&[u8]]) -> usize
+pub(crate) fn colon_place(words: &[&[u8]]) -> usize
     ensures { result ≡ colon_place (map (λ w. w.now) words.now) }
 {
     let mut at = 0;
@@ -97,12 +98,13 @@ fn colon_place(words: &[&[u8]]) -> usize
 /// The line with these words before its `:` and after it. Errors: `BadLine`, `BuiltIn`, `Memory`.
 fn call_between<'a>(
     alloc: Global,
+    files: &FileTexts,
     number: usize,
     of_test: bool,
     pattern: &[&'a [u8]],
     clauses: &[&[u8]],
 ) -> Result<Call<'a>, DevicesError>
-    ensures { SaysCall (call_between number of_test (map (λ w. w.now) pattern.now) (map (λ w. w.now) clauses.now))
+    ensures { SaysCall (call_between (files_shown files.now.entries) number of_test (map (λ w. w.now) pattern.now) (map (λ w. w.now) clauses.now))
         result }
 {
     let [name, words @ ..] = pattern else {
@@ -114,7 +116,7 @@ fn call_between<'a>(
     let Some(pattern) = pattern_of(alloc, words)? else {
         return Err(DevicesError::BadLine(number));
     };
-    let Some(listed) = listed_of(alloc, clauses)? else {
+    let Some(listed) = listed_of(alloc, files, clauses)? else {
         return Err(DevicesError::BadLine(number));
     };
     if has_star(name) {
@@ -144,26 +146,32 @@ fn is_of_test(pattern: &[&[u8]], clauses: &[&[u8]]) -> bool
 /// The line of these parts, about `test` too. Errors: `BadLine`, `BuiltIn`, `Memory`.
 fn call_parts<'a>(
     alloc: Global,
+    files: &FileTexts,
     number: usize,
     pattern: &[&'a [u8]],
     clauses: &[&[u8]],
 ) -> Result<Call<'a>, DevicesError>
-    ensures { SaysCall (call_parts number (map (λ w. w.now) pattern.now) (map (λ w. w.now) clauses.now))
+    ensures { SaysCall (call_parts (files_shown files.now.entries) number (map (λ w. w.now) pattern.now) (map (λ w. w.now) clauses.now))
         result }
 {
     let of_test = is_of_test(pattern, clauses);
-    call_between(alloc, number, of_test, pattern, clauses)
+    call_between(alloc, files, number, of_test, pattern, clauses)
 }
 
 /// What a line `call` says, by the words after that. Errors: `BadLine`, `BuiltIn`, `Memory`.
-fn call_line<'a>(alloc: Global, number: usize, words: &[&'a [u8]]) -> Result<Call<'a>, DevicesError>
-    ensures { SaysCall (call_line number (map (λ w. w.now) words.now)) result }
+fn call_line<'a>(
+    alloc: Global,
+    files: &FileTexts,
+    number: usize,
+    words: &[&'a [u8]],
+) -> Result<Call<'a>, DevicesError>
+    ensures { SaysCall (call_line (files_shown files.now.entries) number (map (λ w. w.now) words.now)) result }
 {
     let at = colon_place(words);
     if words.len() <= at {
         return Err(DevicesError::BadLine(number));
     }
-    call_parts(alloc, number, &words[..at], &words[at + 1..])
+    call_parts(alloc, files, number, &words[..at], &words[at + 1..])
 }
 
 /// The words of the line `call` that a line `absent` stands for.
@@ -182,22 +190,23 @@ fn absent_words<'a>(alloc: Global, words: &[&'a [u8]]) -> Result<Vec<&'a [u8]>, 
 /// What a line of calls says. Errors: `BadLine`, `BuiltIn`, `Memory`.
 pub(crate) fn call_said<'a>(
     alloc: Global,
+    files: &FileTexts,
     number: usize,
     line: &'a [u8],
     first: &[u8],
     behind: &[&'a [u8]],
 ) -> Result<Call<'a>, DevicesError>
-    ensures { SaysCall (call_said number line.now first.now (map (λ w. w.now) behind.now)) result }
+    ensures { SaysCall (call_said (files_shown files.now.entries) number line.now first.now (map (λ w. w.now) behind.now)) result }
 {
     if first == b"call".as_slice() {
         let words = quoted_words(alloc, line)?;
         let [_, behind @ ..] = words.as_slice() else {
             return Err(DevicesError::BadLine(number));
         };
-        return call_line(alloc, number, behind);
+        return call_line(alloc, files, number, behind);
     }
     let words = absent_words(alloc, behind)?;
-    call_line(alloc, number, &words)
+    call_line(alloc, files, number, &words)
 }
 
 /// Whether a line is one of calls: `call` with a `:` among its words, or `absent` with one word that is no

@@ -1,10 +1,11 @@
 //! The clauses of a list's lines of calls.
 ghost use Rattle.std.specs.Prelude.{◌≡◌, not, true, map, option_map, IfOk, OnOk};
-ghost use Rattle.device_list.specs.CallLines.{answer_of, clauses_of, has_answer, effect_said, is_clause_word, is_plain, has_special, may_end, no_clause, with_clause, with_first_word, with_name, with_needed, with_new};
-ghost use Rattle.device_list.specs.CommandsShown.{clauses_shown, listed_shown, IsTaken};
+ghost use Rattle.device_list.specs.CallLines.{answer_of, clauses_of, has_answer, is_decided, effect_said, is_clause_word, is_plain, has_special, may_end, no_clause, with_clause, with_file, with_first_word, with_name, with_needed, with_new};
+ghost use Rattle.device_list.specs.CommandsShown.{clauses_shown, files_shown, listed_shown, IsTaken};
 
 use crate::call_line::{has_star, is_colon};
 use crate::device_line::has_equals;
+use crate::device_tables::FileTexts;
 use crate::finish::{BoardEnd, finish_named};
 use crate::listed::Listed;
 use crate::quotes::has_quote;
@@ -25,6 +26,8 @@ pub(crate) enum Awaited {
     FirstWord,
     /// The `1` behind `normal`.
     Expected,
+    /// The name of a file behind `runs`.
+    File,
 }
 
 /// The clauses so far.
@@ -35,6 +38,7 @@ pub(crate) struct Clauses {
     always: Option<bool>,
     needs: Vec<Vec<u8>>,
     normal: bool,
+    runs: Option<Vec<u8>>,
     sets: Vec<Setting>,
     awaited: Awaited,
 }
@@ -45,7 +49,7 @@ fn may_end(awaited: Awaited) -> bool
 {
     match awaited {
         Awaited::Clause | Awaited::FirstWord => true,
-        Awaited::Status | Awaited::Name | Awaited::Expected => false,
+        Awaited::Status | Awaited::Name | Awaited::Expected | Awaited::File => false,
     }
 }
 
@@ -58,6 +62,7 @@ fn is_clause_word(word: &[u8]) -> bool
         || word == b"always".as_slice()
         || word == b"needs".as_slice()
         || word == b"normal".as_slice()
+        || word == b"runs".as_slice()
 }
 
 /// Whether a word has a byte that no word behind `needs` has.
@@ -107,14 +112,15 @@ impl Clauses {
             always: None,
             needs: Vec::new(alloc),
             normal: false,
+            runs: None,
             sets: Vec::new(alloc),
             awaited: Awaited::Clause,
         }
     }
 
     /// Takes one more word. Returns whether it is a clause, or a part of one.
-    fn add(&mut self, alloc: Global, word: &[u8]) -> Result<bool, AllocError>
-        ensures { IfOk result (IsTaken (with_clause (clauses_shown self.old) word.now) (clauses_shown self.new)) }
+    fn add(&mut self, alloc: Global, files: &FileTexts, word: &[u8]) -> Result<bool, AllocError>
+        ensures { IfOk result (IsTaken (with_clause (files_shown files.now.entries) (clauses_shown self.old) word.now) (clauses_shown self.new)) }
     {
         match self.awaited {
             Awaited::Clause => self.add_new(alloc, word),
@@ -130,7 +136,25 @@ impl Clauses {
                 self.normal = true;
                 Ok(matches!(answer_of(word), Some(false)))
             }
+            Awaited::File => self.add_file(alloc, files, word),
         }
+    }
+
+    /// Takes the name of a file, if there is such a file: its text runs.
+    fn add_file(
+        &mut self,
+        alloc: Global,
+        files: &FileTexts,
+        name: &[u8],
+    ) -> Result<bool, AllocError>
+        ensures { IfOk result (IsTaken (with_file (files_shown files.now.entries) (clauses_shown self.old) name.now) (clauses_shown self.new)) }
+    {
+        if files.contains_key(name) {
+            self.awaited = Awaited::Clause;
+            self.runs = Some(Vec::from_slice(alloc, name)?);
+            return Ok(true);
+        }
+        Ok(false)
     }
 
     /// Takes one more word of the call that is needed.
@@ -174,6 +198,13 @@ impl Clauses {
         self.always.is_some() || self.normal
     }
 
+    /// Whether it was said how a success goes on: it ends the run, or the text of a file runs.
+    fn is_decided(&self) -> bool
+        ensures { result ≡ is_decided (clauses_shown self.now).effect }
+    {
+        self.ends.is_some() || self.runs.is_some()
+    }
+
     /// Takes a word that begins a clause. Returns whether it does.
     fn add_new(&mut self, alloc: Global, word: &[u8]) -> Result<bool, AllocError>
         ensures { IfOk result (IsTaken (with_new (clauses_shown self.old) word.now) (clauses_shown self.new)) }
@@ -191,12 +222,16 @@ impl Clauses {
             self.awaited = Awaited::Expected;
             return Ok(first);
         }
+        if word == b"runs".as_slice() {
+            self.awaited = Awaited::File;
+            return Ok(!self.is_decided());
+        }
         if word == b"needs".as_slice() {
             self.awaited = Awaited::Name;
             return Ok(self.needs.is_empty());
         }
         if let Some(finish) = finish_named(word) {
-            let first = self.ends.is_none();
+            let first = !self.is_decided();
             self.ends = Some(finish);
             return Ok(first);
         }
@@ -217,19 +252,24 @@ impl Clauses {
             always: self.always,
             needs: self.needs,
             normal: self.normal,
+            runs: self.runs,
             sets: self.sets,
         }
     }
 }
 
 /// What the clauses of a line say, if each of its words is one.
-pub(crate) fn listed_of(alloc: Global, words: &[&[u8]]) -> Result<Option<Listed>, AllocError>
+pub(crate) fn listed_of(
+    alloc: Global,
+    files: &FileTexts,
+    words: &[&[u8]],
+) -> Result<Option<Listed>, AllocError>
     ensures { IfOk result (λ l. option_map listed_shown l
-        ≡ option_map effect_said (clauses_of no_clause (map (λ w. w.now) words.now))) }
+        ≡ option_map effect_said (clauses_of (files_shown files.now.entries) no_clause (map (λ w. w.now) words.now))) }
 {
     let mut clauses = Clauses::new(alloc);
     for word in words {
-        if !clauses.add(alloc, word)? {
+        if !clauses.add(alloc, files, word)? {
             return Ok(None);
         }
     }

@@ -1,6 +1,6 @@
 //! Laws of device lists, each the contract of a function that does nothing.
 
-ghost use Rattle.device_list.specs.DeviceLaws.{LinesAreJoined, NamesAreQuiet};
+ghost use Rattle.device_list.specs.DeviceLaws.{FilesChangeNothing, LinesAreJoined, NamesAreQuiet};
 ghost use Rattle.device_list.specs.Kinds.{LinesGoByKinds, ListsGoByKinds, FurtherKindsChangeNothing, KindsAreAll, UnusedKindsSayNothing};
 ghost use Rattle.device_list.specs.PlainList.{PlainListsStand};
 
@@ -54,4 +54,10 @@ pub fn kinds_are_all()
 #[tactic(auto, using(crate::proofs::UnusedKinds::unused_kinds_say_nothing))]
 pub fn unused_kinds_say_nothing()
     ensures { UnusedKindsSayNothing }
+{}
+
+/// A list that is accepted without files is accepted with any, and says the same.
+#[tactic(auto, using(crate::proofs::FileLemmas::files_change_nothing))]
+pub fn files_change_nothing()
+    ensures { FilesChangeNothing }
 {}

@@ -1,7 +1,8 @@
 //! What the lines of a device list say, by the names of the commands.
 ghost use Rattle.std.specs.Prelude.{◌≡◌, [], map, OnOk, IfOk, Some, is_some, option_map, ◌||◌};
-ghost use Rattle.device_list.specs.DeviceList.{only, changed_at, with_fitting, joined_in, joined_behind, joined_by, effect_at, sub_effect, call_effect, fails_normally, line_effect, effect_of, computed_by, with_known, is_listed, after_known, known_named, is_steady_test, line_of, heading_of};
-ghost use Rattle.device_list.specs.CommandsShown.{commands_shown, subs_shown, calls_shown, said_shown, listed_shown, found_shown};
+ghost use Rattle.text.specs.TextsShown.{option_bytes};
+ghost use Rattle.device_list.specs.DeviceList.{file_in, with_files, changed_at, with_fitting, joined_in, joined_behind, joined_by, effect_at, sub_effect, call_effect, fails_normally, line_effect, effect_of, computed_by, with_known, is_listed, after_known, known_named, is_steady_test, line_of, heading_of};
+ghost use Rattle.device_list.specs.CommandsShown.{commands_shown, subs_shown, calls_shown, files_shown, said_shown, listed_shown, found_shown};
 ghost use Rattle.std.specs.List.{list_any};
 ghost use Rattle.std.specs.Map.{lookup};
 ghost use Rattle.std.specs.Str.{bytes_eq};
@@ -38,6 +39,9 @@ const BYTE_ORDER_MARK: [u8; 3] = [0xEF, 0xBB, 0xBF];
 
 /// A map by the names of a list, found by a hash whose key is made from the list.
 pub type ByName<V> = IndexMap<Vec<u8>, V, KeyedHash>;
+
+/// The texts of files, by their names.
+pub type FileTexts = ByName<Vec<u8>>;
 
 /// What the list says of each name.
 type Table = ByName<Listed>;
@@ -80,6 +84,8 @@ pub struct DeviceTables {
     known: Vec<Vec<u8>>,
     /// Whether the answers of `test -e` stay.
     test_stays: bool,
+    /// The texts of files, by their names.
+    files: FileTexts,
 }
 
 /// Adds one more line of calls to the earlier ones with its name. Errors: memory ran out.
@@ -137,7 +143,7 @@ fn is_among(names: &[Vec<u8>], name: &[u8]) -> bool
 
 impl Model for DeviceTables {
     ghost use Rattle.device_list.specs.DeviceList as spec;
-    ghost use Rattle.device_list.specs.CommandsShown.{commands_shown, subs_shown, calls_shown};
+    ghost use Rattle.device_list.specs.CommandsShown.{commands_shown, subs_shown, calls_shown, files_shown};
     ghost use Rattle.commands.specs.TextsShown.{texts};
 
     ghost Value = { spec.Devices };
@@ -148,18 +154,19 @@ impl Model for DeviceTables {
       calls = calls_shown d.calls.entries;
       known = texts d.known.items;
       test_stays = d.test_stays;
+      files = files_shown d.files.entries;
     } };
 }
 
 impl DeviceTables {
     ghost use Rattle.device_list.specs.CommandsShown.{lent_effect};
     ghost use Rattle.commands.specs.ComputedShown.{call_shown};
-    ghost use Rattle.device_list.specs.DeviceListAnswers.{Adds, AddsLine, IsListed};
+    ghost use Rattle.device_list.specs.DeviceListAnswers.{Adds, AddsLine, IsListedWith};
     ghost use Rattle.device_list.specs.NamedPlaces.{IsPlaced, ArePlaced, in_sub, placed_sub, placed_call, placed_line, placed_effect};
 
-    /// A list of no command, whose names will be found by this hash. Takes no memory.
-    fn new(alloc: Global, hasher: KeyedHash) -> Self
-        ensures { result ≡ only [] }
+    /// A list of no command, whose lines may name these files, and whose names will be found by this hash. Takes no memory.
+    fn new(alloc: Global, files: FileTexts, hasher: KeyedHash) -> Self
+        ensures { result ≡ with_files (files_shown files.entries) }
     {
         DeviceTables {
             alloc,
@@ -168,17 +175,19 @@ impl DeviceTables {
             calls: IndexMap::with_hasher(alloc, hasher),
             known: Vec::new(alloc),
             test_stays: false,
+            files,
         }
     }
 
-    /// The commands of a device list, or its first fault: `Devices::parse` says what its lines are.
-    pub fn parse(alloc: Global, text: &[u8]) -> Result<Self, DevicesError>
-        ensures { IsListed text.now result }
+    /// The commands of a device list whose lines may name these files, or its first fault: `Devices::parse` says what
+    /// its lines are.
+    pub fn parse(alloc: Global, text: &[u8], files: FileTexts) -> Result<Self, DevicesError>
+        ensures { IsListedWith (files_shown files.entries) text.now result }
     {
         if text.starts_with(&BYTE_ORDER_MARK) {
             return Err(DevicesError::ByteOrderMark);
         }
-        let mut devices = DeviceTables::new(alloc, KeyedHash::of(text));
+        let mut devices = DeviceTables::new(alloc, files, KeyedHash::of(text));
         for (number, line) in Lines::new(text) {
             if let Err(fault) = devices.add_line(number, line) {
                 drop(devices);
@@ -267,6 +276,14 @@ impl DeviceTables {
         ensures { result ≡ (self.now).test_stays }
     {
         self.test_stays
+    }
+
+    /// The text of a file. Takes no memory.
+    pub fn file(&self, name: &[u8]) -> Option<&[u8]>
+        ensures { option_bytes result ≡ file_in self.now name.now }
+    {
+        let text = self.files.get(name)?;
+        Some(text)
     }
 
     /// Whether the list has a command computed. Takes no memory.
@@ -401,7 +418,7 @@ impl DeviceTables {
             return Err(DevicesError::BadLine(number));
         }
         if is_call(first, behind) {
-            let call = call_said(self.alloc, number, line, first, behind)?;
+            let call = call_said(self.alloc, &self.files, number, line, first, behind)?;
             add_call(self.alloc, &mut self.calls, call)?;
             return Ok(());
         }
@@ -435,7 +452,7 @@ impl DeviceTables {
             return Err(DevicesError::BuiltIn(number));
         }
         let (ends, stays, always, normal) = (heading.ends, heading.stays, None, false);
-        let needs = Vec::new(self.alloc);
+        let (needs, runs) = (Vec::new(self.alloc), None);
         self.add(
             heading.name,
             heading.word,
@@ -445,6 +462,7 @@ impl DeviceTables {
                 always,
                 needs,
                 normal,
+                runs,
                 sets,
             },
         )?;

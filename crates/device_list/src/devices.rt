@@ -2,18 +2,21 @@
 ghost use Rattle.std.specs.Prelude.{◌≡◌, IfSome, option_map};
 ghost use Rattle.std.specs.List.{list_any};
 ghost use Rattle.std.specs.Str.{bytes_eq};
-ghost use Rattle.device_list.specs.DeviceList.{effect_of, fails_normally, computed_by, is_listed, all_steady};
-ghost use Rattle.device_list.specs.DeviceListAnswers.{IsListed};
-ghost use Rattle.device_list.specs.CommandsShown.{lent_effect};
+ghost use Rattle.text.specs.TextsShown.{option_bytes};
+ghost use Rattle.device_list.specs.DeviceList.{effect_of, file_in, fails_normally, computed_by, is_listed, all_steady};
+ghost use Rattle.device_list.specs.DeviceListAnswers.{IsListed, IsListedWith};
+ghost use Rattle.device_list.specs.CommandsShown.{files_shown, lent_effect};
 ghost use Rattle.commands.specs.ComputedShown.{call_shown};
 ghost use Rattle.device_list.specs.DeviceList as spec;
 ghost use Rattle.device_list.specs.NamedPlaces.{ArePlaced, IsPlaced};
 ghost use Rattle.commands.specs.TextsShown.{texts};
 
-use crate::device_tables::{ByName, DeviceTables, Places};
+use crate::device_tables::{ByName, DeviceTables, FileTexts, Places};
 use crate::devices_error::DevicesError;
 use crate::listed::Effect;
 use commands::Computed;
+use indexmap::IndexMap;
+use keyed_hash::KeyedHash;
 use std::alloc::Global;
 use std::marker::Model;
 
@@ -77,12 +80,24 @@ impl Devices {
     /// first faulty line is refused: `BadLine` where it holds NUL, or a further word has no `=`, an
     /// empty variable, one that begins with `-`, or in a `sub` line one that begins with `@` and is no
     /// word of the call; in a line of calls, where a clause is none or is there twice, a quote is not closed or
-    /// stands in no value, the name is missing or holds `*`, `needs` has no name behind it, `normal` no `1`, both `always` and `normal` are there, or `**` is not last; else `BuiltIn` where its name is that of
+    /// stands in no value, the name is missing or holds `*`, `needs` has no name behind it, `normal` no `1`, `runs` no file, both `always` and `normal` are there, or `**` is not last; else `BuiltIn` where its name is that of
     /// a built-in command.
     pub fn parse(alloc: Global, text: &[u8]) -> Result<Self, DevicesError>
         ensures { IsListed text.now result }
     {
-        let tables = DeviceTables::parse(alloc, text)?;
+        Devices::parse_with(
+            alloc,
+            text,
+            IndexMap::with_hasher(alloc, KeyedHash::of(text)),
+        )
+    }
+
+    /// The same of a list whose lines may name these files: a line of calls may have the clause `runs FILE`, and then the
+    /// text of this file runs after a success. A line that names another file is a `BadLine`.
+    pub fn parse_with(alloc: Global, text: &[u8], files: FileTexts) -> Result<Self, DevicesError>
+        ensures { IsListedWith (files_shown files.entries) text.now result }
+    {
+        let tables = DeviceTables::parse(alloc, text, files)?;
         let names = tables.names()?;
         let all_steady = false;
         Ok(Devices {
@@ -167,6 +182,13 @@ impl Devices {
         ensures { result ≡ (self.now).test_stays }
     {
         self.all_steady || self.tables.test_stays()
+    }
+
+    /// The text of a file that may run. Takes no memory.
+    pub fn file(&self, name: &[u8]) -> Option<&[u8]>
+        ensures { option_bytes result ≡ file_in self.now name.now }
+    {
+        self.tables.file(name)
     }
 
     /// Whether the list has a command computed. Takes no memory.

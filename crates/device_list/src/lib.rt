@@ -8,14 +8,17 @@ mod device_line;
 mod device_tables;
 mod devices;
 mod devices_error;
+mod file_names;
 mod finish;
 mod listed;
 mod pattern;
 mod quotes;
 mod setting;
 
+pub use device_tables::FileTexts;
 pub use devices::Devices;
 pub use devices_error::DevicesError;
+pub use file_names::named_files;
 pub use finish::BoardEnd;
 pub use listed::Effect;
 pub use setting::{LeftSide, RightSide, Setting};
