@@ -112,6 +112,18 @@ pub trait Files {
         ensures told { IfTold (told self.old) (told self.new)
             (λ old new. ReadsAll path.now old new result) };
 
+    /// The same of a plain file below a folder, whose path is the first `folder` bytes of the path. What is no plain file,
+    /// and what is reached by a link or by `..`, is not read.
+    ///
+    /// Refusals: `Failed`, `TooLong`, `Memory`.
+    fn read_below(&mut self, alloc: Global, path: &str, folder: usize) -> Result<Vec<u8>, FileFault>
+        ensures count { CountsFault (faults self.old) (faults self.new) result }
+        ensures bound { IfOk result (λ bytes. vec_len bytes ≤ read_limit) }
+        ensures never_short { result ≢ Err Short }
+        ensures lock { locked self.new ≡ locked self.old }
+        ensures told { IfTold (told self.old) (told self.new)
+            (λ old new. ReadsAll path.now old new result) };
+
     /// Reads the `size` bytes from byte `offset` on, and no fewer.
     ///
     /// Refusals: `Failed`, `Short`, `Memory`.

@@ -2,6 +2,7 @@
 //! is not called again after it has failed.
 #![tactic(auto)]
 
+mod below;
 mod boot_partition;
 mod create;
 mod files;

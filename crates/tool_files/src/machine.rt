@@ -3,6 +3,7 @@ ghost use Rattle.std.specs.Prelude.{◌≡◌, ◌≤◌, ◌⊎◌, IfOk, IfErr
 ghost use Rattle.tool_files.specs.FailedReads.{file_fault_of};
 ghost use Rattle.tool_files.specs.declared.files.FileFault.TheVariants.{Failed, Memory};
 
+use crate::below::is_plain_below;
 use crate::boot_partition::Switch;
 use crate::create::is_created;
 use crate::files::{FileFault, Files, LIMIT, LockFault};
@@ -210,6 +211,18 @@ impl<R: rt::Files<File = File> + Clock + AllocGlobal + Clone + Drop, W: Write> F
             return Err(FileFault::TooLong);
         }
         Ok(bytes)
+    }
+
+    fn read_below(
+        &mut self,
+        alloc: Global,
+        path: &str,
+        folder: usize,
+    ) -> Result<Vec<u8>, FileFault> {
+        if !is_plain_below(self.rt, path, folder) {
+            return self.counted(Err(FileFault::Failed));
+        }
+        self.read_all(alloc, path)
     }
 
     fn read_at(

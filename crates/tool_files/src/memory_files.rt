@@ -264,6 +264,25 @@ impl Files for MemoryFiles {
         self.read_all(alloc, path)
     }
 
+    /// There are no links.
+    fn read_below(
+        &mut self,
+        alloc: Global,
+        path: &str,
+        _folder: usize,
+    ) -> Result<Vec<u8>, FileFault>
+        ensures count { CountsFault (faults_of self.old) (faults_of self.new) result }
+        ensures bound { IfOk result (λ bytes. vec_len bytes ≤ read_limit) }
+        ensures never_short { result ≢ Err Short }
+        ensures lock { is_locked self.new ≡ is_locked self.old }
+        ensures told { ReadsAll path.now (memory_files_shown self.old) (memory_files_shown self.new)
+            result }
+        ensures exact { Gives (whole_answer (is_due self.old)
+            (file_at path.now (memory_files_shown self.old).stored)) result }
+    {
+        self.read_all(alloc, path)
+    }
+
     fn read_at(
         &mut self,
         alloc: Global,

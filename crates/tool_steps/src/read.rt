@@ -49,6 +49,25 @@ pub fn read_list<F: Files>(alloc: Global, files: &mut F, path: String) -> Result
     }
 }
 
+/// The same of a plain file below a folder, whose path is the first `folder` bytes of the path.
+pub fn read_text_below<F: Files>(
+    alloc: Global,
+    files: &mut F,
+    path: String,
+    folder: usize,
+) -> Result<Vec<u8>, Fault>
+    ensures count { CountsTold (F.faults files.old) (F.faults files.new) result }
+    ensures lock { F.locked files.new ≡ F.locked files.old }
+    ensures fault { IfErr result IsReadFault }
+    ensures told { IfTold (F.told files.old) (F.told files.new)
+        (λ old new. ReadsText (string_bytes path) old new result) }
+{
+    match files.read_below(alloc, &path, folder) {
+        Ok(text) => Ok(text),
+        Err(fault) => Err(Fault::of_read(path, fault)),
+    }
+}
+
 /// The number of the line that ends without its newline, if there is one: the last line, counted
 /// from 1. An empty text has none.
 fn cut_off_line(text: &[u8]) -> Option<usize>

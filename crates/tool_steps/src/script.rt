@@ -4,7 +4,7 @@ ghost use Rattle.tool_files.specs.Told.{IfTold};
 ghost use Rattle.tool_steps.specs.Faults.{CountsTold, IsScriptReadFault};
 ghost use Rattle.tool_steps.specs.Scripts.{MakesScript, ReadsNamed, ReadsScript};
 
-use crate::read::read_text;
+use crate::read::{read_text, read_text_below};
 use script_file::script_in;
 use std::alloc::Global;
 use tool_files::Files;
@@ -39,6 +39,26 @@ pub fn read_script<F: Files>(alloc: Global, files: &mut F, path: String) -> Resu
         return Err(Fault::Memory);
     };
     let bytes = read_text(alloc, files, path)?;
+    script_of(alloc, name, &bytes)
+}
+
+/// The same of a plain file below a folder, whose path is the first `folder` bytes of the path.
+pub fn read_script_below<F: Files>(
+    alloc: Global,
+    files: &mut F,
+    path: String,
+    folder: usize,
+) -> Result<Vec<u8>, Fault>
+    ensures count { CountsTold (F.faults files.old) (F.faults files.new) result }
+    ensures lock { F.locked files.new ≡ F.locked files.old }
+    ensures fault { IfErr result IsScriptReadFault }
+    ensures told { IfTold (F.told files.old) (F.told files.new)
+        (λ old new. ReadsScript (string_bytes path) old new result) }
+{
+    let Ok(name) = path.clone() else {
+        return Err(Fault::Memory);
+    };
+    let bytes = read_text_below(alloc, files, path, folder)?;
     script_of(alloc, name, &bytes)
 }
 
