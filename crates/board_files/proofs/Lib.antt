@@ -1,0 +1,3 @@
+mod NamedFilesExamples
+pub mod FileLemmas
+pub mod BoardLemmas

@@ -1,0 +1,7 @@
+use Rattle.std.specs.List.{each_same}
+use Rattle.board_files.proofs.FileLemmas.{files-copied}
+use Rattle.board_files.proofs.named_files.copied_texts.Goals as goal
+
+pub returns : goal.returns
+returns c =
+    files-copied _ (λ v w same. each_same v.items w.items same.0) c.args.texts.now.entries c.in_ok-clone.field-0.entries c.in_ok-clone.ensures.cases
