@@ -1,2 +1,3 @@
+pub mod FileEndLemmas
 pub mod TreeByShellLemmas
 mod TreesByShellExamples

@@ -1,10 +1,11 @@
 -- What becomes of a text, by the shell that reads it.
-use Rattle.std.specs.Prelude.{ℕ, List, Bool, true, false, not, ◌&&◌, Option, Some, None}
-use Rattle.std.specs.List.{list_any}
+use Rattle.std.specs.Prelude.{ℕ, ◌+◌, ◌-◌, ◌==◌, List, [], ◌++◌, length, take, drop, Bool, true, false, not, ◌&&◌, if◌then◌else◌, Option, Some, None, is_some, option_map, codes}
+use Rattle.std.specs.List.{list_any, suffix_len}
 use Rattle.hushlang.specs.Tree as tree
-use Rattle.hushlang.specs.Tree.{Script}
+use Rattle.hushlang.specs.Tree.{Script, AndOr}
 use Rattle.hushlang.specs.Trees.{tree_of}
-use Rattle.hushlang_uboot.specs.ReadBytes.{is_newline}
+use Rattle.hushlang_uboot.specs.ReadBytes.{has_bytes, is_newline}
+use Rattle.hushlang_old.specs.OldTokens.{is_no_newline}
 use Rattle.hushlang_old.specs.OldTrees.{old_tree_of, has_fault, lacks_end}
 use Rattle.hushlang_modern.specs.ModernTrees as modern
 use Rattle.hushlang_modern.specs.ModernTrees.{ModernText, modern_text}
@@ -69,3 +70,69 @@ started_in Profile text = script_or Unread (tree_of text)
 started_in Old2023 text = old_started false text
 started_in Old2025 text = old_started true text
 started_in Modern2025 text = modern_read (modern_text text)
+
+-- ---- the end of a file's text in U-Boot's old shell
+
+-- a text behind whose last newline are so many bytes: what is before that newline, and what is behind it
+abbrev pub parted_at : (behind : ℕ) → List ℕ → Option (List ℕ × List ℕ)
+parted_at behind text =
+    if behind == length text then None
+    else Some (take (length text - (behind + 1)) text, drop (length text - behind) text)
+
+-- a text at its last newline, if it has one
+abbrev pub parted : List ℕ → Option (List ℕ × List ℕ)
+parted text = parted_at (suffix_len is_no_newline text) text
+
+-- whether a text that is parted so has one newline, as its last byte: then none is added at its end (`parse_string_outer`)
+abbrev pub is_one_ended : (before behind : List ℕ) → Bool
+is_one_ended before behind = not (has_bytes behind) && not (list_any is_newline before)
+
+abbrev pub is_empty : Script → Bool
+is_empty tree.Empty = true
+is_empty (tree.Runs list more) = false
+
+-- whether a text has a tree, and no command
+abbrev pub is_blank : Option Script → Bool
+is_blank None = false
+is_blank (Some script) = is_empty script
+
+-- whether the newline behind these bytes ends a line: a word `fi` on a line of its own is a fault then, since no quotes and no compound
+-- command are open there, and no backslash is straight before the newline
+abbrev pub is_closed : (newer : Bool) → (before : List ℕ) → Bool
+is_closed newer before =
+    is_some (old_tree_of newer before) && not (is_some (old_tree_of newer (before ++ codes "\nfi")))
+
+abbrev pub ends_parted : (newer : Bool) → Option (List ℕ × List ℕ) → Bool
+ends_parted newer None = false
+ends_parted newer (Some parts) =
+    not (is_one_ended parts.0 parts.1) && is_blank (old_tree_of newer parts.1) && is_closed newer parts.0
+
+-- whether the last line of a text has no command, and is not all of it
+abbrev pub ends_empty : (newer : Bool) → List ℕ → Bool
+ends_empty newer text = ends_parted newer (parted text)
+
+-- an assignment of nothing: it sets the status to 0
+abbrev pub nothing : AndOr
+nothing = tree.Starts (tree.Assign []) tree.Alone
+
+abbrev pub with_nothing : Script → Script
+with_nothing tree.Empty = tree.Runs nothing tree.Empty
+with_nothing (tree.Runs list more) = tree.Runs list (with_nothing more)
+
+-- The status of a text that ends by itself is that of its last line (`parse_stream_outer`), and a line without a command gives 0
+-- (`run_list_real`). After an `exit` of 2025.01 no further line is read
+abbrev pub with_end : (newer : Bool) → (text : List ℕ) → Script → Script
+with_end newer text script = if not (is_empty script) && ends_empty newer text then with_nothing script else script
+
+abbrev pub old_sourced : (newer : Bool) → List ℕ → TextRead
+old_sourced newer text =
+    script_or (fails_when (ends_open newer text)) (option_map (with_end newer text) (old_tree_of newer text))
+
+-- the text of a file that `source` runs (`run_command_list`). U-Boot's old shell reads it a line at a time, as that of `bootcmd`,
+-- and what it does behind a fault is not followed; if it finds the end while a compound command is open, and had nothing to run
+-- before, the status is 1
+abbrev pub sourced_in : Shell → List ℕ → TextRead
+sourced_in Profile text = script_or Unread (tree_of text)
+sourced_in Old2023 text = old_sourced false text
+sourced_in Old2025 text = old_sourced true text
+sourced_in Modern2025 text = modern_read (modern_text text)
