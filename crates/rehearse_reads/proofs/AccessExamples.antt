@@ -20,12 +20,14 @@ use Rattle.rehearse_reads.specs.Accesses.{accesses}
 
 -- ---- what they are computed with
 
--- `load` is asked each time, `stay` once, `set` sets the variable b, and `boot` needs `load`
+-- `load` is asked each time, `stay` once, `set` sets the variable b, `file` runs a file, and `boot` needs `load`
 abbrev devices : Devices
 devices = record (only ((codes "load", quiet) ∷ (codes "stay", record quiet { stays = true })
-    ∷ (codes "set", record quiet { sets = (Variable (codes "b"), Literal (codes "1")) ∷ [] }) ∷ [])) {
+    ∷ (codes "set", record quiet { sets = (Variable (codes "b"), Literal (codes "1")) ∷ [] })
+    ∷ (codes "file", record quiet { runs = Some (codes "boot.scr") }) ∷ (codes "none", record quiet { runs = Some (codes "none") }) ∷ [])) {
       calls = (codes "boot", (record { words = []; more = true }, record quiet { needs = codes "load" ∷ [] }) ∷ []) ∷ [];
       known = codes "env" ∷ [];
+      files = (codes "boot.scr", codes "echo $a") ∷ [];
     }
 
 abbrev limits : Shell → Limits
@@ -151,6 +153,26 @@ sets_on_success = refl
 sets_nothing_on_failure : reached_in Profile (before (Failure ∷ [])) (codes "set") ≡ Writes Status ∷ []
 unfolding reached_in
 sets_nothing_on_failure = refl
+
+-- ---- texts of files
+
+-- the status before the command, that of the command, the text with the one before, and the status with which it ended; no variable is
+-- read for the text
+file_that_runs : reached (codes "file") ≡ Reads Status ∷ Writes Status ∷ Reads Status ∷ Writes Status ∷ Reads a ∷ Writes Status ∷ Reads Status ∷ []
+unfolding reached_in
+file_that_runs = refl
+
+file_after_a_failure : reached_in Profile (before (Failure ∷ [])) (codes "file") ≡ Reads Status ∷ Writes Status ∷ Reads Status ∷ []
+unfolding reached_in
+file_after_a_failure = refl
+
+file_without_an_outcome : reached_in Profile (before []) (codes "file") ≡ []
+unfolding reached_in
+file_without_an_outcome = refl
+
+file_that_is_not_there : reached (codes "none") ≡ Reads Status ∷ Writes Status ∷ Reads Status ∷ Writes Status ∷ Writes Status ∷ []
+unfolding reached_in
+file_that_is_not_there = refl
 
 -- ---- where the status decides
 

@@ -7,11 +7,11 @@ use Rattle.rehearse_terms.specs.State.{Text, State, LoggedCommand, answer_in}
 use Rattle.device_list.specs.DeviceList.{Effect}
 use Rattle.rehearse_rules.specs.Needs.{is_met, effect_now}
 use Rattle.rehearse_rules.proofs.NeedsLemmas.{now_same}
-use Rattle.rehearse_rules.specs.Execution.{Limits, Answer, Ended, CutDevices, CutSteps, Finished, Request, request_of, begin, finish, with_outcome, take_outcome, told, told_again, tell_or_take, outcome_when, device, set_environment, logged, succeeds}
+use Rattle.rehearse_rules.specs.Execution.{Limits, Answer, Normal, Ended, CutDevices, CutSteps, Finished, Request, request_of, begin, finish, with_outcome, take_outcome, told, told_again, tell_or_take, outcome_when, device, set_environment, logged, succeeds}
 use Rattle.rehearse_rules.specs.Runs.{state_of}
 use Rattle.rehearse_rules.proofs.TakenOutcomes.{Track-of, KeepsAll}
-use Rattle.rehearse_reads.specs.Keys.{Key, Status, AnswerTo, Succeeded, Access, AreAmong, all_read, ReadsWithin, known_after}
-use Rattle.rehearse_reads.specs.Accesses.{begun_accesses, needs_reads, listed_accesses, told_reads, outcome_accesses, taken_accesses, answer_accesses, device_accesses, names_written}
+use Rattle.rehearse_reads.specs.Keys.{Key, Status, AnswerTo, Succeeded, Access, IsAmong, AreAmong, all_read, ReadsWithin, known_after}
+use Rattle.rehearse_reads.specs.Accesses.{begun_accesses, needs_reads, listed_accesses, told_reads, handing_reads, outcome_writes, outcome_accesses, taken_accesses, answer_accesses, device_accesses, names_written}
 use Rattle.rehearse_reads.specs.Alike.{devices_of, AreAbreast, IsAlike, cut_here, beyond}
 use Rattle.rehearse_reads.proofs.AccessLemmas.{read_first, read_then}
 use Rattle.rehearse_reads.proofs.AbreastLemmas.{near_moved, near_begun, near_logged, near_set}
@@ -65,12 +65,21 @@ module _ (limits : Limits) (i j : ℕ) (k l : List LoggedCommand) where
   finish_alike known (Some finish) name s t near = ended_alike limits i j k l known (Finished finish name) s t near
   finish_alike known None name s t near = normal_alike limits i j k l known s t near
 
-  with_alike : (request : Request) (d : Outcome) (known : List Key) (s t : State) → Near known s t → Is (known_after known (outcome_accesses d request)) (with_outcome d request s) (with_outcome d request t)
-  with_alike request Success known s t near =
+  writes_alike : (request : Request) (d : Outcome) (known : List Key) (s t : State) → Near known s t → Is (known_after known (outcome_writes d request)) (with_outcome d request s) (with_outcome d request t)
+  writes_alike request Success known s t near =
       let sets : List (Text × Text) = sets_in request.words request.effect.sets in
       finish_alike (known_after (Status ∷ known) (names_written (map (λ e. e.0) sets))) request.effect.ends request.name (set_environment sets (logged Success request s)) (set_environment sets (logged Success request t))
       (near_set limits i j k l (Status ∷ known) (logged Success request s) (logged Success request t) sets (near_logged limits i j k l known s t Success request near))
-  with_alike request Failure known s t near = normal_alike limits i j k l (Status ∷ known) (logged Failure request s) (logged Failure request t) (near_logged limits i j k l known s t Failure request near)
+  writes_alike request Failure known s t near = normal_alike limits i j k l (Status ∷ known) (logged Failure request s) (logged Failure request t) (near_logged limits i j k l known s t Failure request near)
+
+  -- the status that is kept for the text of a file
+  handing_alike : (runs : Option Text) (known : List Key) (xs : List Access) (a b : Answer) → Is (known_after known xs) a b → Is (known_after known (handing_reads runs ++ xs)) a b
+  handing_alike None known xs a b h = h
+  handing_alike (Some name) known xs a b h = h
+
+  with_alike : (request : Request) (d : Outcome) (known : List Key) (s t : State) → Near known s t → Is (known_after known (outcome_accesses d request)) (with_outcome d request s) (with_outcome d request t)
+  with_alike request d known s t near =
+      handing_alike request.effect.runs known (outcome_writes d request) (with_outcome d request s) (with_outcome d request t) (writes_alike request d known s t near)
 
   pub take_alike : (request : Request) (w : OutcomeWord) (known : List Key) (s t : State) → Near known s t → Is (known_after known (taken_accesses request w)) (take_outcome request w s) (take_outcome request w t)
   take_alike request [] known s t near = dry_alike limits i j k l known s t near
@@ -133,6 +142,26 @@ module _ (limits : Limits) (i j : ℕ) (k l : List LoggedCommand) where
       let room : Bool = nat_lt (length s.log) limits.device_bound in
       device_by (told request s.log) (told request t.log) request known s t near room (nat_lt (length t.log) limits.device_bound) refl refl
       (λ e. told_alike known s t request near (asked_within known request s room w e))
+
+  -- ---- the status is known where a command that may hand over has its outcome
+
+  outcome_knows : (known : List Key) (request : Request) (name : Text) → request.effect.runs ≡ Some name → (d : Outcome) → ReadsWithin known (outcome_accesses d request) → IsAmong Status known
+  outcome_knows known request name e d w = (subst (λ (runs : Option Text). ReadsWithin known (handing_reads runs ++ outcome_writes d request)) e w).0
+
+  taken_knows : (known : List Key) (request : Request) (name : Text) → request.effect.runs ≡ Some name → (v : OutcomeWord) (s u : State) → take_outcome request v s ≡ Normal u → ReadsWithin known (taken_accesses request v) → IsAmong Status known
+  taken_knows known request name e [] s u f w = absurd (let g = f in cc)
+  taken_knows known request name e (d ∷ rest) s u f w = outcome_knows known request name e d w
+
+  told_knows : (known : List Key) (request : Request) (name : Text) → request.effect.runs ≡ Some name → (o : Option Bool) (s u : State) → tell_or_take o request s ≡ Normal u → ReadsWithin known (answer_accesses o request s) → IsAmong Status known
+  told_knows known request name e (Some success) s u f w = outcome_knows known request name e (outcome_when success) w
+  told_knows known request name e None s u f w = taken_knows known request name e s.word s u f w
+
+  pub asked_knows : (known : List Key) (request : Request) (name : Text) → request.effect.runs ≡ Some name → (s u : State) → device limits request s ≡ Normal u → ReadsWithin known (device_accesses limits request s) → IsAmong Status known
+  asked_knows known request name e s u = by (nat_lt (length s.log) limits.device_bound)
+    where
+      by : (b : Bool) → elim b [ true ↦ tell_or_take (told request s.log) request s | false ↦ Ended CutDevices s ] ≡ Normal u → ReadsWithin known (elim b [ true ↦ all_read (told_reads request) ++ answer_accesses (told request s.log) request s | false ↦ [] ]) → IsAmong Status known
+      by true f w = told_knows known request name e (told request s.log) s u f (read_then known (told_reads request) (answer_accesses (told request s.log) request s) w)
+      by false f w = absurd (let g = f in cc)
 
   -- ---- a command of the list, whose need is met or not
 

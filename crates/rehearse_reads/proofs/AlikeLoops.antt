@@ -8,10 +8,10 @@ use Rattle.rehearse_terms.specs.declared.shell.Shell.{Shell}
 use Rattle.rehearse_terms.specs.declared.shell.Shell.TheVariants.{Profile, Old2023, Old2025, Modern2025}
 use Rattle.rehearse_rules.specs.Parameters.{parameters_in}
 use Rattle.rehearse_rules.specs.ByShell.{assigned_in, status_of_nothing, status_of_no_block, status_of_loop, follows_turns, status_of_skipped, left_status}
-use Rattle.rehearse_rules.specs.Execution.{Limits, Answer, Normal, Ended, CutSteps, Size, go_on, set_status, set_local, assign, assign_local, turns, begin_turn, for_each, holds, turns_of, for_begun, block_skipped, Unsupported, Exit, Dry, compound, compound_end, compound_left}
+use Rattle.rehearse_rules.specs.Execution.{Limits, Answer, Normal, Ended, CutSteps, Size, go_on, set_status, set_local, assign, assign_local, turns, begin_turn, for_each, holds, turns_of, for_begun, block_skipped, Unsupported, Exit, Dry, End, compound, compound_end, compound_left, sourced, left_to_prompt}
 use Rattle.rehearse_rules.proofs.TakenOutcomes.{KeepsAll, Keeps-turns, Keeps-for, after_condition, Keeps-after_condition}
 use Rattle.rehearse_reads.specs.Keys.{Key, Status, Local, Access, Reads, ReadsWithin, known_after}
-use Rattle.rehearse_reads.specs.Accesses.{behind, status_written, word_reads, local_accesses, assign_accesses, turns_accesses, turn_accesses, each_accesses, for_accesses, nothing_accesses, modern_accesses, turns_of_accesses, left_accesses, compound_accesses}
+use Rattle.rehearse_reads.specs.Accesses.{behind, status_written, word_reads, local_accesses, assign_accesses, turns_accesses, turn_accesses, each_accesses, for_accesses, nothing_accesses, modern_accesses, turns_of_accesses, left_accesses, compound_accesses, prompt_accesses, sourced_accesses}
 use Rattle.rehearse_reads.specs.Alike.{AreAbreast, IsAlike, same, cut_here, beyond}
 use Rattle.rehearse_reads.proofs.AccessLemmas.{within_then, read_first, read_then, within_first}
 use Rattle.rehearse_reads.proofs.AbreastLemmas.{near_status, near_statuses, near_local, near_assigned}
@@ -170,6 +170,46 @@ module _ (limits : Limits) (i j : ℕ) (k l : List LoggedCommand) where
 
   pub Alike-compound : (f : State → Answer) (u : State → List Access) → AlwaysDoes f u → AlwaysDoes (λ x. compound limits.shell (f x)) (λ x. u x ++ compound_accesses limits.shell (f x))
   Alike-compound f u does known s t near w = compound_then known (u s) (f s) (f t) (does known s t near) w
+
+  -- ---- texts of files
+
+  sourced_keys : (shell : Shell) (known : List Key) (a : Answer) → prompt_accesses shell ≡ [] → known_after known (sourced_accesses shell a) ≡ known
+  sourced_keys shell known (Normal u) e = refl
+  sourced_keys shell known (Exit u) e = ap (known_after known) e
+  sourced_keys shell known (Ended ending u) e = refl
+  sourced_keys shell known (Dry u) e = refl
+
+  left_alike : (shell : Shell) (known : List Key) (a b : Answer) → prompt_accesses shell ≡ [] → Is known a b → Is (known_after known (sourced_accesses shell a)) a b
+  left_alike shell known a b e h = subst (λ (ks : List Key). Is ks a b) (sym (sourced_keys shell known a e)) h
+
+  prompt_alike : (known : List Key) (a b : Answer) → ReadsWithin known (sourced_accesses Modern2025 a) → Is known a b → Is (known_after known (sourced_accesses Modern2025 a)) (left_to_prompt a) (left_to_prompt b)
+  prompt_alike known (Normal u) b w (same h) = subst (λ (x : Answer). Is known (Normal u) (left_to_prompt x)) (sym h.is) (normal_alike limits i j k l known u h.there h.abreast)
+  prompt_alike known (Normal u) b w (cut_here h) = absurd h
+  prompt_alike known (Normal u) b w (beyond h) = beyond h
+  prompt_alike known (Exit u) b w (same h) =
+      let t : State = h.there in
+      subst (λ (x : Answer). Is known (Ended (End u.memory.status) u) (left_to_prompt x)) (sym h.is)
+      (subst (λ (n : ℕ). Is known (Ended (End u.memory.status) u) (Ended (End n) t)) (sym (h.abreast.keys Status w.0)) (ended_alike limits i j k l known (End u.memory.status) u t h.abreast))
+  prompt_alike known (Exit u) b w (cut_here h) = absurd h
+  prompt_alike known (Exit u) b w (beyond h) = beyond h
+  prompt_alike known (Ended ending u) b w (same h) = subst (λ (x : Answer). Is known (Ended ending u) (left_to_prompt x)) (sym h.is) (ended_alike limits i j k l known ending u h.there h.abreast)
+  prompt_alike known (Ended ending u) b w (cut_here h) = cut_here h
+  prompt_alike known (Ended ending u) b w (beyond h) = beyond h
+  prompt_alike known (Dry u) b w (same h) = subst (λ (x : Answer). Is known (Dry u) (left_to_prompt x)) (sym h.is) (dry_alike limits i j k l known u h.there h.abreast)
+  prompt_alike known (Dry u) b w (cut_here h) = absurd h
+  prompt_alike known (Dry u) b w (beyond h) = beyond h
+
+  pub sourced_alike : (shell : Shell) (known : List Key) (a b : Answer) → ReadsWithin known (sourced_accesses shell a) → Is known a b → Is (known_after known (sourced_accesses shell a)) (sourced shell a) (sourced shell b)
+  sourced_alike Profile known a b w h = left_alike Profile known a b refl h
+  sourced_alike Old2023 known a b w h = left_alike Old2023 known a b refl h
+  sourced_alike Old2025 known a b w h = left_alike Old2025 known a b refl h
+  sourced_alike Modern2025 known a b w h = prompt_alike known a b w h
+
+  pub Alike-sourced : (f : State → Answer) (u : State → List Access) → AlwaysDoes f u → AlwaysDoes (λ x. sourced limits.shell (f x)) (λ x. u x ++ sourced_accesses limits.shell (f x))
+  Alike-sourced f u does known s t near w =
+      let last : List Access = sourced_accesses limits.shell (f s) in
+      after_then limits i j k l known (u s) last (sourced limits.shell (f s)) (sourced limits.shell (f t))
+      (sourced_alike limits.shell (known_after known (u s)) (f s) (f t) (within_then known (u s) last w) (does known s t near (within_first known (u s) last w)))
 
   pub Alike-turns_of : (name : Text) (b : State → Answer) (v : State → List Access) → AlwaysDoes b v → KeepsAll limits b → (fs : List Text) → AlwaysDoes (turns_of limits.shell name b fs) (turns_of_accesses limits.shell name b v fs)
   Alike-turns_of name b v h kb fs = by (follows_turns limits.shell name fs)

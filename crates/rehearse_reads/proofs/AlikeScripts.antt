@@ -1,27 +1,29 @@
 -- A script goes alike from states that agree on what it reads, as far as the bounds allow.
-use Rattle.std.proofs.Common.{◌≡◌, sym, ap, subst, ℕ, zero, suc, Bool, true, false, List, [], ◌∷◌, ◌++◌, Option, Some, None, nat_eq}
+use Rattle.std.proofs.Common.{◌≡◌, ◌∙◌, refl, sym, ap, subst, ℕ, zero, suc, Bool, true, false, List, [], ◌∷◌, ◌++◌, Option, Some, None, nat_eq}
 use Rattle.hushlang.specs.Tree as tree
 use Rattle.hushlang.specs.Tree.{Script, AndOr, Joined, Command, Arms}
-use Rattle.hushlang_shells.specs.TreesByShell.{TextRead, Runs, Fails, Panics, Unread, first_in, started_in}
+use Rattle.hushlang_shells.specs.TreesByShell.{TextRead, Runs, Fails, Panics, Unread, first_in, started_in, sourced_in}
 use Rattle.builtins.specs.Builtins.{Builtin, SetEnv, Run, Test, Echo, True, False, Leave, builtin_of}
 use Rattle.commands.specs.Computed.{Computed}
 use Rattle.commands.specs.BuiltInCommands.{ChangesVariables, carried, deed_of, setenv, echo, variables_changed, text_written}
 use Rattle.device_list.specs.Called.{BuiltIn, Device, NoCommand, called_by}
-use Rattle.device_list.specs.DeviceList.{Effect, effect_of, computed_by}
+use Rattle.device_list.specs.DeviceList.{Effect, effect_of, computed_by, file_in}
 use Rattle.rehearse_terms.specs.State.{Text, State, LoggedCommand, get}
 use Rattle.rehearse_rules.specs.Parameters.{parameters_in}
 use Rattle.rehearse_rules.specs.ByShell.{unread, reads_again, leaves_in, status_of_exit, asks_in, truth_in, fields_in, turns_in, skips_rest, follows, call_in}
-use Rattle.rehearse_rules.specs.Execution.{Limits, Answer, Normal, Exit, Ended, Ending, CutSteps, Unknown, Unsupported, Panic, go_on, set_status, status_when, remember, goes, device, test_request, text_end, run_read, run_text, started_text, run_all, command, simple, sized, assign, exec_script, exec_list, exec_joined, exec_command, exec_arms, exec, turns_of, for_words, for_begun, block_skipped, turns, simple_call}
-use Rattle.rehearse_rules.proofs.TakenOutcomes.{KeepsAll, Keeps-if, Keeps-run, Keeps-simple, Keeps-sized, Keeps-assign, Keeps-script, Keeps-joined, Keeps-arms, Keeps-exec, Keeps-ended, Keeps-words, Keeps-skip}
-use Rattle.rehearse_reads.specs.Keys.{Key, Environment, Status, Access, Reads, AreAmong, AgreeOn, all_read, ReadsWithin, known_after}
-use Rattle.rehearse_reads.specs.Alike.{AreAbreast, IsAlike}
-use Rattle.rehearse_reads.specs.Accesses.{behind, behind_text, status_written, words_reads, device_accesses, listed_accesses, computed_accesses, setenv_accesses, tree_accesses, read_accesses, text_accesses, started_accesses, run_accesses, builtin_accesses, call_accesses, simple_accesses, sized_accesses, assign_accesses, script_accesses, list_accesses, joined_accesses, command_accesses, arms_accesses, accesses, modern_accesses, turns_of_accesses, for_words_accesses, turns_accesses, simple_call_accesses}
-use Rattle.rehearse_reads.proofs.AccessLemmas.{read_first, read_then, within_then}
+use Rattle.rehearse_rules.specs.Needs.{effect_now}
+use Rattle.rehearse_rules.proofs.NeedsLemmas.{now_runs}
+use Rattle.rehearse_rules.specs.Execution.{Limits, Answer, Normal, Exit, Ended, Dry, Ending, CutSteps, Unknown, Unsupported, Panic, go_on, set_status, status_when, remember, goes, device, test_request, text_end, run_read, run_text, started_text, run_all, command, simple, sized, assign, exec_script, exec_list, exec_joined, exec_command, exec_arms, exec, turns_of, for_words, for_begun, block_skipped, turns, simple_call, request_of, run_file, file_follows, handed_over, sourced_text, Request}
+use Rattle.rehearse_rules.proofs.TakenOutcomes.{KeepsAll, Keeps-if, Keeps-run, Keeps-simple, Keeps-sized, Keeps-assign, Keeps-script, Keeps-joined, Keeps-arms, Keeps-exec, Keeps-ended, Keeps-words, Keeps-skip, Keeps-stays, Keeps-file}
+use Rattle.rehearse_reads.specs.Keys.{Key, Environment, Status, Access, Reads, Writes, AreAmong, AgreeOn, all_read, ReadsWithin, known_after}
+use Rattle.rehearse_reads.specs.Alike.{AreAbreast, IsAlike, same, cut_here, beyond}
+use Rattle.rehearse_reads.specs.Accesses.{behind, behind_text, status_written, words_reads, needs_reads, device_accesses, listed_accesses, computed_accesses, setenv_accesses, tree_accesses, read_accesses, text_accesses, started_accesses, run_accesses, builtin_accesses, call_accesses, simple_accesses, sized_accesses, assign_accesses, script_accesses, list_accesses, joined_accesses, command_accesses, arms_accesses, accesses, modern_accesses, turns_of_accesses, for_words_accesses, turns_accesses, simple_call_accesses, file_accesses, follow_accesses, handed_accesses, sourced_text_accesses}
+use Rattle.rehearse_reads.proofs.AccessLemmas.{read_first, read_then, within_first, within_then}
 use Rattle.rehearse_reads.proofs.AbreastLemmas.{near_status, near_computed, near_sets, near_echoed}
 use Rattle.rehearse_reads.proofs.SameWords.{fields_agree, turns_agree}
-use Rattle.rehearse_reads.proofs.AlikeParts.{normal_alike, exit_alike, ended_alike, if_alike, after_keys, Alike-go_on, Alike-text_end, sized_alike, after_then}
-use Rattle.rehearse_reads.proofs.AlikeDevices.{Alike-begin, Alike-device, Alike-listed}
-use Rattle.rehearse_reads.proofs.AlikeLoops.{Alike-skip, Alike-assign, nothing_alike, no_block_alike, Alike-turns, Alike-turns_of, near_for, Alike-compound}
+use Rattle.rehearse_reads.proofs.AlikeParts.{normal_alike, exit_alike, ended_alike, if_alike, after_keys, go_on_alike, Alike-go_on, Alike-text_end, sized_alike, after_then}
+use Rattle.rehearse_reads.proofs.AlikeDevices.{Alike-begin, Alike-device, Alike-listed, asked_knows}
+use Rattle.rehearse_reads.proofs.AlikeLoops.{Alike-skip, Alike-assign, nothing_alike, no_block_alike, Alike-turns, Alike-turns_of, near_for, Alike-compound, Alike-sourced}
 
 module _ (limits : Limits) (i j : ℕ) (k l : List LoggedCommand) where
   abbrev Is : List Key → Answer → Answer → Type 0
@@ -80,6 +82,56 @@ module _ (limits : Limits) (i j : ℕ) (k l : List LoggedCommand) where
 
     -- ---- a command
 
+    Alike-sourced_text : (name text : Text) → AlwaysDoes (sourced_text limits script name text) (sourced_text_accesses limits script of_script name text)
+    Alike-sourced_text name text = Alike-sourced limits i j k l (run_read limits script name (sourced_in limits.shell text)) (read_accesses limits script of_script (sourced_in limits.shell text)) (Alike-read (sourced_in limits.shell text) name)
+
+    Alike-found : (found : Option Text) (name : Text)
+        → AlwaysDoes (λ s. elim found [ None ↦ Normal (set_status 1 s) | Some text ↦ text_end limits.shell (sourced_text limits script name text s) Normal ])
+        (λ s. elim found [ None ↦ status_written | Some text ↦ sourced_text_accesses limits script of_script name text s ++ behind_text (sourced_text limits script name text s) (λ t. []) ])
+    Alike-found None name known s t near w = status_alike 1 known s t near w
+    Alike-found (Some text) name known s t near w =
+        Alike-text_end limits i j k l known s t (sourced_text limits script name text) Normal (sourced_text_accesses limits script of_script name text) (λ x. []) (Alike-sourced_text name text known s t) stays_alike (Keeps-stays limits.device_bound) near w
+
+    pub Alike-file : (name : Text) (before : ℕ) → AlwaysDoes (file_follows limits script name before) (follow_accesses limits script of_script name before)
+    Alike-file name before known s t near w =
+        let here : State = set_status before s in
+        let there : State = set_status before t in
+        if_alike limits i j k l known (nat_eq s.memory.status 0) (nat_eq t.memory.status 0) (ap (λ (n : ℕ). nat_eq n 0) (near.keys Status w.0))
+        (run_file limits script name here) (Normal s) (run_file limits script name there) (Normal t) (Writes Status ∷ file_accesses limits script of_script name here) []
+        (Alike-found (file_in limits.devices name) name (Status ∷ known) here there (near_status limits i j k l known s t before near))
+        (stays_alike known s t near) w.1
+
+    -- what follows an answer may go by the state before it, which is the same where something follows
+    before_alike : (ks known : List Key) (a b : Answer) (g h : State → Answer) → ((u : State) → a ≡ Normal u → h ≡ g) → Is ks a b → Is known (go_on a g) (go_on b g) → Is known (go_on a g) (go_on b h)
+    before_alike ks known (Normal u) b g h e x y = subst (λ (f : State → Answer). Is known (g u) (go_on b f)) (sym (e u refl)) y
+    before_alike ks known (Exit u) b g h e (same x) y = subst (λ (z : Answer). Is known (Exit u) (go_on z h)) (sym x.is) (subst (λ (z : Answer). Is known (Exit u) (go_on z g)) x.is y)
+    before_alike ks known (Exit u) b g h e (cut_here x) y = absurd x
+    before_alike ks known (Exit u) b g h e (beyond x) y = beyond x
+    before_alike ks known (Ended ending u) b g h e (same x) y = subst (λ (z : Answer). Is known (Ended ending u) (go_on z h)) (sym x.is) (subst (λ (z : Answer). Is known (Ended ending u) (go_on z g)) x.is y)
+    before_alike ks known (Ended ending u) b g h e (cut_here x) y = cut_here x
+    before_alike ks known (Ended ending u) b g h e (beyond x) y = beyond x
+    before_alike ks known (Dry u) b g h e (same x) y = subst (λ (z : Answer). Is known (Dry u) (go_on z h)) (sym x.is) (subst (λ (z : Answer). Is known (Dry u) (go_on z g)) x.is y)
+    before_alike ks known (Dry u) b g h e (cut_here x) y = absurd x
+    before_alike ks known (Dry u) b g h e (beyond x) y = beyond x
+
+    Alike-handed : (name : Text) (words : List Text) (effect : Effect) (runs : Option Text) → effect.runs ≡ runs
+        → AlwaysDoes (λ s. handed_over limits script runs s.memory.status (device limits (request_of name words (effect_now s.log effect)) s))
+        (λ s. handed_accesses limits script of_script runs s.memory.status (listed_accesses limits name words effect s) (device limits (request_of name words (effect_now s.log effect)) s))
+    Alike-handed name words effect None e known s t near w = Alike-listed limits i j k l name words effect known s t near w
+    Alike-handed name words effect (Some file) e known s t near w =
+        let request : Request = request_of name words (effect_now s.log effect) in
+        let f : State → Answer = λ x. device limits (request_of name words (effect_now x.log effect)) x in
+        let g : ℕ → State → Answer = file_follows limits script file in
+        let asked : List Access = listed_accesses limits name words effect s in
+        let v : State → List Access = follow_accesses limits script of_script file s.memory.status in
+        let within : ReadsWithin known asked = within_first known asked (behind (f s) v) w in
+        let near_asked : Is (known_after known asked) (f s) (f t) = Alike-listed limits i j k l name words effect known s t near within in
+        let status : (u : State) → f s ≡ Normal u → g t.memory.status ≡ g s.memory.status =
+        λ u is. ap g (near.keys Status (asked_knows limits i j k l known request file (now_runs s.log effect ∙ e) s u is (read_then known (needs_reads effect.needs) (device_accesses limits request s) within))) in
+        after_then limits i j k l known asked (behind (f s) v) (go_on (f s) (g s.memory.status)) (go_on (f t) (g t.memory.status))
+        (before_alike (known_after known asked) (known_after (known_after known asked) (behind (f s) v)) (f s) (f t) (g s.memory.status) (g t.memory.status) status near_asked
+        (go_on_alike limits i j k l (known_after known asked) (f s) (f t) (g s.memory.status) v (Alike-file file s.memory.status) (Keeps-file limits script kept file s.memory.status) (within_then known asked (behind (f s) v) w) near_asked))
+
     Alike-leave : (status : Option ℕ) (other : ℕ) → AlwaysDoes (λ s. elim status [ Some n ↦ Exit (set_status n s) | None ↦ Normal (set_status other s) ]) (λ s. status_written)
     Alike-leave (Some n) other known s t near w = exit_alike limits i j k l (Status ∷ known) (set_status n s) (set_status n t) (near_status limits i j k l known s t n near)
     Alike-leave None other known s t near w = status_alike other known s t near w
@@ -101,11 +153,12 @@ module _ (limits : Limits) (i j : ℕ) (k l : List LoggedCommand) where
       where
         by : (o : Option Computed) (b : Option Builtin) (f : Option Effect)
             → AlwaysDoes (command limits again script (elim o [ Some computed ↦ BuiltIn (ChangesVariables (λ ws. carried computed)) | None ↦ elim b [ Some builtin ↦ BuiltIn (deed_of builtin) | None ↦ elim f [ Some effect ↦ Device effect | None ↦ NoCommand ] ] ]) name words)
-            (λ s. elim o [ Some computed ↦ computed_accesses computed | None ↦ elim b [ Some builtin ↦ builtin_accesses limits script of_script builtin name words s | None ↦ elim f [ Some effect ↦ listed_accesses limits name words effect s | None ↦ [] ] ] ])
+            (λ s. elim o [ Some computed ↦ computed_accesses computed | None ↦ elim b [ Some builtin ↦ builtin_accesses limits script of_script builtin name words s | None ↦ elim f [ Some effect ↦ handed_accesses limits script of_script effect.runs s.memory.status (listed_accesses limits name words effect s) (device limits (request_of name words (effect_now s.log effect)) s) | None ↦ [] ] ] ])
         by (Some computed) b f known s t near w =
             normal_alike limits i j k l (known_after known (computed_accesses computed)) (remember (variables_changed (λ ws. carried computed) words) s) (remember (variables_changed (λ ws. carried computed) words) t) (near_computed limits i j k l computed known s t near w)
         by None (Some builtin) f known s t near w = Alike-builtin again builtin name words known s t near w
-        by None None (Some effect) known s t near w = Alike-listed limits i j k l name words effect known s t near w
+        by None None (Some effect) known s t near w =
+            Alike-handed name words effect effect.runs refl known s t near w
         by None None None known s t near w = ended_alike limits i j k l known (Unknown name) s t near
 
     Alike-simple-call : (again : Bool) (fs : List Text) → AlwaysDoes (simple_call limits again script fs) (simple_call_accesses limits script of_script fs)

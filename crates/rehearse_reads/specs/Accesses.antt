@@ -7,12 +7,12 @@ use Rattle.hushlang.specs.Tree as tree
 use Rattle.hushlang.specs.Tree.{Script, AndOr, Joined, Command, Arms}
 use Rattle.hushlang.specs.Expansion.{size, most_bytes}
 use Rattle.hushlang_old.specs.Defaults.{variable_of, has_more}
-use Rattle.hushlang_shells.specs.TreesByShell.{TextRead, Runs, Fails, Panics, Unread, first_in, started_in}
+use Rattle.hushlang_shells.specs.TreesByShell.{TextRead, Runs, Fails, Panics, Unread, first_in, started_in, sourced_in}
 use Rattle.builtins.specs.Builtins.{Builtin, SetEnv, Run, Test, Echo, True, False, Leave, builtin_of}
 use Rattle.commands.specs.Computed.{Computed, Gives, Exists, Sets, Deletes, SetsNumber}
 use Rattle.commands.specs.VariableNames.{is_bad_name}
 use Rattle.device_list.specs.Called.{sets_in}
-use Rattle.device_list.specs.DeviceList.{Effect, effect_of, computed_by}
+use Rattle.device_list.specs.DeviceList.{Effect, effect_of, computed_by, file_in}
 use Rattle.rehearse_terms.specs.Outcomes.{Outcome, Success, Failure, OutcomeWord}
 use Rattle.rehearse_terms.specs.State.{Text, get, Memory, State}
 use Rattle.rehearse_terms.specs.declared.shell.Shell.{Shell}
@@ -20,7 +20,7 @@ use Rattle.rehearse_terms.specs.declared.shell.Shell.TheVariants.{Profile, Old20
 use Rattle.rehearse_rules.specs.Parameters.{parameters_in}
 use Rattle.rehearse_rules.specs.ByShell.{call_in, asks_in, fields_in, turns_in, skips_rest, follows, assigned_in, is_refused, follows_turns}
 use Rattle.rehearse_rules.specs.Needs.{effect_now}
-use Rattle.rehearse_rules.specs.Execution.{Limits, Answer, Normal, Exit, Ended, Dry, CutSteps, Request, set_status, goes, holds, outcome_when, told, assign_local, begin_turn, request_of, test_request, started_text, run_text, exec_script, exec_list, exec_command, exec, for_begun, block_skipped, turns, for_each, exec_arms}
+use Rattle.rehearse_rules.specs.Execution.{Limits, Answer, Normal, Exit, Ended, Dry, CutSteps, Request, set_status, goes, holds, outcome_when, told, assign_local, begin_turn, request_of, test_request, started_text, sourced_text, run_read, run_text, exec_script, exec_list, exec_command, exec, for_begun, block_skipped, turns, for_each, exec_arms, device}
 use Rattle.rehearse_reads.specs.Keys.{Key, Environment, Local, AnswerTo, Succeeded, Status, Access, Reads, Writes, all_read}
 
 -- what the next part of a script accesses, if this one has ended normally
@@ -92,11 +92,19 @@ needs_reads (name ∷ words) = Succeeded (name ∷ words) ∷ []
 abbrev pub told_reads : Request → List Key
 told_reads request = if request.effect.stays then AnswerTo (request.name ∷ request.words) ∷ [] else []
 
+-- a command that may hand over to the text of a file keeps the status for it
+abbrev pub handing_reads : (runs : Option Text) → List Access
+handing_reads None = []
+handing_reads (Some name) = Reads Status ∷ []
+
 -- on success it sets what its settings say
-abbrev pub outcome_accesses : Outcome → Request → List Access
-outcome_accesses Success request =
+abbrev pub outcome_writes : Outcome → Request → List Access
+outcome_writes Success request =
     Writes Status ∷ names_written (map (λ e. e.0) (sets_in request.words request.effect.sets))
-outcome_accesses Failure request = status_written
+outcome_writes Failure request = status_written
+
+abbrev pub outcome_accesses : Outcome → Request → List Access
+outcome_accesses outcome request = handing_reads request.effect.runs ++ outcome_writes outcome request
 
 abbrev pub taken_accesses : Request → OutcomeWord → List Access
 taken_accesses request [] = []
@@ -128,6 +136,20 @@ compound_accesses shell (Normal s) = []
 compound_accesses shell (Exit s) = left_accesses shell
 compound_accesses shell (Ended ending s) = []
 compound_accesses shell (Dry s) = []
+
+-- an `exit` in the text of a file: in the modern shell the run ends with its status
+abbrev pub prompt_accesses : Shell → List Access
+prompt_accesses Profile = []
+prompt_accesses Old2023 = []
+prompt_accesses Old2025 = []
+prompt_accesses Modern2025 = Reads Status ∷ []
+
+-- the text of a file has ended, also by `exit`
+abbrev pub sourced_accesses : Shell → Answer → List Access
+sourced_accesses shell (Normal s) = []
+sourced_accesses shell (Exit s) = prompt_accesses shell
+sourced_accesses shell (Ended ending s) = []
+sourced_accesses shell (Dry s) = []
 
 -- fields that hold too many bytes end the run
 abbrev pub sized_accesses : List Text → (List Text → State → List Access) → State → List Access
@@ -257,6 +279,33 @@ module _ (limits : Limits) where
               ++ behind_text (started_text limits script name text s) (run_accesses names)
         ]
 
+    -- no variable is read for the text of a file
+    abbrev pub sourced_text_accesses : (name text : Text) → State → List Access
+    sourced_text_accesses name text s =
+        read_accesses (sourced_in limits.shell text) s
+        ++ sourced_accesses limits.shell (run_read limits script name (sourced_in limits.shell text) s)
+
+    abbrev pub file_accesses : (name : Text) → State → List Access
+    file_accesses name s =
+        elim (file_in limits.devices name) [
+          | None ↦ status_written
+          | Some text ↦ sourced_text_accesses name text s
+              ++ behind_text (sourced_text limits script name text s) (λ t. [])
+        ]
+
+    -- the status says whether the text of a file follows, which begins with the status from before
+    abbrev pub follow_accesses : (name : Text) → (before : ℕ) → State → List Access
+    follow_accesses name before s =
+        Reads Status ∷ elim (nat_eq s.memory.status 0) [
+          | true ↦ Writes Status ∷ file_accesses name (set_status before s)
+          | false ↦ []
+        ]
+
+    -- `asked` is what a device command has accessed that came to an answer; then it may hand over
+    abbrev pub handed_accesses : (runs : Option Text) → (before : ℕ) → (asked : List Access) → Answer → List Access
+    handed_accesses None before asked a = asked
+    handed_accesses (Some name) before asked a = asked ++ behind a (follow_accesses name before)
+
     abbrev pub builtin_accesses : Builtin → (name : Text) → (words : List Text) → State → List Access
     builtin_accesses SetEnv name words s = setenv_accesses words
     builtin_accesses Run name [] s = status_written
@@ -279,7 +328,8 @@ module _ (limits : Limits) where
           | None ↦ elim (builtin_of name) [
             | Some builtin ↦ builtin_accesses builtin name words s
             | None ↦ elim (effect_of limits.devices name words) [
-              | Some effect ↦ listed_accesses name words effect s
+              | Some effect ↦ handed_accesses effect.runs s.memory.status (listed_accesses name words effect s)
+                  (device limits (request_of name words (effect_now s.log effect)) s)
               | None ↦ []
             ]
           ]

@@ -5,20 +5,21 @@ use Rattle.hushlang.specs.Tree as tree
 use Rattle.hushlang.specs.Tree.{Script, AndOr, Joined, Command, Arms, IsProper, IsProperList, IsProperJoined, IsProperCommand, HasArm, AreProperArms, HoldsCommand}
 use Rattle.hushlang.specs.Expansion.{size, most_bytes}
 use Rattle.rehearse_terms.specs.Outcomes.{OutcomeWord, Outcome, Success, Failure}
-use Rattle.hushlang_shells.specs.TreesByShell.{TextRead, Runs, Fails, Panics, Unread, first_in, started_in}
+use Rattle.hushlang_shells.specs.TreesByShell.{TextRead, Runs, Fails, Panics, Unread, first_in, started_in, sourced_in}
 use Rattle.rehearse_terms.specs.State.{Text, get, State, start}
 use Rattle.rehearse_rules.specs.Parameters.{parameters_in}
+use Rattle.device_list.specs.DeviceList.{file_in}
 use Rattle.device_list.specs.Called.{Called, BuiltIn, Device, NoCommand, called_by, sets_in}
 use Rattle.commands.specs.BuiltInCommands.{ChangesVariables, WritesText, RunsTexts, Tests, Exits}
 use Rattle.rehearse_rules.specs.ByShell.{call_in, unread, leaves_in, status_of_exit, asks_in, truth_in, fields_in, turns_in, skips_rest, status_of_loop, follows, assigned_in, reads_again, follows_turns}
-use Rattle.rehearse_rules.specs.Execution.{Limits, Answer, Normal, Exit, Ended, Dry, Ending, CutDevices, CutSteps, Size, go_on, set_status, status_when, goes, holds, begin, take_outcome, with_outcome, outcome_when, told, told_again, tell_or_take, device, Request, logged, set_environment, finish, text_end, run_read, run_text, run_all, command, simple_call, simple, sized, assign, turns, begin_turn, for_each, exec_script, exec_list, exec_joined, exec_command, exec_arms, exec, Unsupported, assign_local, request_of, test_request, started_text, text_failed, turns_of, for_words, for_begun, block_skipped, compound, compound_end}
+use Rattle.rehearse_rules.specs.Execution.{Limits, Answer, Normal, Exit, Ended, Dry, Ending, CutDevices, CutSteps, Size, go_on, set_status, status_when, goes, holds, begin, take_outcome, with_outcome, outcome_when, told, told_again, tell_or_take, device, Request, logged, set_environment, finish, text_end, run_read, run_text, run_all, command, simple_call, simple, sized, assign, turns, begin_turn, for_each, exec_script, exec_list, exec_joined, exec_command, exec_arms, exec, Unsupported, assign_local, request_of, test_request, started_text, text_failed, turns_of, for_words, for_begun, block_skipped, compound, compound_end, run_file, file_follows, handed_over, sourced, left_to_prompt, sourced_text}
 use Rattle.rehearse_rules.specs.Needs.{effect_now}
 use Rattle.rehearse_rules.specs.Runs.{Task, run_on, state_of, steps}
-use Rattle.hushlang_shells.proofs.TreeByShellLemmas.{first_texts_are_proper, started_texts_are_proper}
+use Rattle.hushlang_shells.proofs.TreeByShellLemmas.{first_texts_are_proper, started_texts_are_proper, sourced_texts_are_proper}
 use Rattle.rehearse_terms.specs.declared.shell.Shell.{Shell}
 use Rattle.rehearse_terms.specs.declared.shell.Shell.TheVariants.{Profile, Old2023, Old2025, Modern2025}
 use Rattle.rehearse_rules.proofs.GrowingSteps.{Grew, Grew-block}
-use Rattle.rehearse_rules.proofs.TakenOutcomes.{skipped, Track, KeepsAll, Keeps-started, Keeps-script, Keeps-list, Keeps-one, Keeps-exec, Keeps-ended}
+use Rattle.rehearse_rules.proofs.TakenOutcomes.{skipped, Track, KeepsAll, Keeps-started, Keeps-sourced_text, Keeps-script, Keeps-list, Keeps-one, Keeps-exec, Keeps-ended, Keeps-device}
 
 -- ---- no run goes past a bound
 
@@ -72,6 +73,18 @@ module _ (limits : Limits) where
   Ends-compound Old2023 a h = h
   Ends-compound Old2025 a h = h
   Ends-compound Modern2025 a h = Ends-end a h
+
+  Ends-prompt : (a : Answer) → Ends a → Ends (left_to_prompt a)
+  Ends-prompt (Normal t) h = h
+  Ends-prompt (Exit t) h = (h, tt)
+  Ends-prompt (Ended ending t) h = h
+  Ends-prompt (Dry t) h = h
+
+  Ends-sourced : (shell : Shell) (a : Answer) → Ends a → Ends (sourced shell a)
+  Ends-sourced Profile a h = h
+  Ends-sourced Old2023 a h = h
+  Ends-sourced Old2025 a h = h
+  Ends-sourced Modern2025 a h = Ends-prompt a h
 
   -- a step is begun below the bound, or the bound is reached
   Ends-begin : (n : ℕ) (f : State → Answer) → ((t : State) → IsWithin t → limits.step_bound < n + t.steps → Ends (f t)) → EndsAll n (begin limits f)
@@ -137,6 +150,21 @@ module _ (limits : Limits) where
     run-ends [] t h r = h
     run-ends (name ∷ names) t h r = named-ends (get t.memory.environment name) name (run_all limits script names) t h r (run-ends names)
 
+    found-ends : (o : Option Text) (name : Text) (t : State) → IsWithin t → limits.step_bound < n + t.steps → Ends (elim o [ None ↦ Normal (set_status 1 t) | Some v ↦ text_end limits.shell (sourced_text limits script name v t) Normal ])
+    found-ends None name t h r = h
+    found-ends (Some v) name t h r =
+        let read : Answer = run_read limits script name (sourced_in limits.shell v) t in
+        Ends-text_end t (sourced limits.shell read) Normal (Keeps-sourced_text limits script kept name v t).0 (Ends-sourced limits.shell read (read-ends (sourced_in limits.shell v) name t (λ a e. sourced_texts_are_proper limits.shell v a e) h r)) (λ u w l. w)
+
+    file-ends : (name : Text) (before : ℕ) (t : State) → IsWithin t → limits.step_bound < n + t.steps → Ends (file_follows limits script name before t)
+    file-ends name before t h r =
+        let u : State = set_status before t in
+        Ends-if (nat_eq t.memory.status 0) (run_file limits script name u) (Normal t) (λ e. found-ends (file_in limits.devices name) name u h r) (λ e. h)
+
+    handed-ends : (runs : Option Text) (before : ℕ) (t : State) (a : Answer) → Track limits.device_bound t a → Ends a → limits.step_bound < n + t.steps → Ends (handed_over limits script runs before a)
+    handed-ends None before t a k h r = h
+    handed-ends (Some name) before t a k h r = Ends-go_on t a (file_follows limits script name before) k h (λ u w l. file-ends name before u w (omega arith))
+
     leave-ends : (status : Option ℕ) (other : ℕ) (t : State) → IsWithin t → Ends (elim status [ Some k ↦ Exit (set_status k t) | None ↦ Normal (set_status other t) ])
     leave-ends (Some k) other t h = h
     leave-ends None other t h = h
@@ -148,7 +176,9 @@ module _ (limits : Limits) where
     command-ends again (BuiltIn Tests) name ws t h r = Ends-if (asks_in limits.shell ws) (device limits (test_request limits name ws) t) (Normal (set_status (status_when (truth_in limits.shell ws)) t)) (λ e. device-ends t (test_request limits name ws) h) (λ e. h)
     command-ends again (BuiltIn (WritesText written)) name ws t h r = h
     command-ends again (BuiltIn Exits) name ws t h r = leave-ends (leaves_in limits.shell again ws) (status_of_exit limits.shell ws) t h
-    command-ends again (Device effect) name ws t h r = device-ends t (request_of name ws (effect_now t.log effect)) h
+    command-ends again (Device effect) name ws t h r =
+        let q : Request = request_of name ws (effect_now t.log effect) in
+        handed-ends effect.runs t.memory.status t (device limits q t) (Keeps-device limits q refl t).0 (device-ends t q h) r
     command-ends again NoCommand name ws t h r = (h, tt)
 
     call-ends : (again : Bool) (fs : List Text) (t : State) → IsWithin t → limits.step_bound < n + t.steps → Ends (simple_call limits again script fs t)

@@ -7,17 +7,17 @@ use Rattle.builtins.specs.Builtins.{Builtin, SetEnv, Run, Test, Echo, True, Fals
 use Rattle.commands.specs.Computed.{Computed}
 use Rattle.device_list.specs.Called.{Called, BuiltIn, Device, NoCommand, called_by}
 use Rattle.commands.specs.BuiltInCommands.{ChangesVariables, WritesText, RunsTexts, Tests, Exits, carried, deed_of}
-use Rattle.device_list.specs.DeviceList.{Effect, computed_by, effect_of}
+use Rattle.device_list.specs.DeviceList.{Effect, computed_by, effect_of, file_in}
 use Rattle.rehearse_rules.proofs.TakenOutcomes.{skipped}
 use Rattle.rehearse_terms.specs.declared.shell.Shell.{Shell}
 use Rattle.rehearse_terms.specs.declared.shell.Shell.TheVariants.{Profile, Old2023, Old2025, Modern2025}
 use Rattle.rehearse_rules.specs.ByShell.{call_in, unread, reads_again, leaves_in, status_of_exit, asks_in, question_in, truth_in, fields_in, turns_in, skips_rest, status_of_loop, follows, assigned_in, follows_turns}
-use Rattle.rehearse_rules.specs.Execution.{Limits, Answer, Normal, Exit, Ended, Dry, CutSteps, Size, Request, go_on, set_status, status_when, goes, holds, begin, device, test_effect, text_end, run_read, run_text, run_all, command, simple_call, simple, sized, assign, turns, begin_turn, for_each, exec_script, exec_list, exec_joined, exec_command, exec_arms, exec, Unsupported, assign_local, request_of, test_request, started_text, text_failed, turns_of, for_words, for_begun, block_skipped, compound, compound_end}
+use Rattle.rehearse_rules.specs.Execution.{Limits, Answer, Normal, Exit, Ended, Dry, CutSteps, Size, Request, go_on, set_status, status_when, goes, holds, begin, device, test_effect, text_end, run_read, run_text, run_all, command, simple_call, simple, sized, assign, turns, begin_turn, for_each, exec_script, exec_list, exec_joined, exec_command, exec_arms, exec, Unsupported, assign_local, request_of, test_request, started_text, text_failed, turns_of, for_words, for_begun, block_skipped, compound, compound_end, run_file, file_follows, handed_over, sourced, left_to_prompt, sourced_text}
 use Rattle.rehearse_rules.specs.Needs.{effect_now}
 use Rattle.rehearse_rules.specs.Runs.{state_of}
 use Rattle.rehearse_terms.specs.State.{Text, get, LoggedCommand, State}
 use Rattle.rehearse_rules.specs.Parameters.{parameters_in}
-use Rattle.hushlang_shells.specs.TreesByShell.{TextRead, Runs, Fails, Panics, Unread, first_in, started_in}
+use Rattle.hushlang_shells.specs.TreesByShell.{TextRead, Runs, Fails, Panics, Unread, first_in, started_in, sourced_in}
 
 module _ (P : List LoggedCommand → Type 0) where
   -- it holds of the log
@@ -55,6 +55,19 @@ module _ (P : List LoggedCommand → Type 0) where
   keeps-compound Old2023 a h = h
   keeps-compound Old2025 a h = h
   keeps-compound Modern2025 a h = keeps-end a h
+
+  -- also if `exit` ends the run in the text of a file
+  keeps-prompt : (a : Answer) → Holds (state_of a) → Holds (state_of (left_to_prompt a))
+  keeps-prompt (Normal t) h = h
+  keeps-prompt (Exit t) h = h
+  keeps-prompt (Ended ending t) h = h
+  keeps-prompt (Dry t) h = h
+
+  keeps-sourced : (shell : Shell) (a : Answer) → Holds (state_of a) → Holds (state_of (sourced shell a))
+  keeps-sourced Profile a h = h
+  keeps-sourced Old2023 a h = h
+  keeps-sourced Old2025 a h = h
+  keeps-sourced Modern2025 a h = keeps-prompt a h
 
   keeps-sized : (fs : List Text) (f : List Text → State → Answer) → ((gs : List Text) → KeepsLog (f gs)) → KeepsLog (sized fs f)
   keeps-sized fs f h s k = keeps-if (nat_le (size fs) most_bytes) (f fs s) (Ended Size s) (h fs s k) k
@@ -120,6 +133,21 @@ module _ (P : List LoggedCommand → Type 0) where
       keeps-run [] s h = h
       keeps-run (name ∷ names) s h = keeps-named (get s.memory.environment name) name (run_all limits script names) s (keeps-run names) h
 
+      keeps-found : (text : Option Text) (name : Text) (s : State) → Holds s → Holds (state_of (elim text [ None ↦ Normal (set_status 1 s) | Some v ↦ text_end limits.shell (sourced_text limits script name v s) Normal ]))
+      keeps-found None name s h = h
+      keeps-found (Some v) name s h =
+          let read : Answer = run_read limits script name (sourced_in limits.shell v) s in
+          keeps-text_end limits.shell (sourced limits.shell read) Normal (keeps-sourced limits.shell read (keeps-read (sourced_in limits.shell v) name s h)) (λ t i. i)
+
+      keeps-file : (name : Text) (before : ℕ) → KeepsLog (file_follows limits script name before)
+      keeps-file name before s h =
+          let t : State = set_status before s in
+          keeps-if (nat_eq s.memory.status 0) (run_file limits script name t) (Normal s) (keeps-found (file_in limits.devices name) name t h) h
+
+      keeps-handed : (runs : Option Text) (before : ℕ) (a : Answer) → Holds (state_of a) → Holds (state_of (handed_over limits script runs before a))
+      keeps-handed None before a h = h
+      keeps-handed (Some name) before a h = keeps-go_on a (file_follows limits script name before) h (keeps-file name before)
+
       keeps-leave : (status : Option ℕ) (other : ℕ) (s : State) → Holds s → Holds (state_of (elim status [ Some n ↦ Exit (set_status n s) | None ↦ Normal (set_status other s) ]))
       keeps-leave (Some n) other s h = h
       keeps-leave None other s h = h
@@ -133,7 +161,9 @@ module _ (P : List LoggedCommand → Type 0) where
           keeps-if (asks_in limits.shell words) (device limits r s) (Normal (set_status (status_when (truth_in limits.shell words)) s)) (step r refl s (allowed s.log (question_in limits.shell words)) h) h
       keeps-command again (BuiltIn (WritesText written)) name words allowed s h = h
       keeps-command again (BuiltIn Exits) name words allowed s h = keeps-leave (leaves_in limits.shell again words) (status_of_exit limits.shell words) s h
-      keeps-command again (Device effect) name words allowed s h = step (request_of name words (effect_now s.log effect)) refl s (allowed s.log) h
+      keeps-command again (Device effect) name words allowed s h =
+          let r : Request = request_of name words (effect_now s.log effect) in
+          keeps-handed effect.runs s.memory.status (device limits r s) (step r refl s (allowed s.log) h)
       keeps-command again NoCommand name words allowed s h = h
 
       keeps-call : (again : Bool) (fs : List Text) → KeepsLog (simple_call limits again script fs)

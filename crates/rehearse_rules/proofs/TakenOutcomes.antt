@@ -9,11 +9,12 @@ use Rattle.hushlang.specs.Tree.{Script, AndOr, Joined, Command, Arms}
 use Rattle.rehearse_terms.specs.State.{Text, get, Memory, State, LoggedCommand, asked_of}
 use Rattle.rehearse_rules.specs.Parameters.{parameters_in}
 use Rattle.hushlang.specs.Expansion.{size, most_bytes}
-use Rattle.hushlang_shells.specs.TreesByShell.{TextRead, Runs, Fails, Panics, Unread, first_in, started_in}
+use Rattle.hushlang_shells.specs.TreesByShell.{TextRead, Runs, Fails, Panics, Unread, first_in, started_in, sourced_in}
+use Rattle.device_list.specs.DeviceList.{file_in}
 use Rattle.device_list.specs.Called.{Called, BuiltIn, Device, NoCommand, called_by, sets_in}
 use Rattle.commands.specs.BuiltInCommands.{ChangesVariables, WritesText, RunsTexts, Tests, Exits, variables_changed, text_written}
 use Rattle.rehearse_rules.specs.ByShell.{call_in, unread, leaves_in, status_of_exit, asks_in, truth_in, fields_in, turns_in, skips_rest, status_of_nothing, status_of_no_block, status_of_loop, follows, assigned_in, reads_again, status_of_text, follows_turns, status_of_for, status_of_skipped, left_status}
-use Rattle.rehearse_rules.specs.Execution.{Limits, Answer, Normal, Exit, Ended, Dry, Ending, CutDevices, CutSteps, Unknown, Size, go_on, remember, set_status, status_when, goes, holds, begin, take_outcome, with_outcome, outcome_when, told, told_again, tell_or_take, device, Request, logged, set_environment, finish, text_end, run_read, run_text, run_all, command, simple_call, simple, sized, assign, turns, begin_turn, for_each, exec_script, exec_list, exec_joined, exec_command, exec_arms, exec, succeeds, Unsupported, Panic, assign_local, request_of, test_request, started_text, text_failed, turns_of, for_words, for_begun, block_skipped, compound, compound_end, compound_left}
+use Rattle.rehearse_rules.specs.Execution.{Limits, Answer, Normal, Exit, Ended, Dry, Ending, CutDevices, CutSteps, Unknown, Size, go_on, remember, set_status, status_when, goes, holds, begin, take_outcome, with_outcome, outcome_when, told, told_again, tell_or_take, device, Request, logged, set_environment, finish, text_end, run_read, run_text, run_all, command, simple_call, simple, sized, assign, turns, begin_turn, for_each, exec_script, exec_list, exec_joined, exec_command, exec_arms, exec, succeeds, Unsupported, Panic, assign_local, request_of, test_request, started_text, text_failed, turns_of, for_words, for_begun, block_skipped, compound, compound_end, compound_left, run_file, file_follows, handed_over, sourced, left_to_prompt, sourced_text}
 use Rattle.rehearse_rules.specs.Needs.{effect_now}
 use Rattle.rehearse_rules.specs.Expected.{Answered, asked_in}
 use Rattle.rehearse_terms.specs.declared.shell.Shell.{Shell}
@@ -288,6 +289,37 @@ module _ (bound : ℕ) where
   compound-asks run (Ended ending t) h = tt
   compound-asks run (Dry t) h = (h.0, λ d x. subst (λ (later : List LoggedCommand). HasAnswered h.0 d t.log later) (sym (compound-log (run (d ∷ x)))) (h.1 d x))
 
+  -- the text of a file that `exit` has left for the prompt
+  prompt-track : (s : State) (a : Answer) → Track bound s a → Track bound s (left_to_prompt a)
+  prompt-track s (Normal t) h = h
+  prompt-track s (Exit t) h = h
+  prompt-track s (Ended ending t) h = h
+  prompt-track s (Dry t) h = h
+
+  prompt-state : (a : Answer) → state_of (left_to_prompt a) ≡ state_of a
+  prompt-state (Normal t) = refl
+  prompt-state (Exit t) = refl
+  prompt-state (Ended ending t) = refl
+  prompt-state (Dry t) = refl
+
+  prompt-extends : (x : OutcomeWord) (a b : Answer) → Extends x a b → Extends x (left_to_prompt a) (left_to_prompt b)
+  prompt-extends x (Normal t) b h = ap left_to_prompt h
+  prompt-extends x (Exit t) b h = ap left_to_prompt h
+  prompt-extends x (Ended ending t) b h = ap left_to_prompt h
+  prompt-extends x (Dry t) b h = (λ ne. let e = ap (λ (u : State). length u.word) (prompt-state b) in let l = h.0 ne in omega arith, let e = ap (λ (u : State). u.steps) (prompt-state b) in let l = h.1 in omega arith)
+
+  prompt-asks : (run : OutcomeWord → Answer) (a : Answer) → AsksOne run a → AsksOne (λ x. left_to_prompt (run x)) (left_to_prompt a)
+  prompt-asks run (Normal t) h = tt
+  prompt-asks run (Exit t) h = tt
+  prompt-asks run (Ended ending t) h = tt
+  prompt-asks run (Dry t) h = (h.0, λ d x. subst (λ (later : List LoggedCommand). HasAnswered h.0 d t.log later) (sym (ap (λ (u : State). u.log) (prompt-state (run (d ∷ x))))) (h.1 d x))
+
+  pub Keeps-sourced : (shell : Shell) (s : State) (f : State → Answer) → Keeps bound s f → Keeps bound s (λ t. sourced shell (f t))
+  Keeps-sourced Profile s f h = h
+  Keeps-sourced Old2023 s f h = h
+  Keeps-sourced Old2025 s f h = h
+  Keeps-sourced Modern2025 s f h = (prompt-track s (f s) h.0, λ x. prompt-extends x (f s) (f (more x s)) (h.1 x), prompt-asks (λ x. f (more x s)) (f s) h.2)
+
   pub Keeps-compound : (shell : Shell) (s : State) (f : State → Answer) → Keeps bound s f → Keeps bound s (λ t. compound shell (f t))
   Keeps-compound Profile s f h = h
   Keeps-compound Old2023 s f h = h
@@ -432,6 +464,24 @@ module _ (limits : Limits) where
     Keeps-run [] s = Keeps-stays limits.device_bound s
     Keeps-run (name ∷ names) s = Keeps-named (get s.memory.environment name) name (run_all limits script names) s (Keeps-run names)
 
+    pub Keeps-sourced_text : (name text : Text) → KeepsAll (sourced_text limits script name text)
+    Keeps-sourced_text name text s = Keeps-sourced limits.device_bound limits.shell s (run_read limits script name (sourced_in limits.shell text)) (Keeps-read (sourced_in limits.shell text) name s)
+
+    pub Keeps-found : (text : Option Text) (name : Text) (s : State) → Keeps limits.device_bound s (λ t. elim text [ None ↦ Normal (set_status 1 t) | Some v ↦ text_end limits.shell (sourced_text limits script name v t) Normal ])
+    Keeps-found None name s = Keeps-normal limits.device_bound s (λ m. record m { status = 1 })
+    Keeps-found (Some v) name s = Keeps-text_end s (sourced_text limits script name v) Normal (Keeps-sourced_text name v s) (Keeps-stays limits.device_bound)
+
+    pub Keeps-file : (name : Text) (before : ℕ) → KeepsAll (file_follows limits script name before)
+    Keeps-file name before s =
+        let change : Memory → Memory = λ m. record m { status = before } in
+        Keeps-if limits.device_bound s (nat_eq s.memory.status 0) (λ t. run_file limits script name (remember change t)) Normal
+        (Keeps-remember limits.device_bound s change (run_file limits script name) (Keeps-found (file_in limits.devices name) name (remember change s))) (Keeps-stays limits.device_bound s)
+
+    -- the status before the command is that of the state in which it is asked, whatever the word
+    pub Keeps-handed : (runs : Option Text) (s : State) (f : State → Answer) → Keeps limits.device_bound s f → Keeps limits.device_bound s (λ t. handed_over limits script runs t.memory.status (f t))
+    Keeps-handed None s f h = h
+    Keeps-handed (Some name) s f h = Keeps-go_on limits.device_bound s f (file_follows limits script name s.memory.status) h (Keeps-file name s.memory.status)
+
     pub Keeps-leave : (status : Option ℕ) (other : ℕ) (s : State) → Keeps limits.device_bound s (λ t. elim status [ Some n ↦ Exit (set_status n t) | None ↦ Normal (set_status other t) ])
     Keeps-leave (Some n) other s = Keeps-exit limits.device_bound s (λ m. record m { status = n })
     Keeps-leave None other s = Keeps-normal limits.device_bound s (λ m. record m { status = other })
@@ -443,7 +493,9 @@ module _ (limits : Limits) where
     Keeps-command again (BuiltIn Tests) name ws s = Keeps-if limits.device_bound s (asks_in limits.shell ws) (device limits (test_request limits name ws)) (λ t. Normal (set_status (status_when (truth_in limits.shell ws)) t)) (Keeps-device (test_request limits name ws) refl s) (Keeps-normal limits.device_bound s (λ m. record m { status = status_when (truth_in limits.shell ws) }))
     Keeps-command again (BuiltIn (WritesText written)) name ws s = Keeps-normal limits.device_bound s (text_written written ws)
     Keeps-command again (BuiltIn Exits) name ws s = Keeps-leave (leaves_in limits.shell again ws) (status_of_exit limits.shell ws) s
-    Keeps-command again (Device effect) name ws s = Keeps-device (request_of name ws (effect_now s.log effect)) refl s
+    Keeps-command again (Device effect) name ws s =
+        let r : Request = request_of name ws (effect_now s.log effect) in
+        Keeps-handed effect.runs s (device limits r) (Keeps-device r refl s)
     Keeps-command again NoCommand name ws s = Keeps-ended limits.device_bound s (Unknown name)
 
     Keeps-call : (again : Bool) (fs : List Text) → KeepsAll (simple_call limits again script fs)

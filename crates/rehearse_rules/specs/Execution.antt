@@ -8,7 +8,7 @@ use Rattle.hushlang.specs.Expansion.{size, most_bytes}
 use Rattle.hushlang.specs.declared.tree.Op.{Op}
 use Rattle.hushlang.specs.declared.tree.Op.TheVariants.{And, Or}
 use Rattle.rehearse_terms.specs.Outcomes.{Outcome, Success, Failure, OutcomeWord}
-use Rattle.hushlang_shells.specs.TreesByShell.{TextRead, Runs, Fails, Panics, Unread, first_in, started_in}
+use Rattle.hushlang_shells.specs.TreesByShell.{TextRead, Runs, Fails, Panics, Unread, first_in, started_in, sourced_in}
 use Rattle.rehearse_terms.specs.State.{Text, Variables, get, with_value, Memory, LoggedCommand, answer_in, State}
 use Rattle.rehearse_terms.specs.declared.shell.Shell.{Shell}
 use Rattle.rehearse_terms.specs.declared.shell.Shell.TheVariants.{Profile, Old2023, Old2025, Modern2025}
@@ -16,7 +16,7 @@ use Rattle.rehearse_rules.specs.Needs.{effect_now}
 pub use Rattle.rehearse_rules.specs.Ending.{Ending, End, CutDevices, CutSteps, Unknown, Syntax, Unsupported, Panic, Size, Finished}
 use Rattle.rehearse_rules.specs.Parameters.{parameters_in}
 use Rattle.rehearse_rules.specs.ByShell.{unread, reads_again, leaves_in, status_of_exit, left_status, status_of_text, call_in, asks_in, question_in, truth_in, truth_if, fields_in, turns_in, skips_rest, status_of_nothing, status_of_no_block, status_of_loop, status_in_turn, status_of_for, status_of_skipped, follows, follows_turns, assigned_in, locals_in}
-use Rattle.device_list.specs.DeviceList.{Effect, Devices}
+use Rattle.device_list.specs.DeviceList.{Effect, Devices, file_in}
 use Rattle.device_list.specs.Called.{Called, BuiltIn, NoCommand, Device, called_by, sets_in}
 use Rattle.commands.specs.BuiltInCommands.{ChangesVariables, WritesText, RunsTexts, Tests, Exits, variables_changed, text_written}
 
@@ -106,7 +106,7 @@ status_after Failure request = request.on_failure
 
 -- `test -e` changes nothing; its answers stay if the list says so
 abbrev pub test_effect : Devices → Effect
-test_effect devices = record { ends = None; stays = devices.test_stays; always = None; needs = []; normal = false; sets = [] }
+test_effect devices = record { ends = None; stays = devices.test_stays; always = None; needs = []; normal = false; runs = None; sets = [] }
 
 -- the question of a `test`: its status says whether the words hold
 abbrev pub test_request : Limits → (name : Text) → (words : List Text) → Request
@@ -203,6 +203,21 @@ compound Old2023 a = a
 compound Old2025 a = a
 compound Modern2025 a = compound_end a
 
+-- in the text of a file `exit` ends the run: U-Boot's prompt takes over
+abbrev pub left_to_prompt : Answer → Answer
+left_to_prompt (Normal s) = Normal s
+left_to_prompt (Exit s) = Ended (End s.memory.status) s
+left_to_prompt (Ended ending s) = Ended ending s
+left_to_prompt (Dry s) = Dry s
+
+-- what the text of a file comes to, by what is in it: `exit` ends this text alone, in the modern shell the run, as it sets the input
+-- of the shell to the console (; `parse_and_run_stream`, `setup_file_in_str`)
+abbrev pub sourced : Shell → Answer → Answer
+sourced Profile a = a
+sourced Old2023 a = a
+sourced Old2025 a = a
+sourced Modern2025 a = left_to_prompt a
+
 -- fields that hold too many bytes end the run
 abbrev pub sized : List Text → (List Text → State → Answer) → State → Answer
 sized fs next s = elim (nat_le (size fs) most_bytes) [ true ↦ next fs s | false ↦ Ended Size s ]
@@ -296,6 +311,28 @@ module _ (limits : Limits) where
         | Some text ↦ text_end limits.shell (started_text script name text s) (run_all script names)
       ]
 
+  -- the text of a file, read when its turn comes
+  abbrev pub sourced_text : (script : Script → State → Answer) → (name text : Text) → State → Answer
+  sourced_text script name text s = sourced limits.shell (run_read script name (sourced_in limits.shell text) s)
+
+  -- the text of a file, as `source` runs it
+  abbrev pub run_file : (script : Script → State → Answer) → (name : Text) → State → Answer
+  run_file script name s =
+      elim (file_in limits.devices name) [
+        | None ↦ Normal (set_status 1 s)
+        | Some text ↦ text_end limits.shell (sourced_text script name text s) Normal
+      ]
+
+  -- after a success the text of a file runs, with the status that was before the command
+  abbrev pub file_follows : (script : Script → State → Answer) → (name : Text) → (before : ℕ) → State → Answer
+  file_follows script name before s =
+      elim (nat_eq s.memory.status 0) [ true ↦ run_file script name (set_status before s) | false ↦ Normal s ]
+
+  -- a device command hands over to the text of a file if it names one and has succeeded
+  abbrev pub handed_over : (script : Script → State → Answer) → (runs : Option Text) → (before : ℕ) → Answer → Answer
+  handed_over script None before a = a
+  handed_over script (Some name) before a = go_on a (file_follows script name before)
+
   -- a command by its fields, the name first; `again` says whether it is read again
   abbrev pub command : (again : Bool) → (script : Script → State → Answer) → Called → (name : Text) →
       (words : List Text) → State → Answer
@@ -314,7 +351,7 @@ module _ (limits : Limits) where
         | None ↦ Normal (set_status (status_of_exit limits.shell words) s)
       ]
   command again script (Device effect) name words s =
-      device (request_of name words (effect_now s.log effect)) s
+      handed_over script effect.runs s.memory.status (device (request_of name words (effect_now s.log effect)) s)
   command again script NoCommand name words s = Ended (Unknown name) s
 
   -- a call by its fields. Without a field it does nothing
