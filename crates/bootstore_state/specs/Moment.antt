@@ -33,8 +33,8 @@ set_in_turn variables (pair ∷ pairs) = set_in_turn (insert variables pair.0 pa
 abbrev pub environment_of : List (Bytes × Bytes) → Variables
 environment_of pairs = set_in_turn empty pairs
 
--- a script that is running: what it says, the fields of its `for` or the names of its `run`, and the place that it has
--- reached
+-- a script that is running: what it says, the fields of its `for`, the names of its `run` or the name of its file, and the
+-- place that it has reached
 pub record RunningFrame : Type 0 where
   pub kind : FrameKind
   pub script : Script

@@ -19,6 +19,8 @@ pub enum FrameKind {
     For,
     /// The variables that a `run` names.
     Run,
+    /// The text of a file, in turn 0 if the command that named it has succeeded.
+    File,
 }
 
 /// A place in a script.
@@ -76,7 +78,7 @@ impl Frame {
         }
     }
 
-    /// A frame with the fields of its `for`, or the names of its `run`.
+    /// A frame with the fields of its `for`, the names of its `run`, or the name of its file.
     pub fn with_words(kind: FrameKind, script: Rc<Script>, words: Rc<Vec<Vec<u8>>>, at: At) -> Self
         ensures kind { result.kind ≡ kind }
         ensures script { result.script ≡ view.script script.value }
@@ -105,7 +107,7 @@ impl Frame {
         &self.script
     }
 
-    /// The fields of its `for`, or the names of its `run`.
+    /// The fields of its `for`, the names of its `run`, or the name of its file.
     pub fn words(&self) -> &[Vec<u8>]
         ensures { bytes_of_words result.now ≡ self.now.words }
     {

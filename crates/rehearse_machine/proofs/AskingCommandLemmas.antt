@@ -18,7 +18,7 @@ use Rattle.rehearse_rules.specs.Needs.{effect_now}
 use Rattle.rehearse_terms.specs.declared.shell.Shell.{Shell}
 use Rattle.rehearse_terms.specs.declared.shell.Shell.TheVariants.{Profile, Old2023, Old2025, Modern2025}
 use Rattle.rehearse_rules.specs.Execution.{Limits, CutDevices, Size, Request, told, told_again, logged, set_environment, set_status, status_when, Unsupported, request_of, test_request}
-use Rattle.rehearse_machine.specs.Places.{PlaceNext, GoOn, AskOn, StopOn, left, place_finish, place_exit, place_tell_or_ask, place_ask, place_called, place_fields, left_compound, left_script, left_by, command_over, place_simple_call}
+use Rattle.rehearse_machine.specs.Places.{PlaceNext, GoOn, AskOn, StopOn, left, place_finish, place_exit, place_tell_or_ask, place_ask, place_called, place_fields, left_compound, left_script, left_by, command_over, place_simple_call, above_file, left_file, file_left}
 use Rattle.rehearse_machine.specs.AskingCommand.{words_in_front, fields_again, found_again}
 use Rattle.rehearse_machine.specs.Machine.{Asking}
 
@@ -41,11 +41,22 @@ script_anew : (shell : Shell) (turn : ℕ) (p : RunningFrame) (ps : List Running
 script_anew shell zero p ps outwards s h = h
 script_anew shell (suc a) p ps outwards s h = compound_anew shell (command_over p ∷ ps) outwards s h
 
+file_anew : (shell : Shell) (ps : List RunningFrame) (s : State) → AsksAnew (file_left shell ps s)
+file_anew Profile ps s = tt
+file_anew Old2023 ps s = tt
+file_anew Old2025 ps s = tt
+file_anew Modern2025 ps s = tt
+
 kind_anew : (shell : Shell) (kind : FrameKind) (p : RunningFrame) (ps : List RunningFrame) (outwards : PlaceNext) (s : State) → AsksAnew outwards → AsksAnew (left_by shell kind p ps outwards s)
 kind_anew shell kinds.Text p ps outwards s h = script_anew shell p.place.turn p ps outwards s h
 kind_anew shell kinds.Block p ps outwards s h = script_anew shell p.place.turn p ps outwards s h
 kind_anew shell kinds.For p ps outwards s h = compound_anew shell ps outwards s h
 kind_anew shell kinds.Run p ps outwards s h = either_anew (nat_eq s.memory.status 0) (GoOn (p ∷ ps) s) (GoOn ps s) tt tt
+kind_anew shell kinds.File p ps outwards s h = by p.place.turn
+  where
+    by : (turn : ℕ) → AsksAnew (left_file shell turn ps outwards s)
+    by zero = h
+    by (suc k) = file_anew shell ps s
 
 left_anew : (shell : Shell) (ps : List RunningFrame) (s : State) → AsksAnew (left shell ps s)
 left_anew shell [] s = tt
@@ -61,7 +72,7 @@ finish_anew None name ps s = tt
 
 tell_anew : (o : Option Bool) (r : Request) (ps : List RunningFrame) (s : State) → r.again ≡ false → AsksAnew (place_tell_or_ask o r ps s)
 tell_anew None r ps s e = e
-tell_anew (Some true) r ps s e = finish_anew r.effect.ends r.name ps (set_environment (sets_in r.words r.effect.sets) (logged Success (told_again r) s))
+tell_anew (Some true) r ps s e = finish_anew r.effect.ends r.name (above_file s.memory.status r.effect.runs ps) (set_environment (sets_in r.words r.effect.sets) (logged Success (told_again r) s))
 tell_anew (Some false) r ps s e = tt
 
 module _ (limits : Limits) where

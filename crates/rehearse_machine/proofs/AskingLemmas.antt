@@ -9,9 +9,10 @@ use Rattle.bootstore_state.specs.Moment.{RunningFrame}
 use Rattle.bootstore_state.specs.declared.frame.FrameKind.{FrameKind}
 use Rattle.bootstore_state.specs.declared.frame.FrameKind.TheVariants as kinds
 use Rattle.std.specs.Prelude.{slice_get}
-use Rattle.hushlang_shells.specs.TreesByShell.{TextRead, Runs, Fails, Panics, Unread, started_in}
+use Rattle.hushlang_shells.specs.TreesByShell.{TextRead, Runs, Fails, Panics, Unread, started_in, sourced_in}
 use Rattle.rehearse_terms.specs.State.{Text, get, State}
 use Rattle.rehearse_rules.specs.Parameters.{parameters_in}
+use Rattle.device_list.specs.DeviceList.{file_in}
 use Rattle.device_list.specs.Called.{Called, BuiltIn, NoCommand, Device, called_by, sets_in}
 use Rattle.commands.specs.BuiltInCommands.{ChangesVariables, WritesText, RunsTexts, Tests, Exits}
 use Rattle.rehearse_rules.specs.Needs.{effect_now}
@@ -19,7 +20,7 @@ use Rattle.rehearse_terms.specs.declared.shell.Shell.{Shell}
 use Rattle.rehearse_terms.specs.declared.shell.Shell.TheVariants.{Profile, Old2023, Old2025, Modern2025}
 use Rattle.rehearse_rules.specs.Execution.{Limits, CutDevices, CutSteps, Size, set_status, status_when, goes, holds, Request, told, told_again, logged, set_environment, Unsupported, assign_local, request_of, test_request, text_failed, for_begun, block_skipped}
 use Rattle.rehearse_terms.specs.Outcomes.{Success}
-use Rattle.rehearse_machine.specs.Places.{PlaceNext, GoOn, AskOn, StopOn, list_at, joined_at, second, command_in, command_at, drop_arms, block_frame, behind, in_turn, left, place_exit, place_finish, place_tell_or_ask, place_assign, place_read, place_text, place_name, run_move, for_turn, for_move, for_begins, place_arms, condition_ends, phase_move, place_fitting, place_ask, place_called, place_fields, place_counted, place_command, place_joined, place_begins, place_turn, place_list, place_by, place_move, place_skipped, moved_to, place, place_turns, place_for, left_compound, left_script, left_by, command_over, with_block, if_moves, loop_moves, place_simple_call}
+use Rattle.rehearse_machine.specs.Places.{PlaceNext, GoOn, AskOn, StopOn, list_at, joined_at, second, command_in, command_at, drop_arms, block_frame, behind, in_turn, left, place_exit, place_finish, place_tell_or_ask, place_assign, place_read, place_text, place_name, run_move, for_turn, for_move, for_begins, place_arms, condition_ends, phase_move, place_fitting, place_ask, place_called, place_fields, place_counted, place_command, place_joined, place_begins, place_turn, place_list, place_by, place_move, place_skipped, moved_to, place, place_turns, place_for, left_compound, left_script, left_by, command_over, with_block, if_moves, loop_moves, place_simple_call, above_file, left_file, file_left, place_sourced, file_begins, file_ends, file_move}
 use Rattle.rehearse_machine.specs.AskingCommand.{words_of, fields_again, found_again, AsksAgain}
 use Rattle.rehearse_rules.specs.ByShell.{reads_again, leaves_in, status_of_exit, asks_in, truth_in, fields_in, turns_in, status_of_loop, skips_rest, follows, assigned_in, follows_turns, call_in}
 
@@ -70,11 +71,22 @@ module _ (limits : Limits) where
   script_here zero ps q qs outwards s t h = h
   script_here (suc a) ps q qs outwards s t h = compound_here limits.shell ps (command_over q ∷ qs) outwards s t h
 
+  file_here : (shell : Shell) (ps qs : List RunningFrame) (s t : State) → AsksHere ps s (file_left shell qs t)
+  file_here Profile ps qs s t = tt
+  file_here Old2023 ps qs s t = tt
+  file_here Old2025 ps qs s t = tt
+  file_here Modern2025 ps qs s t = tt
+
   kind_here : (kind : FrameKind) (ps : List RunningFrame) (q : RunningFrame) (qs : List RunningFrame) (outwards : PlaceNext) (s t : State) → AsksHere ps s outwards → AsksHere ps s (left_by limits.shell kind q qs outwards t)
   kind_here kinds.Text ps q qs outwards s t h = script_here q.place.turn ps q qs outwards s t h
   kind_here kinds.Block ps q qs outwards s t h = script_here q.place.turn ps q qs outwards s t h
   kind_here kinds.For ps q qs outwards s t h = compound_here limits.shell ps qs outwards s t h
   kind_here kinds.Run ps q qs outwards s t h = either_here ps s (nat_eq t.memory.status 0) (GoOn (q ∷ qs) t) (GoOn qs t) tt tt
+  kind_here kinds.File ps q qs outwards s t h = by q.place.turn
+    where
+      by : (turn : ℕ) → AsksHere ps s (left_file limits.shell turn qs outwards t)
+      by zero = h
+      by (suc k) = file_here limits.shell ps qs s t
 
   left_here : (ps qs : List RunningFrame) (s t : State) → AsksHere ps s (left limits.shell qs t)
   left_here ps [] s t = tt
@@ -90,7 +102,7 @@ module _ (limits : Limits) where
 
   tell_here : (o : Option Bool) (r : Request) (ps : List RunningFrame) (s : State) → AsksHere ps s (place_tell_or_ask o r ps s)
   tell_here None r ps s = (refl, refl)
-  tell_here (Some true) r ps s = finish_here ps ps r.effect.ends r.name s (set_environment (sets_in r.words r.effect.sets) (logged Success (told_again r) s))
+  tell_here (Some true) r ps s = finish_here ps (above_file s.memory.status r.effect.runs ps) r.effect.ends r.name s (set_environment (sets_in r.words r.effect.sets) (logged Success (told_again r) s))
   tell_here (Some false) r ps s = tt
 
   ask_here : (r : Request) (ps : List RunningFrame) (s : State) → AsksHere ps s (place_ask limits r ps s)
@@ -195,6 +207,21 @@ module _ (limits : Limits) where
       let h : NeverAsks named = name_never (slice_get f.words f.place.turn) f ps s in
       either_never (nat_eq f.place.turn 0) named (elim (nat_eq s.memory.status 0) [ true ↦ named | false ↦ GoOn ps (text_failed limits.shell s) ]) h (either_never (nat_eq s.memory.status 0) named (GoOn ps (text_failed limits.shell s)) h tt)
 
+  sourced_never : (o : Option Text) (name : Text) (f : RunningFrame) (ps : List RunningFrame) (s : State) → NeverAsks (place_sourced limits.shell o name f ps s)
+  sourced_never None name f ps s = tt
+  sourced_never (Some text) name f ps s = read_never (sourced_in limits.shell text) name f ps s
+
+  begins_never : (o : Option Text) (f : RunningFrame) (ps : List RunningFrame) (s : State) → NeverAsks (file_begins limits o f ps s)
+  begins_never None f ps s = tt
+  begins_never (Some name) f ps s =
+      let found : Option Text = file_in limits.devices name in
+      either_never (nat_eq s.memory.status 0) (place_sourced limits.shell found name f ps (set_status f.place.last s)) (GoOn ps s) (sourced_never found name f ps (set_status f.place.last s)) tt
+
+  file_never : (f : RunningFrame) (ps : List RunningFrame) (s : State) → NeverAsks (file_move limits f ps s)
+  file_never f ps s =
+      either_never (nat_eq f.place.turn 0) (file_begins limits (slice_get f.words 0) f ps s) (file_ends limits ps s) (begins_never (slice_get f.words 0) f ps s)
+      (either_never (nat_eq s.memory.status 0) (GoOn ps s) (GoOn ps (text_failed limits.shell s)) tt tt)
+
   -- ---- a move
 
   module _ (f : RunningFrame) (fs : List RunningFrame) where
@@ -243,6 +270,7 @@ module _ (limits : Limits) where
     by_again kinds.Block s = list_again (list_at f.script f.place.list) s refl
     by_again kinds.For s = never_again (place_by limits kinds.For f fs s) (values_never (command_at (list_at f.script f.place.list) f.place.command) f fs s)
     by_again kinds.Run s = never_again (run_move limits.shell f fs s) (run_never f fs s)
+    by_again kinds.File s = never_again (file_move limits f fs s) (file_never f fs s)
 
   -- a move to a command that asks leaves the frames in which it is found again
   pub asks_again : (ps : List RunningFrame) (s : State) → AsksAgain limits (place_move limits ps s)

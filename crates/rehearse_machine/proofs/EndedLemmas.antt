@@ -176,6 +176,7 @@ module _ (limits : Limits) where
   text_by kinds.Block f k e fs a h = absurd (let g = k in cc)
   text_by kinds.For f k e fs a h = absurd (let g = k in cc)
   text_by kinds.Run f k e fs a h = absurd (let g = k in cc)
+  text_by kinds.File f k e fs a h = absurd (let g = k in cc)
 
   text_ended : (f : RunningFrame) → has_ended f ≡ true → (fs : List Frame) (a : Answer) → HasNoExit a → continue limits (frames_by f.kind f ++ fs) a ≡ continue limits fs a
   text_ended f e = let tests = and_parts (is_text f.kind) (is_at_end f) e in text_by f.kind f tests.0 tests.1
@@ -185,6 +186,7 @@ module _ (limits : Limits) where
   block_by kinds.Block f k e fs a h = at_end f e fs a h
   block_by kinds.For f k e fs a h = absurd (let g = k in cc)
   block_by kinds.Run f k e fs a h = absurd (let g = k in cc)
+  block_by kinds.File f k e fs a h = absurd (let g = k in cc)
 
   block_done : (f : RunningFrame) → is_done f ≡ true → (fs : List Frame) (a : Answer) → HasNoExit a → continue limits (frames_by f.kind f ++ fs) a ≡ continue limits fs a
   block_done f e = let tests = and_parts (is_block f.kind) (is_at_end f) e in block_by f.kind f tests.0 tests.1
@@ -207,6 +209,7 @@ module _ (limits : Limits) where
   run_by kinds.Block f k z e = absurd (let g = k in cc)
   run_by kinds.For f k z e = absurd (let g = k in cc)
   run_by kinds.Run f k z e = ap (λ (x : Frame). x ∷ []) (names_over f.place.turn f.words z e)
+  run_by kinds.File f k z e = absurd (let g = k in cc)
 
   run_ended : (f : RunningFrame) → has_run_all f ≡ true → frames_by f.kind f ≡ RunText [] ∷ []
   run_ended f e =
@@ -268,6 +271,7 @@ module _ (limits : Limits) where
   begins_by kinds.Block f k z = absurd (let g = k in cc)
   begins_by kinds.For f k z = absurd (let g = k in cc)
   begins_by kinds.Run f k z = ap (λ (n : ℕ). run_frame n f.words ∷ []) z
+  begins_by kinds.File f k z = absurd (let g = k in cc)
 
   run_begins : (f : RunningFrame) → begins f ≡ true → frames_by f.kind f ≡ RunNames f.words ∷ []
   run_begins f e = let tests = and_parts (is_run f.kind) (nat_eq f.place.turn 0) e in begins_by f.kind f tests.0 (eqb-true f.place.turn 0 tests.1)

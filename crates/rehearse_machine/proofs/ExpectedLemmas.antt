@@ -9,14 +9,14 @@ use Rattle.rehearse_terms.specs.Outcomes.{OutcomeWord, Outcome, Success, Failure
 use Rattle.rehearse_terms.specs.State.{Text, State, LoggedCommand}
 use Rattle.rehearse_terms.specs.declared.shell.Shell.{Shell}
 use Rattle.rehearse_terms.specs.declared.shell.Shell.TheVariants.{Profile, Old2023, Old2025, Modern2025}
-use Rattle.rehearse_rules.specs.Execution.{Limits, Answer, Normal, Exit, Ended, Dry, take_outcome, run_all, for_each, outcome_when, succeeds, block_skipped, compound, compound_end, go_on}
+use Rattle.rehearse_rules.specs.Execution.{Limits, Answer, Normal, Exit, Ended, Dry, take_outcome, run_all, for_each, outcome_when, succeeds, block_skipped, compound, compound_end, go_on, file_follows, sourced, left_to_prompt}
 use Rattle.rehearse_rules.specs.Expected.{Answered, asked_in}
 use Rattle.rehearse_rules.specs.Laws.{IsExpected}
 use Rattle.rehearse_rules.specs.Runs.{Task, run_on, state_of}
-use Rattle.rehearse_rules.proofs.TakenOutcomes.{KeepsAll, HasAnswered, Track-of, answered_on, go_on-answered, text_end-answered, outcome_answers, Keeps-script, Keeps-joined, Keeps-arms, Keeps-exec, Keeps-run, Keeps-turns, Keeps-for, Keeps-if, Keeps-stays, after_condition, Keeps-after_condition, Keeps-skip}
+use Rattle.rehearse_rules.proofs.TakenOutcomes.{KeepsAll, HasAnswered, Track-of, answered_on, go_on-answered, text_end-answered, outcome_answers, Keeps-script, Keeps-joined, Keeps-arms, Keeps-exec, Keeps-run, Keeps-turns, Keeps-for, Keeps-if, Keeps-stays, after_condition, Keeps-after_condition, Keeps-skip, Keeps-file}
 use Rattle.rehearse_rules.proofs.UnexpectedAnswers.{AsksAt, asks_at, expected_at}
 use Rattle.rehearse_machine.specs.Came.{Came, Over, Wants, settled}
-use Rattle.rehearse_machine.specs.Frames.{Frame, Lists, Linked, IfCondition, LoopCondition, LoopBody, ForBody, RunNames, RunText, CommandEnd}
+use Rattle.rehearse_machine.specs.Frames.{Frame, Lists, Linked, IfCondition, LoopCondition, LoopBody, ForBody, RunNames, RunText, CommandEnd, RunFile, FileText, with_file}
 use Rattle.rehearse_machine.specs.Places.{PlaceNext, next_of, frames_of}
 use Rattle.rehearse_machine.specs.Meaning.{first_or_next, full, script, joined_of, arms_of, again, resume, continue, comes_to}
 use Rattle.rehearse_machine.specs.Machine.{Asking, IsAsking, asked_at}
@@ -65,6 +65,18 @@ module _ (limits : Limits) (call : List Text) (d : Outcome) (log : List LoggedCo
   compound_answered Old2025 a h = h
   compound_answered Modern2025 a h = end_answered a h
 
+  prompt_answered : (a : Answer) → Has a → Has (left_to_prompt a)
+  prompt_answered (Normal t) h = h
+  prompt_answered (Exit t) h = h
+  prompt_answered (Ended ending t) h = h
+  prompt_answered (Dry t) h = h
+
+  sourced_answered : (shell : Shell) (a : Answer) → Has a → Has (sourced shell a)
+  sourced_answered Profile a h = h
+  sourced_answered Old2023 a h = h
+  sourced_answered Old2025 a h = h
+  sourced_answered Modern2025 a h = prompt_answered a h
+
   resume_answered : (f : Frame) (a : Answer) → Has a → Has (resume limits f a)
   resume_answered (Lists lists) a h = go_on-answered limits.device_bound call d log a (script limits lists) (kept_script lists) h
   resume_answered (Linked links) a h = go_on-answered limits.device_bound call d log a (joined_of limits links) (Keeps-joined limits limits.step_bound (full limits) kept_full links) h
@@ -85,6 +97,8 @@ module _ (limits : Limits) (call : List Text) (d : Outcome) (log : List LoggedCo
       (go_on-answered limits.device_bound call d log a rest (λ t. Keeps-for limits name (script limits body) (kept_script body) t.memory.status values t) h)
   resume_answered (RunNames names) a h = first_answered a (run_all limits (full limits) names) (kept_names names) h
   resume_answered (RunText names) a h = text_end-answered limits.device_bound limits.shell call d log a (run_all limits (full limits) names) (kept_names names) h
+  resume_answered (RunFile name before) a h = go_on-answered limits.device_bound call d log a (file_follows limits (full limits) name before) (Keeps-file limits (full limits) kept_full name before) h
+  resume_answered FileText a h = text_end-answered limits.device_bound limits.shell call d log (sourced limits.shell a) Normal (Keeps-stays limits.device_bound) (sourced_answered limits.shell a h)
   resume_answered CommandEnd a h = compound_answered limits.shell a h
 
   -- the log of what a run comes to
@@ -115,11 +129,12 @@ call_same task p m stopped asking fresh asks =
     let call : List Text = call_of asking.request in
     let s : State = state_at m (Success ∷ []) in
     let a : Answer = take_outcome asking.request (Success ∷ []) s in
-    let has : HasAnswered call Success m.log (log_of limits call Success m.log (continue limits (frames_of m.frames) a)) =
-    continue_answered limits call Success m.log (frames_of m.frames) a (outcome_answers limits s asking.request Success [] fresh) in
-    let comes : settled (run_on task (p ++ Success ∷ [])) ≡ continue limits (frames_of m.frames) a =
+    let below : List Frame = with_file s.memory.status asking.request.effect.runs (frames_of m.frames) in
+    let has : HasAnswered call Success m.log (log_of limits call Success m.log (continue limits below a)) =
+    continue_answered limits call Success m.log below a (outcome_answers limits s asking.request Success [] fresh) in
+    let comes : settled (run_on task (p ++ Success ∷ [])) ≡ continue limits below a =
     stopped.1 (Success ∷ []) ∙ ap (λ (x : PlaceNext). comes_to limits (Success ∷ []) (next_of x)) (asking.again (Success ∷ [])) in
-    let log_there : (state_of (run_on task (p ++ Success ∷ []))).log ≡ log_of limits call Success m.log (continue limits (frames_of m.frames) a) =
+    let log_there : (state_of (run_on task (p ++ Success ∷ []))).log ≡ log_of limits call Success m.log (continue limits below a) =
     sym (settled_log limits call Success m.log (run_on task (p ++ Success ∷ []))) ∙ ap (log_of limits call Success m.log) comes in
     let log_here : (state_of (run_on task p)).log ≡ m.log = ap (λ (x : Answer). (state_of x).log) (dry_there task p m stopped) in
     let one : asked_in m.log ++ (true, call) ∷ has.further ≡ asked_in m.log ++ (true, asks.call) ∷ [] =

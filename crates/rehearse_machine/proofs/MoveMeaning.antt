@@ -4,21 +4,23 @@ use Rattle.device_list.specs.declared.finish.BoardEnd.{BoardEnd}
 use Rattle.hushlang.specs.Tree as tree
 use Rattle.hushlang.specs.Tree.{Script, Command, Arms, IsProper, IsProperCommand, HoldsCommand}
 use Rattle.hushlang.specs.Expansion.{fields, size, most_bytes}
-use Rattle.hushlang_shells.specs.TreesByShell.{TextRead, Runs, Fails, Panics, Unread, started_in}
+use Rattle.hushlang_shells.specs.TreesByShell.{TextRead, Runs, Fails, Panics, Unread, started_in, sourced_in}
 use Rattle.rehearse_terms.specs.Outcomes.{OutcomeWord, Success}
 use Rattle.rehearse_terms.specs.State.{Text, get, State}
 use Rattle.rehearse_rules.specs.Parameters.{parameters_in}
+use Rattle.device_list.specs.DeviceList.{file_in}
 use Rattle.device_list.specs.Called.{Called, BuiltIn, NoCommand, Device, called_by, sets_in}
 use Rattle.commands.specs.BuiltInCommands.{ChangesVariables, WritesText, RunsTexts, Tests, Exits}
 use Rattle.rehearse_rules.specs.Needs.{effect_now}
-use Rattle.rehearse_rules.proofs.CompoundLemmas.{compound_normal, compound_ended, compound_dry}
-use Rattle.rehearse_rules.specs.Execution.{Limits, Answer, Normal, Exit, Ended, Dry, Ending, CutDevices, CutSteps, Unknown, Size, go_on, set_status, status_when, goes, holds, begin, tell_or_take, told, told_again, logged, finish, set_environment, Finished, device, Request, text_end, run_read, run_all, command, simple, sized, assign, turns, for_each, Unsupported, Panic, assign_local, request_of, test_request, started_text, text_failed, turns_of, for_words, for_begun, block_skipped, compound, compound_left, simple_call}
-use Rattle.rehearse_machine.specs.Frames.{Frame, Lists, Linked, IfCondition, LoopCondition, LoopBody, ForBody, RunNames, RunText, Next, Go, Stop, tell_or_ask, finish_next, leave, begin_assign, begin_for, begin_arms, begin_read, begin_text, begin_names, begin_exit, fitting, ask, begin_called, begin_fields, counted, begin_command, move, begin_turns, begin_words, CommandEnd, leave_compound, behind_block, begin_simple_call}
+use Rattle.rehearse_rules.proofs.NeedsLemmas.{now_runs}
+use Rattle.rehearse_rules.proofs.CompoundLemmas.{compound_normal, compound_ended, compound_dry, sourced_normal, sourced_ended, sourced_dry}
+use Rattle.rehearse_rules.specs.Execution.{Limits, Answer, Normal, Exit, Ended, Dry, Ending, End, CutDevices, CutSteps, Unknown, Size, go_on, set_status, status_when, goes, holds, begin, tell_or_take, told, told_again, logged, finish, set_environment, Finished, device, Request, text_end, run_read, run_all, command, simple, sized, assign, turns, for_each, Unsupported, Panic, assign_local, request_of, test_request, started_text, text_failed, turns_of, for_words, for_begun, block_skipped, compound, compound_left, simple_call, run_file, handed_over, sourced, sourced_text}
+use Rattle.rehearse_machine.specs.Frames.{Frame, Lists, Linked, IfCondition, LoopCondition, LoopBody, ForBody, RunNames, RunText, Next, Go, Stop, tell_or_ask, finish_next, leave, begin_assign, begin_for, begin_arms, begin_read, begin_text, begin_names, begin_exit, fitting, ask, begin_called, begin_fields, counted, begin_command, move, begin_turns, begin_words, CommandEnd, leave_compound, behind_block, begin_simple_call, RunFile, FileText, with_file, leave_file, begin_sourced, begin_file}
 use Rattle.rehearse_machine.specs.Came.{Over, Wants}
 use Rattle.rehearse_machine.specs.Meaning.{with, full, script, one, joined_of, arms_of, again, resume, continue, comes_to, AreProperFrames}
 use Rattle.rehearse_rules.proofs.GrowingSteps.{Grew, AtLeast-track, Grew-block}
 use Rattle.rehearse_rules.proofs.TakenOutcomes.{KeepsAll, after_condition, Keeps-script, Keeps-exec}
-use Rattle.hushlang_shells.proofs.TreeByShellLemmas.{started_texts_are_proper}
+use Rattle.hushlang_shells.proofs.TreeByShellLemmas.{started_texts_are_proper, sourced_texts_are_proper}
 use Rattle.rehearse_machine.proofs.BoundLemmas.{Cut-block}
 use Rattle.rehearse_machine.proofs.StepBoundLemmas.{same_go_on, same_if, closed_exec, same_turns}
 use Rattle.rehearse_terms.specs.declared.shell.Shell.{Shell}
@@ -44,6 +46,8 @@ module _ (limits : Limits) where
   resume-ended (ForBody name values body) ending s = compound_ended limits.shell ending s
   resume-ended (RunNames names) ending s = refl
   resume-ended (RunText names) ending s = refl
+  resume-ended (RunFile name before) ending s = refl
+  resume-ended FileText ending s = ap (λ (a : Answer). text_end limits.shell a Normal) (sourced_ended limits.shell ending s)
   resume-ended CommandEnd ending s = compound_ended limits.shell ending s
 
   resume-dry : (f : Frame) (s : State) → resume limits f (Dry s) ≡ Dry s
@@ -55,6 +59,8 @@ module _ (limits : Limits) where
   resume-dry (ForBody name values body) s = compound_dry limits.shell s
   resume-dry (RunNames names) s = refl
   resume-dry (RunText names) s = refl
+  resume-dry (RunFile name before) s = refl
+  resume-dry FileText s = ap (λ (a : Answer). text_end limits.shell a Normal) (sourced_dry limits.shell s)
   resume-dry CommandEnd s = compound_dry limits.shell s
 
   pub continue-ended : (fs : List Frame) (ending : Ending) (s : State) → continue limits fs (Ended ending s) ≡ Over ending s
@@ -86,6 +92,17 @@ module _ (limits : Limits) where
     left_compound-is Old2025 own ps fs s outwards same e = e
     left_compound-is Modern2025 own ps fs s outwards same e = same (with w (compound_left s))
 
+    -- a text that `exit` has left, and nothing follows in its command
+    exit_ends : (s : State) (b : Bool) → elim b [ true ↦ Normal s | false ↦ Normal s ] ≡ Normal s
+    exit_ends s true = refl
+    exit_ends s false = refl
+
+    left_file-is : (shell : Shell) → limits.shell ≡ shell → (fs : List Frame) (s : State) → comes_to limits w (leave_file shell fs s) ≡ continue limits fs (text_end limits.shell (sourced shell (Exit (with w s))) Normal)
+    left_file-is Profile own fs s = ap (continue limits fs) (sym (exit_ends (with w s) (nat_eq s.memory.status 0)))
+    left_file-is Old2023 own fs s = ap (continue limits fs) (sym (exit_ends (with w s) (nat_eq s.memory.status 0)))
+    left_file-is Old2025 own fs s = ap (continue limits fs) (sym (exit_ends (with w s) (nat_eq s.memory.status 0)))
+    left_file-is Modern2025 own fs s = sym (continue-ended fs (End s.memory.status) (with w s))
+
     leave-is : (fs : List Frame) (s : State) → comes_to limits w (leave limits.shell fs s) ≡ continue limits fs (Exit (with w s))
     leave-is [] s = refl
     leave-is (RunNames names ∷ fs) s = if-is (nat_eq s.memory.status 0) (Go (RunNames names ∷ fs) s) (Go fs s) fs (run_all limits (full limits) names (with w s)) (Normal (with w s)) refl refl
@@ -96,6 +113,8 @@ module _ (limits : Limits) where
     leave-is (LoopCondition until c b last ∷ fs) s = left_compound-is limits.shell refl (CommandEnd ∷ fs) fs s (leave limits.shell fs s) (λ t. sym (over-is fs t)) (leave-is fs s)
     leave-is (LoopBody until c b ∷ fs) s = left_compound-is limits.shell refl (CommandEnd ∷ fs) fs s (leave limits.shell fs s) (λ t. sym (over-is fs t)) (leave-is fs s)
     leave-is (ForBody name fields body ∷ fs) s = left_compound-is limits.shell refl fs fs s (leave limits.shell fs s) (λ t. refl) (leave-is fs s)
+    leave-is (RunFile name before ∷ fs) s = leave-is fs s
+    leave-is (FileText ∷ fs) s = left_file-is limits.shell refl fs s
     leave-is (CommandEnd ∷ fs) s = left_compound-is limits.shell refl (CommandEnd ∷ fs) fs s (leave limits.shell fs s) (λ t. sym (over-is fs t)) (leave-is fs s)
 
     assign-is : (pairs : List (Text × tree.Word)) (fs : List Frame) (s : State) → comes_to limits w (begin_assign limits.shell pairs fs s) ≡ continue limits fs (assign limits.shell pairs (with w s))
@@ -115,6 +134,20 @@ module _ (limits : Limits) where
     text-is None name names fs s = refl
     text-is (Some v) name names fs s = read-is (started_in limits.shell v) name names fs s (started_texts_are_proper limits.shell v)
 
+    -- the text of a file
+    sourced-is : (found : TextRead) (name : Text) (fs : List Frame) (s : State) → ((t : Script) → found ≡ Runs t → IsProper t) → comes_to limits w (begin_sourced limits.shell found name fs s) ≡ continue limits fs (text_end limits.shell (sourced limits.shell (run_read limits (full limits) name found (with w s))) Normal)
+    sourced-is Fails name fs s p =
+        ap (λ (n : ℕ). continue limits fs (Normal (set_status n (with w s)))) (sym (failed_with_1 limits.shell))
+        ∙ ap (λ (a : Answer). continue limits fs (text_end limits.shell a Normal)) (sym (sourced_normal limits.shell (set_status 1 (with w s))))
+    sourced-is Panics name fs s p = sym (ap (λ (a : Answer). continue limits fs (text_end limits.shell a Normal)) (sourced_ended limits.shell (Panic name) (with w s)) ∙ continue-ended fs (Panic name) (with w s))
+    sourced-is Unread name fs s p = sym (ap (λ (a : Answer). continue limits fs (text_end limits.shell a Normal)) (sourced_ended limits.shell (unread limits.shell name) (with w s)) ∙ continue-ended fs (unread limits.shell name) (with w s))
+    sourced-is (Runs tree.Empty) name fs s p = ap (λ (a : Answer). continue limits fs (text_end limits.shell (sourced limits.shell a) Normal)) (sym (closed_exec limits limits.step_bound tree.Empty tt (set_status 0 (with w s)) (omega arith)))
+    sourced-is (Runs (tree.Runs l ls)) name fs s p = ap (λ (a : Answer). continue limits fs (text_end limits.shell (sourced limits.shell a) Normal)) (sym (closed_exec limits limits.step_bound (tree.Runs l ls) (p (tree.Runs l ls) refl) (with w s) (omega arith)))
+
+    file-is : (o : Option Text) (name : Text) (fs : List Frame) (s : State) → comes_to limits w (begin_file limits.shell o name fs s) ≡ continue limits fs (elim o [ None ↦ Normal (set_status 1 (with w s)) | Some v ↦ text_end limits.shell (sourced_text limits (full limits) name v (with w s)) Normal ])
+    file-is None name fs s = refl
+    file-is (Some v) name fs s = sourced-is (sourced_in limits.shell v) name fs s (sourced_texts_are_proper limits.shell v)
+
     names-is : (names : List Text) (fs : List Frame) (s : State) → comes_to limits w (begin_names limits.shell names fs s) ≡ continue limits fs (run_all limits (full limits) names (with w s))
     names-is [] fs s = refl
     names-is (name ∷ names) fs s = text-is (get s.memory.environment name) name names fs s
@@ -124,13 +157,20 @@ module _ (limits : Limits) where
     finish-is None name fs s = refl
 
     -- a command that is told its answer again, or one that asks
-    tell-is : (o : Option Bool) (request : Request) (fs : List Frame) (s : State) → comes_to limits w (tell_or_ask o request fs s) ≡ continue limits fs (tell_or_take o request (with w s))
+    tell-is : (o : Option Bool) (request : Request) (fs : List Frame) (s : State) → comes_to limits w (tell_or_ask o request fs s) ≡ continue limits (with_file s.memory.status request.effect.runs fs) (tell_or_take o request (with w s))
     tell-is None request fs s = refl
-    tell-is (Some true) request fs s = finish-is request.effect.ends request.name fs (set_environment (sets_in request.words request.effect.sets) (logged Success (told_again request) s))
+    tell-is (Some true) request fs s = finish-is request.effect.ends request.name (with_file s.memory.status request.effect.runs fs) (set_environment (sets_in request.words request.effect.sets) (logged Success (told_again request) s))
     tell-is (Some false) request fs s = refl
 
-    ask-is : (request : Request) (fs : List Frame) (s : State) → comes_to limits w (ask limits request fs s) ≡ continue limits fs (device limits request (with w s))
-    ask-is request fs s = if-is (nat_lt (length s.log) limits.device_bound) (tell_or_ask (told request s.log) request fs s) (Stop CutDevices s) fs (tell_or_take (told request s.log) request (with w s)) (Ended CutDevices (with w s)) (tell-is (told request s.log) request fs s) (sym (continue-ended fs CutDevices (with w s)))
+    ask-is : (request : Request) (fs : List Frame) (s : State) → comes_to limits w (ask limits request fs s) ≡ continue limits (with_file s.memory.status request.effect.runs fs) (device limits request (with w s))
+    ask-is request fs s =
+        let below : List Frame = with_file s.memory.status request.effect.runs fs in
+        if-is (nat_lt (length s.log) limits.device_bound) (tell_or_ask (told request s.log) request fs s) (Stop CutDevices s) below (tell_or_take (told request s.log) request (with w s)) (Ended CutDevices (with w s)) (tell-is (told request s.log) request fs s) (sym (continue-ended below CutDevices (with w s)))
+
+    -- what a command hands over to
+    handed-is : (runs : Option Text) (before : ℕ) (fs : List Frame) (a : Answer) → continue limits (with_file before runs fs) a ≡ continue limits fs (handed_over limits (full limits) runs before a)
+    handed-is None before fs a = refl
+    handed-is (Some name) before fs a = refl
 
     exit-is : (o : Option ℕ) (other : ℕ) (fs : List Frame) (s : State) → comes_to limits w (begin_exit limits.shell o other fs s) ≡ continue limits fs (elim o [ Some status ↦ Exit (set_status status (with w s)) | None ↦ Normal (set_status other (with w s)) ])
     exit-is (Some status) other fs s = leave-is fs (set_status status s)
@@ -143,7 +183,11 @@ module _ (limits : Limits) where
     builtin-is again (BuiltIn Tests) name ws fs s = if-is (asks_in limits.shell ws) (ask limits (test_request limits name ws) fs s) (Go fs (set_status (status_when (truth_in limits.shell ws)) s)) fs (device limits (test_request limits name ws) (with w s)) (Normal (set_status (status_when (truth_in limits.shell ws)) (with w s))) (ask-is (test_request limits name ws) fs s) refl
     builtin-is again (BuiltIn (WritesText written)) name ws fs s = refl
     builtin-is again (BuiltIn Exits) name ws fs s = exit-is (leaves_in limits.shell again ws) (status_of_exit limits.shell ws) fs s
-    builtin-is again (Device effect) name ws fs s = ask-is (request_of name ws (effect_now s.log effect)) fs s
+    builtin-is again (Device effect) name ws fs s =
+        let request : Request = request_of name ws (effect_now s.log effect) in
+        let a : Answer = device limits request (with w s) in
+        ask-is request fs s ∙ handed-is request.effect.runs s.memory.status fs a
+        ∙ ap (λ (runs : Option Text). continue limits fs (handed_over limits (full limits) runs s.memory.status a)) (now_runs s.log effect)
     builtin-is again NoCommand name ws fs s = sym (continue-ended fs (Unknown name) (with w s))
 
     call-is : (again : Bool) (ws : List Text) (fs : List Frame) (s : State) → comes_to limits w (begin_simple_call limits again ws fs s) ≡ continue limits fs (simple_call limits again (full limits) ws (with w s))
@@ -223,4 +267,10 @@ module _ (limits : Limits) where
     move-is (ForBody name (f ∷ values) body ∷ fs) p s = refl
     move-is (RunNames names ∷ fs) p s = names-is names fs s
     move-is (RunText names ∷ fs) p s = if-is (nat_eq s.memory.status 0) (begin_names limits.shell names fs s) (Go fs (text_failed limits.shell s)) fs (run_all limits (full limits) names (with w s)) (Normal (text_failed limits.shell (with w s))) (names-is names fs s) refl
+    move-is (RunFile name before ∷ fs) p s =
+        let t : State = set_status before s in
+        if-is (nat_eq s.memory.status 0) (begin_file limits.shell (file_in limits.devices name) name fs t) (Go fs s) fs (run_file limits (full limits) name (with w t)) (Normal (with w s)) (file-is (file_in limits.devices name) name fs t) refl
+    move-is (FileText ∷ fs) p s =
+        if-is (nat_eq s.memory.status 0) (Go fs s) (Go fs (text_failed limits.shell s)) fs (Normal (with w s)) (Normal (text_failed limits.shell (with w s))) refl refl
+        ∙ ap (λ (a : Answer). continue limits fs (text_end limits.shell a Normal)) (sym (sourced_normal limits.shell (with w s)))
     move-is (CommandEnd ∷ fs) p s = over-is fs (with w s)

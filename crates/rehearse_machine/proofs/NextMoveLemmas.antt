@@ -50,6 +50,7 @@ has_room (nexts.Assigns values) f h = h
 has_room (nexts.Loops name words) f h = h
 has_room nexts.Turns f h = tt
 has_room nexts.Names f h = tt
+has_room nexts.Hands f h = tt
 
 -- what the frame f does next comes by a move that does it
 pub proceeds : (limits : Limits) (r : Result Step StoreError) (old new : Record) (next given : Next) (f : RunningFrame) → given ≡ next → Comes r old new (continued limits next f (under old.present)) → Comes r old new (continued limits given f (under old.present))

@@ -1,9 +1,10 @@
 -- Outcomes of device commands in a store.
-use Rattle.std.proofs.Common.{ℕ, true, false, List, [], ◌∷◌, ◌++◌, ◌+◌, map, drop, length, get_or, Option, Some, None, refl, sym, ap, subst, ◌∙◌, ◌≡◌, ◌<◌, ◌≤◌, arith}
+use Rattle.std.proofs.Common.{ℕ, true, false, List, [], ◌∷◌, ◌++◌, ◌+◌, map, drop, length, get_or, Option, Some, None, Result, refl, sym, ap, subst, ◌∙◌, ◌≡◌, ◌<◌, ◌≤◌, arith}
 use Rattle.std.proofs.Math.ListN.{drop_of_length-le}
 use Rattle.std.specs.FinMap.{entries}
 use Rattle.device_list.specs.declared.finish.BoardEnd.{BoardEnd}
 use Rattle.hushlang.proofs.ExpandLemmas.{drop_next}
+use Rattle.bootstore_state.specs.declared.store.StoreError.{StoreError}
 use Rattle.bootstore_state.specs.Moment.{RunningFrame}
 use Rattle.bootstore_state.specs.Record.{Record, changed, with_environment, with_device, with_status}
 use Rattle.rehearse_terms.specs.Outcomes.{OutcomeWord, Outcome, Success, Failure}
@@ -17,9 +18,9 @@ use Rattle.rehearse_rules.specs.Execution.{Request, Finished, remember, succeeds
 use Rattle.bootstore_state.proofs.StateLemmas.{stored_changes}
 use Rattle.rehearse_machine.specs.declared.ask.Step.{Step}
 use Rattle.rehearse_machine.specs.declared.ask.Step.TheVariants as steps
-use Rattle.rehearse_machine.specs.Places.{GoOn, StopOn, place_finish, place_answered}
-use Rattle.rehearse_machine.specs.MovesShown.{Keeps, Changes, Does, next_shown}
-use Rattle.rehearse_machine.proofs.StoreMoves.{keeps_both, keeps_change}
+use Rattle.rehearse_machine.specs.Places.{GoOn, StopOn, place_finish, place_taken, place_answered}
+use Rattle.rehearse_machine.specs.MovesShown.{Keeps, Changes, Does, Comes, next_shown, file_above}
+use Rattle.rehearse_machine.proofs.StoreMoves.{comes_at, comes_after, keeps_both, keeps_change}
 
 -- one setting of a call, and then the others
 set_cons : (words : List Text) (set : says.Setting) (sets : List says.Setting) (environment : Variables)
@@ -110,11 +111,11 @@ pub after_success : (outcome : Outcome) (request : Request) → succeeds outcome
 after_success Success request e = refl
 after_success Failure request e = absurd (let f = e in cc)
 
-pub failed : (outcome : Outcome) (request : Request) (ps : List RunningFrame) (s : State) → succeeds outcome ≡ false → GoOn ps (logged outcome request s) ≡ place_answered outcome request ps s
+pub failed : (outcome : Outcome) (request : Request) (ps : List RunningFrame) (s : State) → succeeds outcome ≡ false → GoOn ps (logged outcome request s) ≡ place_taken outcome request ps s
 failed Success request ps s e = absurd (let f = e in cc)
 failed Failure request ps s e = refl
 
-pub succeeded : (outcome : Outcome) (request : Request) (ps : List RunningFrame) (s : State) → succeeds outcome ≡ true → place_finish request.effect.ends request.name ps (set_environment (sets_in request.words request.effect.sets) (logged outcome request s)) ≡ place_answered outcome request ps s
+pub succeeded : (outcome : Outcome) (request : Request) (ps : List RunningFrame) (s : State) → succeeds outcome ≡ true → place_finish request.effect.ends request.name ps (set_environment (sets_in request.words request.effect.sets) (logged outcome request s)) ≡ place_taken outcome request ps s
 succeeded Success request ps s e = refl
 succeeded Failure request ps s e = absurd (let f = e in cc)
 
@@ -132,7 +133,7 @@ module _ (outcome : Outcome) (request : Request) (old set late : Record) (sets :
 
   -- what a success does
   pub success_does : (step : Step) → sets ≡ sets_in request.words request.effect.sets → succeeds outcome ≡ true
-      → ((w : OutcomeWord) → next_shown step late.present w ≡ place_finish request.effect.ends request.name late.present.frames (state_at late.present w)) → Does step old late (place_answered outcome request old.present.frames)
+      → ((w : OutcomeWord) → next_shown step late.present w ≡ place_finish request.effect.ends request.name late.present.frames (state_at late.present w)) → Does step old late (place_taken outcome request old.present.frames)
   success_does step s e does = (
     λ w. does w
         ∙ ap (λ (x : List RunningFrame). place_finish request.effect.ends request.name x (state_at late.present w)) (frames ∙ changes.1)
@@ -142,10 +143,17 @@ module _ (outcome : Outcome) (request : Request) (old set late : Record) (sets :
   )
 
   -- and what a failure does: it sets nothing
-  pub failure_does : sets ≡ [] → succeeds outcome ≡ false → Does steps.Going old late (place_answered outcome request old.present.frames)
+  pub failure_does : sets ≡ [] → succeeds outcome ≡ false → Does steps.Going old late (place_taken outcome request old.present.frames)
   failure_does s e = (
     λ w. ap (λ (x : List RunningFrame). GoOn x (state_at late.present w)) (frames ∙ changes.1)
         ∙ ap (λ (x : State). GoOn old.present.frames x) (here_is [] s w)
         ∙ failed outcome request old.present.frames (state_at old.present w) e,
     keeps_both old set late changes.2 keeps,
   )
+
+-- with the file that the command hands over to
+pub hands_over : (outcome : Outcome) (request : Request) (old mid new : Record) (r : Result Step StoreError) → mid ≡ changed (file_above request.effect.runs) old → Comes r mid new (place_taken outcome request mid.present.frames) → Comes r old new (place_answered outcome request old.present.frames)
+hands_over outcome request old mid new r e comes =
+    comes_at r old new (place_taken outcome request mid.present.frames) (place_answered outcome request old.present.frames)
+    (λ w. ap (λ (x : Record). place_taken outcome request x.present.frames (state_at old.present w)) e)
+    (comes_after r old mid new (λ s. s) (place_taken outcome request mid.present.frames) (λ w. ap (λ (x : Record). state_at x.present w) e) (subst (Keeps old) (sym e) (keeps_change (file_above request.effect.runs) old refl)) comes)

@@ -13,15 +13,16 @@ use Rattle.bootstore_state.specs.declared.frame.FrameKind.TheVariants as kinds
 use Rattle.bootstore_state.specs.Moment.{RunningFrame}
 use Rattle.bootstore_state.specs.Record.{without_first}
 use Rattle.rehearse_terms.specs.Outcomes.{Outcome, Success, Failure}
-use Rattle.hushlang_shells.specs.TreesByShell.{TextRead, Runs, Fails, Panics, Unread, started_in}
+use Rattle.hushlang_shells.specs.TreesByShell.{TextRead, Runs, Fails, Panics, Unread, started_in, sourced_in}
 use Rattle.rehearse_terms.specs.State.{Text, get, State}
 use Rattle.rehearse_rules.specs.Parameters.{parameters_in}
+use Rattle.device_list.specs.DeviceList.{file_in}
 use Rattle.device_list.specs.Called.{Called, BuiltIn, NoCommand, Device, called_by, sets_in}
 use Rattle.commands.specs.BuiltInCommands.{ChangesVariables, WritesText, RunsTexts, Tests, Exits}
 use Rattle.rehearse_rules.specs.Needs.{effect_now}
 use Rattle.rehearse_rules.specs.Execution.{begin_turn, Limits, End, CutDevices, CutSteps, Size, set_status, status_when, goes, holds, Request, outcome_when, told, told_again, logged, set_environment, Unsupported, assign_local, request_of, test_request, text_failed, for_begun, block_skipped}
-use Rattle.rehearse_machine.specs.Frames.{Frame, Lists, Linked, IfCondition, LoopCondition, LoopBody, ForBody, Next, Go, Stop, leave, finish_next, answered, tell_or_ask, begin_assign, begin_for, begin_arms, begun_text, begin_read, begin_text, begin_names, begin_exit, fitting, ask, begin_called, begin_fields, counted, begin_command, move, leave_run, begin_turns, begin_words, CommandEnd, leave_compound, behind_block, begin_simple_call}
-use Rattle.rehearse_machine.specs.Places.{list_at, drop_lists, joined_at, drop_joined, second, command_in, command_at, drop_arms, place, from_command, condition_frame, phase, from_turn, script_frames, for_frame, run_frame, frames_by, frames_of, PlaceNext, GoOn, StopOn, next_of, moved_to, behind, in_turn, text_frame, block_frame, left, place_exit, place_finish, place_answered, place_tell_or_ask, place_assign, place_read, place_text, place_name, run_move, for_turn, for_move, for_begins, place_arms, condition_ends, phase_move, place_fitting, place_ask, place_called, place_fields, place_counted, place_command, place_joined, place_skipped, place_begins, place_turn, place_list, place_by, place_move, place_skipped, place_turns, place_words, place_for, past_lists, over, command_over, with_block, left_compound, left_script, left_by, if_moves, loop_moves, place_simple_call}
+use Rattle.rehearse_machine.specs.Frames.{Frame, Lists, Linked, IfCondition, LoopCondition, LoopBody, ForBody, Next, Go, Stop, leave, finish_next, answered, tell_or_ask, begin_assign, begin_for, begin_arms, begun_text, begin_read, begin_text, begin_names, begin_exit, fitting, ask, begin_called, begin_fields, counted, begin_command, move, leave_run, begin_turns, begin_words, CommandEnd, leave_compound, behind_block, begin_simple_call, with_file, FileText, leave_file, begin_sourced, begin_file}
+use Rattle.rehearse_machine.specs.Places.{list_at, drop_lists, joined_at, drop_joined, second, command_in, command_at, drop_arms, place, from_command, condition_frame, phase, from_turn, script_frames, for_frame, run_frame, frames_by, frames_of, PlaceNext, GoOn, StopOn, next_of, moved_to, behind, in_turn, text_frame, block_frame, left, place_exit, place_finish, place_answered, place_tell_or_ask, place_assign, place_read, place_text, place_name, run_move, for_turn, for_move, for_begins, place_arms, condition_ends, phase_move, place_fitting, place_ask, place_called, place_fields, place_counted, place_command, place_joined, place_skipped, place_begins, place_turn, place_list, place_by, place_move, place_skipped, place_turns, place_words, place_for, past_lists, over, command_over, with_block, left_compound, left_script, left_by, if_moves, loop_moves, place_simple_call, file_part, above_file, left_file, file_left, place_sourced, file_begins, file_ends, file_move}
 use Rattle.rehearse_machine.proofs.Beginnings.{chosen, passed}
 use Rattle.rehearse_terms.specs.declared.shell.Shell.{Shell}
 use Rattle.rehearse_terms.specs.declared.shell.Shell.TheVariants.{Profile, Old2023, Old2025, Modern2025}
@@ -159,11 +160,22 @@ module _ (shell : Shell) where
   leave_names zero names rs s = refl
   leave_names (suc k) names rs s = refl
 
+-- a file whose text has not begun
+leave_waiting : (shell : Shell) (last : ℕ) (names : List Text) (rs : List Frame) (s : State) → leave shell (file_part zero last names ∷ rs) s ≡ leave shell rs s
+leave_waiting shell last [] rs s = refl
+leave_waiting shell last (name ∷ more) rs s = refl
+
 left_compound-is : (shell : Shell) (ps : List RunningFrame) (outwards : PlaceNext) (s : State) → next_of (left_compound shell ps outwards s) ≡ leave_compound shell (frames_of ps) (next_of outwards) s
 left_compound-is Profile ps outwards s = refl
 left_compound-is Old2023 ps outwards s = refl
 left_compound-is Old2025 ps outwards s = refl
 left_compound-is Modern2025 ps outwards s = refl
+
+file_left-is : (shell : Shell) (ps : List RunningFrame) (s : State) → next_of (file_left shell ps s) ≡ leave_file shell (frames_of ps) s
+file_left-is Profile ps s = refl
+file_left-is Old2023 ps s = refl
+file_left-is Old2025 ps s = refl
+file_left-is Modern2025 ps s = refl
 
 module _ (shell : Shell) where
   module _ (f : RunningFrame) (fs : List RunningFrame) (s : State) (h : next_of (left shell fs s) ≡ leave shell (frames_of fs) s) where
@@ -179,6 +191,10 @@ module _ (shell : Shell) where
         ∙ ap (λ (x : List Frame). leave_compound shell (x ++ frames_of fs) (leave shell (frames_of fs) s) s) (scripted (over f.place))
         ∙ sym (leave_within shell (list_at f.script f.place.list) f.place a after_list (frames_of fs) s e)
 
+    left_file-is : (turn : ℕ) → next_of (left_file shell turn fs (left shell fs s) s) ≡ leave shell (file_part turn f.place.last f.words ∷ frames_of fs) s
+    left_file-is zero = h ∙ sym (leave_waiting shell f.place.last f.words (frames_of fs) s)
+    left_file-is (suc k) = file_left-is shell fs s
+
     left_by-is : (k : FrameKind) → f.kind ≡ k → next_of (left_by shell k f fs (left shell fs s) s) ≡ leave shell (frames_by k f ++ frames_of fs) s
     left_by-is kinds.Text e = left_script-is f.place.turn refl (λ at. ap (λ (x : FrameKind). frames_by x (moved_to at f)) e)
     left_by-is kinds.Block e = left_script-is f.place.turn refl (λ at. ap (λ (x : FrameKind). frames_by x (moved_to at f)) e)
@@ -188,6 +204,7 @@ module _ (shell : Shell) where
     left_by-is kinds.Run e =
         if_next (nat_eq s.memory.status 0) (GoOn (f ∷ fs) s) (GoOn fs s) (Go (run_frame f.place.turn f.words ∷ frames_of fs) s) (Go (frames_of fs) s) (ap (λ (x : FrameKind). Go (frames_by x f ++ frames_of fs) s) e) refl
         ∙ sym (leave_names shell f.place.turn f.words (frames_of fs) s)
+    left_by-is kinds.File e = left_file-is f.place.turn
 
   leave-is : (fs : List RunningFrame) (s : State) → next_of (left shell fs s) ≡ leave shell (frames_of fs) s
   leave-is [] s = refl
@@ -229,6 +246,44 @@ module _ (limits : Limits) (f : RunningFrame) (fs : List RunningFrame) (s : Stat
       ap next_of (sym (passed (nat_eq f.place.turn 0) named ended (ap (λ (x : ℕ). nat_eq x 0) e ∙ eqb-suc-zero j)))
       ∙ if_next (nat_eq s.memory.status 0) named (GoOn fs (text_failed limits.shell s)) (begin_names limits.shell (drop (suc j) f.words) (frames_of fs) s) (Go (frames_of fs) (text_failed limits.shell s))
       (name-is (slice_get f.words f.place.turn) refl ∙ ap (λ (x : ℕ). begin_names limits.shell (drop x f.words) (frames_of fs) s) e) refl
+
+-- ---- the frame of a file
+
+module _ (limits : Limits) (f : RunningFrame) (fs : List RunningFrame) (s : State) (k : f.kind ≡ kinds.File) where
+  file_ran : (turn last : ℕ) → frames_of (in_turn (suc turn) last f ∷ fs) ≡ FileText ∷ frames_of fs
+  file_ran turn last = ap (λ (x : FrameKind). frames_by x (in_turn (suc turn) last f) ++ frames_of fs) k
+
+  -- in the state with the status from before
+  module _ (u : State) where
+    file_read-is : (found : TextRead) (name : Text) → next_of (place_read limits.shell found name f fs u) ≡ begin_sourced limits.shell found name (frames_of fs) u
+    file_read-is Fails name = refl
+    file_read-is Panics name = refl
+    file_read-is Unread name = refl
+    file_read-is (Runs t) name = ap (λ (x : List Frame). Go x (begun_text t u)) (texted t (in_turn (suc f.place.turn) 0 f ∷ fs) ∙ ap (λ (x : List Frame). Lists t ∷ x) (file_ran f.place.turn 0))
+
+    file_text-is : (o : Option Text) (name : Text) → next_of (place_sourced limits.shell o name f fs u) ≡ begin_file limits.shell o name (frames_of fs) u
+    file_text-is None name = refl
+    file_text-is (Some text) name = file_read-is (sourced_in limits.shell text) name
+
+  -- it waits for a success
+  file_waits-is : (names : List Text) → f.words ≡ names → next_of (file_begins limits (slice_get f.words 0) f fs s) ≡ move limits (file_part zero f.place.last f.words ∷ frames_of fs) s
+  file_waits-is [] e =
+      ap (λ (x : List Text). next_of (file_begins limits (slice_get x 0) f fs s)) e ∙ sym (ap (λ (x : List Text). move limits (file_part zero f.place.last x ∷ frames_of fs) s) e)
+  file_waits-is (name ∷ more) e =
+      let found : Option Text = file_in limits.devices name in
+      let u : State = set_status f.place.last s in
+      ap (λ (x : List Text). next_of (file_begins limits (slice_get x 0) f fs s)) e
+      ∙ if_next (nat_eq s.memory.status 0) (place_sourced limits.shell found name f fs u) (GoOn fs s) (begin_file limits.shell found name (frames_of fs) u) (Go (frames_of fs) s) (file_text-is u found name) refl
+      ∙ sym (ap (λ (x : List Text). move limits (file_part zero f.place.last x ∷ frames_of fs) s) e)
+
+  abbrev waits : PlaceNext
+  waits = file_begins limits (slice_get f.words 0) f fs s
+
+  file_turn-is : (turn : ℕ) → f.place.turn ≡ turn → next_of (file_move limits f fs s) ≡ move limits (file_part turn f.place.last f.words ∷ frames_of fs) s
+  file_turn-is zero e = ap next_of (sym (chosen (nat_eq f.place.turn 0) waits (file_ends limits fs s) (ap (λ (x : ℕ). nat_eq x 0) e))) ∙ file_waits-is f.words refl
+  file_turn-is (suc j) e =
+      ap next_of (sym (passed (nat_eq f.place.turn 0) waits (file_ends limits fs s) (ap (λ (x : ℕ). nat_eq x 0) e ∙ eqb-suc-zero j)))
+      ∙ if_next (nat_eq s.memory.status 0) (GoOn fs s) (GoOn fs (text_failed limits.shell s)) (Go (frames_of fs) s) (Go (frames_of fs) (text_failed limits.shell s)) refl refl
 
 module _ (f : RunningFrame) (fs : List RunningFrame) (s : State) (k : f.kind ≡ kinds.For) where
   abbrev looped : ℕ → ℕ → RunningFrame
@@ -281,10 +336,17 @@ finish-is : (b : Option BoardEnd) (name : Text) (ps : List RunningFrame) (s : St
 finish-is (Some finish) name ps s = refl
 finish-is None name ps s = refl
 
+-- a file that a command hands over to
+pub file-is : (before : ℕ) (runs : Option Text) (ps : List RunningFrame) → frames_of (above_file before runs ps) ≡ with_file before runs (frames_of ps)
+file-is before None ps = refl
+file-is before (Some name) ps = refl
+
 -- and so is the outcome of the command that asks
 pub place_answered-is : (outcome : Outcome) (r : Request) (ps : List RunningFrame) (s : State) → next_of (place_answered outcome r ps s) ≡ answered outcome r (frames_of ps) s
-place_answered-is Success r ps s = finish-is r.effect.ends r.name ps (set_environment (sets_in r.words r.effect.sets) (logged Success r s))
-place_answered-is Failure r ps s = refl
+place_answered-is Success r ps s =
+    let t : State = set_environment (sets_in r.words r.effect.sets) (logged Success r s) in
+    finish-is r.effect.ends r.name (above_file s.memory.status r.effect.runs ps) t ∙ ap (λ (fs : List Frame). finish_next r.effect.ends r.name fs t) (file-is s.memory.status r.effect.runs ps)
+place_answered-is Failure r ps s = ap (λ (fs : List Frame). Go fs (logged Failure r s)) (file-is s.memory.status r.effect.runs ps)
 
 tell-is : (o : Option Bool) (r : Request) (ps : List RunningFrame) (s : State) → next_of (place_tell_or_ask o r ps s) ≡ tell_or_ask o r (frames_of ps) s
 tell-is None r ps s = refl
@@ -448,6 +510,7 @@ module _ (limits : Limits) where
   by-is kinds.Block f fs s e = script-is f fs (list_at f.script f.place.list) refl (λ p. ap (λ (x : FrameKind). frames_by x (moved_to p f)) e) s
   by-is kinds.For f fs s e = for-is f fs s e limits (command_at (list_at f.script f.place.list) f.place.command) refl
   by-is kinds.Run f fs s e = run-turn-is limits f fs s e f.place.turn refl
+  by-is kinds.File f fs s e = file_turn-is limits f fs s e f.place.turn refl
 
   -- each move at places is the move of their frames
   pub place_move-is : (ps : List RunningFrame) (s : State) → next_of (place_move limits ps s) ≡ move limits (frames_of ps) s

@@ -4,9 +4,10 @@ use Rattle.device_list.specs.declared.finish.BoardEnd.{BoardEnd}
 use Rattle.hushlang.specs.Tree as tree
 use Rattle.hushlang.specs.Tree.{Script, Joined, Command, Arms, IsProperCommand, AreProperArms, HoldsCommand}
 use Rattle.hushlang.specs.Expansion.{size, most_bytes}
-use Rattle.hushlang_shells.specs.TreesByShell.{TextRead, Runs, Fails, Panics, Unread, started_in}
+use Rattle.hushlang_shells.specs.TreesByShell.{TextRead, Runs, Fails, Panics, Unread, started_in, sourced_in}
 use Rattle.rehearse_terms.specs.State.{Text, get, State, Variables}
 use Rattle.rehearse_rules.specs.Parameters.{parameters_in}
+use Rattle.device_list.specs.DeviceList.{file_in}
 use Rattle.device_list.specs.Called.{Called, BuiltIn, NoCommand, Device, called_by, sets_in}
 use Rattle.commands.specs.BuiltInCommands.{ChangesVariables, WritesText, RunsTexts, Tests, Exits}
 use Rattle.rehearse_rules.specs.Needs.{effect_now}
@@ -14,8 +15,8 @@ use Rattle.rehearse_terms.specs.declared.shell.Shell.{Shell}
 use Rattle.rehearse_terms.specs.declared.shell.Shell.TheVariants.{Profile, Old2023, Old2025, Modern2025}
 use Rattle.rehearse_rules.specs.Execution.{Limits, CutDevices, CutSteps, Size, set_status, status_when, goes, holds, Request, told, told_again, logged, set_environment, Unsupported, assign_local, request_of, test_request, text_failed, for_begun, block_skipped}
 use Rattle.rehearse_terms.specs.Outcomes.{Success}
-use Rattle.rehearse_machine.specs.Frames.{Frame, Lists, Linked, IfCondition, LoopCondition, LoopBody, ForBody, RunNames, RunText, Next, Go, Ask, Stop, tell_or_ask, finish_next, leave, begin_assign, begin_for, begin_arms, begin_read, begin_text, begin_names, begin_exit, fitting, ask, begin_called, begin_fields, begin_command, move, begin_turns, begin_words, CommandEnd, leave_compound, behind_block, begin_simple_call}
-use Rattle.rehearse_machine.specs.MoveCounts.{command_depth, arms_depth, script_depth, block_weight, links_weight, arms_weight, read_weight, text_weight, names_weight, weight}
+use Rattle.rehearse_machine.specs.Frames.{Frame, Lists, Linked, IfCondition, LoopCondition, LoopBody, ForBody, RunNames, RunText, Next, Go, Ask, Stop, tell_or_ask, finish_next, leave, begin_assign, begin_for, begin_arms, begin_read, begin_text, begin_names, begin_exit, fitting, ask, begin_called, begin_fields, begin_command, move, begin_turns, begin_words, CommandEnd, leave_compound, behind_block, begin_simple_call, RunFile, FileText, with_file, leave_file, begin_sourced, begin_file}
+use Rattle.rehearse_machine.specs.MoveCounts.{command_depth, arms_depth, script_depth, block_weight, links_weight, arms_weight, read_weight, text_weight, file_weight, names_weight, weight}
 use Rattle.rehearse_machine.specs.Meaning.{AreProperFrames}
 use Rattle.rehearse_rules.specs.ByShell.{reads_again, leaves_in, status_of_exit, asks_in, truth_in, fields_in, turns_in, skips_rest, status_of_loop, follows, assigned_in, follows_turns, call_in}
 
@@ -28,7 +29,7 @@ module _ (limits : Limits) where
 
   -- no step was begun, the environment is still the one of s, and less than n is left; or the end is reached
   abbrev pub IsCloser : State → ℕ → Next → Type 0
-  IsCloser s n (Go fs t) = (t.steps ≡ s.steps) × (t.memory.environment ≡ s.memory.environment) × (weight limits.shell s.memory.environment fs < n)
+  IsCloser s n (Go fs t) = (t.steps ≡ s.steps) × (t.memory.environment ≡ s.memory.environment) × (weight limits s.memory.environment fs < n)
   IsCloser s n (Ask r fs t) = ⊥
   IsCloser s n (Stop ending u) = u.steps ≡ s.steps
 
@@ -48,6 +49,12 @@ module _ (limits : Limits) where
   compound-quiet Old2025 ps outwards s h = h
   compound-quiet Modern2025 ps outwards s h = refl
 
+  file-quiet : (shell : Shell) (fs : List Frame) (s : State) → IsQuiet s (leave_file shell fs s)
+  file-quiet Profile fs s = refl
+  file-quiet Old2023 fs s = refl
+  file-quiet Old2025 fs s = refl
+  file-quiet Modern2025 fs s = refl
+
   leave-quiet : (shell : Shell) (fs : List Frame) (s : State) → IsQuiet s (leave shell fs s)
   leave-quiet shell [] s = refl
   leave-quiet shell (RunNames names ∷ fs) s = either-quiet s (nat_eq s.memory.status 0) (Go (RunNames names ∷ fs) s) (Go fs s) refl refl
@@ -58,6 +65,8 @@ module _ (limits : Limits) where
   leave-quiet shell (LoopCondition until c b last ∷ fs) s = compound-quiet shell (CommandEnd ∷ fs) (leave shell fs s) s (leave-quiet shell fs s)
   leave-quiet shell (LoopBody until c b ∷ fs) s = compound-quiet shell (CommandEnd ∷ fs) (leave shell fs s) s (leave-quiet shell fs s)
   leave-quiet shell (ForBody name values body ∷ fs) s = compound-quiet shell fs (leave shell fs s) s (leave-quiet shell fs s)
+  leave-quiet shell (RunFile name before ∷ fs) s = leave-quiet shell fs s
+  leave-quiet shell (FileText ∷ fs) s = file-quiet shell fs s
   leave-quiet shell (CommandEnd ∷ fs) s = compound-quiet shell (CommandEnd ∷ fs) (leave shell fs s) s (leave-quiet shell fs s)
 
   pub assign-quiet : (pairs : List (Text × tree.Word)) (fs : List Frame) (t s : State) → s.steps ≡ t.steps → IsQuiet t (begin_assign limits.shell pairs fs s)
@@ -85,7 +94,7 @@ module _ (limits : Limits) where
 
   tell-quiet : (o : Option Bool) (r : Request) (fs : List Frame) (s : State) → IsQuiet s (tell_or_ask o r fs s)
   tell-quiet None r fs s = refl
-  tell-quiet (Some true) r fs s = finish-quiet r.effect.ends r.name fs s (set_environment (sets_in r.words r.effect.sets) (logged Success (told_again r) s)) refl
+  tell-quiet (Some true) r fs s = finish-quiet r.effect.ends r.name (with_file s.memory.status r.effect.runs fs) s (set_environment (sets_in r.words r.effect.sets) (logged Success (told_again r) s)) refl
   tell-quiet (Some false) r fs s = refl
 
   ask-quiet : (r : Request) (fs : List Frame) (s : State) → IsQuiet s (ask limits r fs s)
@@ -161,16 +170,16 @@ module _ (limits : Limits) where
   block_lighter tree.Empty n m l = omega arith
   block_lighter (tree.Runs l ls) n m h = omega arith
 
-  behind_weight : (shell : Shell) (environment : Variables) (fs : List Frame) → weight limits.shell environment (behind_block shell fs) ≤ suc (weight limits.shell environment fs)
+  behind_weight : (shell : Shell) (environment : Variables) (fs : List Frame) → weight limits environment (behind_block shell fs) ≤ suc (weight limits environment fs)
   behind_weight Profile environment fs = omega arith
   behind_weight Old2023 environment fs = omega arith
   behind_weight Old2025 environment fs = omega arith
   behind_weight Modern2025 environment fs = omega arith
 
-  block_weight-is : (b : Script) (environment : Variables) (fs : List Frame) → weight limits.shell environment (Lists b ∷ behind_block limits.shell fs) ≤ block_weight b (suc (weight limits.shell environment fs))
-  block_weight-is b environment fs = block_lighter b (weight limits.shell environment (behind_block limits.shell fs)) (suc (weight limits.shell environment fs)) (behind_weight limits.shell environment fs)
+  block_weight-is : (b : Script) (environment : Variables) (fs : List Frame) → weight limits environment (Lists b ∷ behind_block limits.shell fs) ≤ block_weight b (suc (weight limits environment fs))
+  block_weight-is b environment fs = block_lighter b (weight limits environment (behind_block limits.shell fs)) (suc (weight limits environment fs)) (behind_weight limits.shell environment fs)
 
-  arms_progress : (arms : Arms) (fs : List Frame) (s : State) → AreProperArms arms → Progress s (suc (arms_weight arms (weight limits.shell s.memory.environment fs))) (begin_arms limits.shell arms fs s)
+  arms_progress : (arms : Arms) (fs : List Frame) (s : State) → AreProperArms arms → Progress s (suc (arms_weight arms (weight limits s.memory.environment fs))) (begin_arms limits.shell arms fs s)
   arms_progress (tree.Arm tree.Empty b arms) fs s p = absurd p.0
   arms_progress (tree.Arm (tree.Runs l ls) b arms) fs s p = inr (refl, refl, omega arith)
   arms_progress (tree.Else b) fs s p = let l = block_weight-is b s.memory.environment fs in inr (refl, refl, omega arith)
@@ -193,22 +202,33 @@ module _ (limits : Limits) where
   command_progress (tree.Loop until c b) fs s p = loop_progress until c b 0 fs s p.0
   command_progress (tree.For name words body) fs s p = let t : State = record s { steps = suc s.steps } in inl (counted_at (nat_lt s.steps limits.step_bound) s (begin_words limits.shell name words body fs (for_begun limits.shell t)) refl (words-quiet name words body fs t (for_begun limits.shell t) refl))
 
-  read_progress : (found : TextRead) (name : Text) (names : List Text) (fs : List Frame) (s : State) → Progress s (suc (read_weight found (suc (names_weight limits.shell s.memory.environment names (weight limits.shell s.memory.environment fs) + weight limits.shell s.memory.environment fs)) (weight limits.shell s.memory.environment fs))) (begin_read limits.shell found name names fs s)
+  read_progress : (found : TextRead) (name : Text) (names : List Text) (fs : List Frame) (s : State) → Progress s (suc (read_weight found (suc (names_weight limits.shell s.memory.environment names (weight limits s.memory.environment fs) + weight limits s.memory.environment fs)) (weight limits s.memory.environment fs))) (begin_read limits.shell found name names fs s)
   read_progress (Runs tree.Empty) name names fs s = inr (refl, refl, omega arith)
   read_progress (Runs (tree.Runs l ls)) name names fs s = inr (refl, refl, omega arith)
   read_progress Fails name names fs s = inr (refl, refl, omega arith)
   read_progress Panics name names fs s = inr refl
   read_progress Unread name names fs s = inr refl
 
-  text_progress : (o : Option Text) (name : Text) (names : List Text) (fs : List Frame) (s : State) → Progress s (suc (text_weight limits.shell o (suc (names_weight limits.shell s.memory.environment names (weight limits.shell s.memory.environment fs) + weight limits.shell s.memory.environment fs)) (weight limits.shell s.memory.environment fs))) (begin_text limits.shell o name names fs s)
+  text_progress : (o : Option Text) (name : Text) (names : List Text) (fs : List Frame) (s : State) → Progress s (suc (text_weight limits.shell o (suc (names_weight limits.shell s.memory.environment names (weight limits s.memory.environment fs) + weight limits s.memory.environment fs)) (weight limits s.memory.environment fs))) (begin_text limits.shell o name names fs s)
   text_progress None name names fs s = inr (refl, refl, omega arith)
   text_progress (Some text) name names fs s = read_progress (started_in limits.shell text) name names fs s
 
-  names_progress : (names : List Text) (fs : List Frame) (s : State) → Progress s (suc (names_weight limits.shell s.memory.environment names (weight limits.shell s.memory.environment fs))) (begin_names limits.shell names fs s)
+  sourced_progress : (found : TextRead) (name : Text) (fs : List Frame) (s : State) → let m = weight limits s.memory.environment fs in Progress s (suc (read_weight found (suc m) m)) (begin_sourced limits.shell found name fs s)
+  sourced_progress (Runs tree.Empty) name fs s = inr (refl, refl, omega arith)
+  sourced_progress (Runs (tree.Runs l ls)) name fs s = inr (refl, refl, omega arith)
+  sourced_progress Fails name fs s = inr (refl, refl, omega arith)
+  sourced_progress Panics name fs s = inr refl
+  sourced_progress Unread name fs s = inr refl
+
+  file_progress : (o : Option Text) (name : Text) (fs : List Frame) (s : State) → Progress s (suc (file_weight limits.shell o (weight limits s.memory.environment fs))) (begin_file limits.shell o name fs s)
+  file_progress None name fs s = inr (refl, refl, omega arith)
+  file_progress (Some text) name fs s = sourced_progress (sourced_in limits.shell text) name fs s
+
+  names_progress : (names : List Text) (fs : List Frame) (s : State) → Progress s (suc (names_weight limits.shell s.memory.environment names (weight limits s.memory.environment fs))) (begin_names limits.shell names fs s)
   names_progress [] fs s = inr (refl, refl, omega arith)
   names_progress (name ∷ names) fs s = text_progress (get s.memory.environment name) name names fs s
 
-  looped : (c : Script) (until : Bool) (b : Script) (fs : List Frame) (s : State) → HoldsCommand c → Progress s (suc (block_weight c (weight limits.shell s.memory.environment fs))) (Go (Lists c ∷ LoopCondition until c b s.memory.status ∷ fs) s)
+  looped : (c : Script) (until : Bool) (b : Script) (fs : List Frame) (s : State) → HoldsCommand c → Progress s (suc (block_weight c (weight limits s.memory.environment fs))) (Go (Lists c ∷ LoopCondition until c b s.memory.status ∷ fs) s)
   looped tree.Empty until b fs s p = absurd p
   looped (tree.Runs l ls) until b fs s p = inr (refl, refl, omega arith)
 
@@ -218,25 +238,25 @@ module _ (limits : Limits) where
   links_heavy (tree.Joins op c links) m = let more = links_heavy links m in omega arith
 
   -- THE MEASURE: each move begins a step, or leaves fewer moves to the next step
-  pub move_progress : (fs : List Frame) (s : State) → AreProperFrames fs → Progress s (weight limits.shell s.memory.environment fs) (move limits fs s)
+  pub move_progress : (fs : List Frame) (s : State) → AreProperFrames fs → Progress s (weight limits s.memory.environment fs) (move limits fs s)
   move_progress [] s p = inl (omega arith, λ h. h)
   move_progress (Lists tree.Empty ∷ fs) s p = inr (refl, refl, omega arith)
   move_progress (Lists (tree.Runs (tree.Starts c links) lists) ∷ fs) s p = command_progress c (Linked links ∷ Lists lists ∷ fs) s p.0.0.0
   move_progress (Linked tree.Alone ∷ fs) s p = inr (refl, refl, omega arith)
   move_progress (Linked (tree.Joins op c links) ∷ fs) s p =
-      let m = weight limits.shell s.memory.environment fs in
+      let m = weight limits s.memory.environment fs in
       either_progress s (suc (command_depth c + links_weight links m)) (goes op s.memory.status) (begin_command limits c (Linked links ∷ fs) s) (elim (skips_rest limits.shell) [ true ↦ Go fs s | false ↦ Go (Linked links ∷ fs) s ])
       (progress_more s (suc (command_depth c)) (suc (command_depth c + links_weight links m)) (begin_command limits c (Linked links ∷ fs) s) (omega arith) (command_progress c (Linked links ∷ fs) s p.0.0))
       (either_progress s (suc (command_depth c + links_weight links m)) (skips_rest limits.shell) (Go fs s) (Go (Linked links ∷ fs) s) (let more = links_heavy links m in inr (refl, refl, omega arith)) (inr (refl, refl, omega arith)))
   move_progress (IfCondition b arms ∷ fs) s p =
-      let m = weight limits.shell s.memory.environment fs in
+      let m = weight limits s.memory.environment fs in
       let x = block_weight b (suc m) in
       let l = block_weight-is b s.memory.environment fs in
       either_progress s (suc (x + arms_weight arms m)) (nat_eq s.memory.status 0) (Go (Lists b ∷ behind_block limits.shell fs) s) (begin_arms limits.shell arms fs (block_skipped limits.shell b s))
       (progress_more s (suc x) (suc (x + arms_weight arms m)) (Go (Lists b ∷ behind_block limits.shell fs) s) (omega arith) (inr (refl, refl, omega arith)))
       (progress_more s (suc (arms_weight arms m)) (suc (x + arms_weight arms m)) (begin_arms limits.shell arms fs (block_skipped limits.shell b s)) (omega arith) (arms_progress arms fs (block_skipped limits.shell b s) p.0.1))
   move_progress (LoopCondition until c b last ∷ fs) s p =
-      let m = weight limits.shell s.memory.environment fs in
+      let m = weight limits s.memory.environment fs in
       let x = block_weight b (suc (block_weight c m)) in
       either_progress s (suc (x + m)) (holds until s.memory.status) (Go (Lists b ∷ LoopBody until c b ∷ fs) s) (Go fs (set_status (status_of_loop limits.shell last s.memory.status) s))
       (inr (refl, refl, omega arith))
@@ -246,9 +266,21 @@ module _ (limits : Limits) where
   move_progress (ForBody name (f ∷ values) body ∷ fs) s p = inr (refl, refl, omega arith)
   move_progress (RunNames names ∷ fs) s p = names_progress names fs s
   move_progress (RunText names ∷ fs) s p =
-      let m = weight limits.shell s.memory.environment fs in
+      let m = weight limits s.memory.environment fs in
       let x = names_weight limits.shell s.memory.environment names m in
       either_progress s (suc (x + m)) (nat_eq s.memory.status 0) (begin_names limits.shell names fs s) (Go fs (text_failed limits.shell s))
       (progress_more s (suc x) (suc (x + m)) (begin_names limits.shell names fs s) (omega arith) (names_progress names fs s))
+      (inr (refl, refl, omega arith))
+  move_progress (RunFile name before ∷ fs) s p =
+      let m = weight limits s.memory.environment fs in
+      let found = file_in limits.devices name in
+      let x = file_weight limits.shell found m in
+      let t = set_status before s in
+      either_progress s (suc (x + m)) (nat_eq s.memory.status 0) (begin_file limits.shell found name fs t) (Go fs s)
+      (progress_more s (suc x) (suc (x + m)) (begin_file limits.shell found name fs t) (omega arith) (file_progress found name fs t))
+      (inr (refl, refl, omega arith))
+  move_progress (FileText ∷ fs) s p =
+      either_progress s (suc (weight limits s.memory.environment fs)) (nat_eq s.memory.status 0) (Go fs s) (Go fs (text_failed limits.shell s))
+      (inr (refl, refl, omega arith))
       (inr (refl, refl, omega arith))
   move_progress (CommandEnd ∷ fs) s p = inr (refl, refl, omega arith)

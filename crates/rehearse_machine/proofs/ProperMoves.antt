@@ -4,9 +4,10 @@ use Rattle.device_list.specs.declared.finish.BoardEnd.{BoardEnd}
 use Rattle.hushlang.specs.Tree as tree
 use Rattle.hushlang.specs.Tree.{Script, Command, Arms, IsProper, IsProperCommand, AreProperArms, HoldsCommand}
 use Rattle.hushlang.specs.Expansion.{fields, size, most_bytes}
-use Rattle.hushlang_shells.specs.TreesByShell.{TextRead, Runs, Fails, Panics, Unread, started_in}
+use Rattle.hushlang_shells.specs.TreesByShell.{TextRead, Runs, Fails, Panics, Unread, started_in, sourced_in}
 use Rattle.rehearse_terms.specs.State.{Text, get, State}
 use Rattle.rehearse_rules.specs.Parameters.{parameters_in}
+use Rattle.device_list.specs.DeviceList.{file_in}
 use Rattle.device_list.specs.Called.{Called, BuiltIn, NoCommand, Device, called_by, sets_in}
 use Rattle.commands.specs.BuiltInCommands.{ChangesVariables, WritesText, RunsTexts, Tests, Exits}
 use Rattle.rehearse_rules.specs.Needs.{effect_now}
@@ -14,8 +15,8 @@ use Rattle.rehearse_terms.specs.declared.shell.Shell.{Shell}
 use Rattle.rehearse_terms.specs.declared.shell.Shell.TheVariants.{Profile, Old2023, Old2025, Modern2025}
 use Rattle.rehearse_rules.specs.Execution.{Limits, CutDevices, CutSteps, Size, set_status, status_when, goes, holds, Request, told, told_again, logged, set_environment, Unsupported, assign_local, request_of, test_request, text_failed, for_begun, block_skipped}
 use Rattle.rehearse_terms.specs.Outcomes.{Success}
-use Rattle.rehearse_machine.specs.Frames.{Frame, Lists, Linked, IfCondition, LoopCondition, LoopBody, ForBody, RunNames, RunText, Next, Go, Stop, tell_or_ask, finish_next, leave, begin_assign, begin_for, begin_arms, begin_read, begin_text, begin_names, begin_exit, fitting, ask, begin_called, begin_fields, begin_command, move, begin_turns, begin_words, CommandEnd, leave_compound, behind_block, begin_simple_call}
-use Rattle.hushlang_shells.proofs.TreeByShellLemmas.{started_texts_are_proper}
+use Rattle.rehearse_machine.specs.Frames.{Frame, Lists, Linked, IfCondition, LoopCondition, LoopBody, ForBody, RunNames, RunText, Next, Go, Stop, tell_or_ask, finish_next, leave, begin_assign, begin_for, begin_arms, begin_read, begin_text, begin_names, begin_exit, fitting, ask, begin_called, begin_fields, begin_command, move, begin_turns, begin_words, CommandEnd, leave_compound, behind_block, begin_simple_call, RunFile, FileText, with_file, leave_file, begin_sourced, begin_file}
+use Rattle.hushlang_shells.proofs.TreeByShellLemmas.{started_texts_are_proper, sourced_texts_are_proper}
 use Rattle.rehearse_machine.proofs.StepBoundLemmas.{block_proper}
 use Rattle.rehearse_machine.specs.Meaning.{AreProperFrames, IsProperNext}
 use Rattle.rehearse_rules.specs.ByShell.{reads_again, leaves_in, status_of_exit, asks_in, truth_in, fields_in, turns_in, skips_rest, status_of_loop, follows, assigned_in, follows_turns, call_in}
@@ -31,6 +32,12 @@ module _ (limits : Limits) where
   compound-proper Old2025 ps outwards s p h = h
   compound-proper Modern2025 ps outwards s p h = p
 
+  file_left-proper : (shell : Shell) (fs : List Frame) (s : State) → AreProperFrames fs → IsProperNext (leave_file shell fs s)
+  file_left-proper Profile fs s p = p
+  file_left-proper Old2023 fs s p = p
+  file_left-proper Old2025 fs s p = p
+  file_left-proper Modern2025 fs s p = tt
+
   leave-proper : (shell : Shell) (fs : List Frame) (s : State) → AreProperFrames fs → IsProperNext (leave shell fs s)
   leave-proper shell [] s p = tt
   leave-proper shell (RunNames names ∷ fs) s p = either (nat_eq s.memory.status 0) (Go (RunNames names ∷ fs) s) (Go fs s) p p.1
@@ -41,6 +48,8 @@ module _ (limits : Limits) where
   leave-proper shell (LoopCondition until c b last ∷ fs) s p = compound-proper shell (CommandEnd ∷ fs) (leave shell fs s) s (tt, p.1) (leave-proper shell fs s p.1)
   leave-proper shell (LoopBody until c b ∷ fs) s p = compound-proper shell (CommandEnd ∷ fs) (leave shell fs s) s (tt, p.1) (leave-proper shell fs s p.1)
   leave-proper shell (ForBody name fields body ∷ fs) s p = compound-proper shell fs (leave shell fs s) s p.1 (leave-proper shell fs s p.1)
+  leave-proper shell (RunFile name before ∷ fs) s p = leave-proper shell fs s p.1
+  leave-proper shell (FileText ∷ fs) s p = file_left-proper shell fs s p.1
   leave-proper shell (CommandEnd ∷ fs) s p = compound-proper shell (CommandEnd ∷ fs) (leave shell fs s) s p (leave-proper shell fs s p.1)
 
   behind-proper : (shell : Shell) (fs : List Frame) → AreProperFrames fs → AreProperFrames (behind_block shell fs)
@@ -59,6 +68,16 @@ module _ (limits : Limits) where
   text-proper None name names fs s p = p
   text-proper (Some text) name names fs s p = read-proper (started_in limits.shell text) name names fs s (started_texts_are_proper limits.shell text) p
 
+  sourced-proper : (found : TextRead) (name : Text) (fs : List Frame) (s : State) → ((tree : Script) → found ≡ Runs tree → IsProper tree) → AreProperFrames fs → IsProperNext (begin_sourced limits.shell found name fs s)
+  sourced-proper (Runs t) name fs s r p = (r t refl, (tt, p))
+  sourced-proper Fails name fs s r p = p
+  sourced-proper Panics name fs s r p = tt
+  sourced-proper Unread name fs s r p = tt
+
+  begun-proper : (o : Option Text) (name : Text) (fs : List Frame) (s : State) → AreProperFrames fs → IsProperNext (begin_file limits.shell o name fs s)
+  begun-proper None name fs s p = p
+  begun-proper (Some text) name fs s p = sourced-proper (sourced_in limits.shell text) name fs s (sourced_texts_are_proper limits.shell text) p
+
   names-proper : (names : List Text) (fs : List Frame) (s : State) → AreProperFrames fs → IsProperNext (begin_names limits.shell names fs s)
   names-proper [] fs s p = p
   names-proper (name ∷ names) fs s p = text-proper (get s.memory.environment name) name names fs s p
@@ -67,10 +86,14 @@ module _ (limits : Limits) where
   finish-proper (Some finish) name fs s p = tt
   finish-proper None name fs s p = p
 
+  file-proper : (before : ℕ) (runs : Option Text) (fs : List Frame) → AreProperFrames fs → AreProperFrames (with_file before runs fs)
+  file-proper before None fs p = p
+  file-proper before (Some name) fs p = (tt, p)
+
   tell-proper : (o : Option Bool) (request : Request) (fs : List Frame) (s : State) → AreProperFrames fs → IsProperNext (tell_or_ask o request fs s)
   tell-proper None request fs s p = p
-  tell-proper (Some true) request fs s p = finish-proper request.effect.ends request.name fs (set_environment (sets_in request.words request.effect.sets) (logged Success (told_again request) s)) p
-  tell-proper (Some false) request fs s p = p
+  tell-proper (Some true) request fs s p = finish-proper request.effect.ends request.name (with_file s.memory.status request.effect.runs fs) (set_environment (sets_in request.words request.effect.sets) (logged Success (told_again request) s)) (file-proper s.memory.status request.effect.runs fs p)
+  tell-proper (Some false) request fs s p = file-proper s.memory.status request.effect.runs fs p
 
   ask-proper : (request : Request) (fs : List Frame) (s : State) → AreProperFrames fs → IsProperNext (ask limits request fs s)
   ask-proper request fs s p = either (nat_lt (length s.log) limits.device_bound) (tell_or_ask (told request s.log) request fs s) (Stop CutDevices s) (tell-proper (told request s.log) request fs s p) tt
@@ -137,4 +160,8 @@ module _ (limits : Limits) where
   move-proper (ForBody name (f ∷ values) body ∷ fs) s p = (p.0, p)
   move-proper (RunNames names ∷ fs) s p = names-proper names fs s p.1
   move-proper (RunText names ∷ fs) s p = either (nat_eq s.memory.status 0) (begin_names limits.shell names fs s) (Go fs (text_failed limits.shell s)) (names-proper names fs s p.1) p.1
+  move-proper (RunFile name before ∷ fs) s p =
+      let t : State = set_status before s in
+      either (nat_eq s.memory.status 0) (begin_file limits.shell (file_in limits.devices name) name fs t) (Go fs s) (begun-proper (file_in limits.devices name) name fs t p.1) p.1
+  move-proper (FileText ∷ fs) s p = either (nat_eq s.memory.status 0) (Go fs s) (Go fs (text_failed limits.shell s)) p.1 p.1
   move-proper (CommandEnd ∷ fs) s p = p.1

@@ -11,7 +11,7 @@ use Rattle.rehearse_rules.specs.Execution.{End, Panic, Finished, Request, set_st
 use Rattle.rehearse_rules.specs.ByShell.{unread}
 use Rattle.rehearse_rules.specs.Runs.{Task, run_on}
 use Rattle.hushlang_shells.proofs.TreeByShellLemmas.{first_texts_are_proper}
-use Rattle.rehearse_machine.specs.Frames.{Frame, Lists, Next, Go, Ask, Stop, move, finish_next, answered, begun_text}
+use Rattle.rehearse_machine.specs.Frames.{Frame, Lists, Next, Go, Ask, Stop, move, finish_next, answered, begun_text, with_file}
 use Rattle.rehearse_machine.specs.Came.{settled}
 use Rattle.rehearse_machine.specs.Meaning.{with, full, continue, comes_to, AreProperFrames, StandsAt, AsksAt, AfterMove}
 use Rattle.rehearse_machine.proofs.StepBoundLemmas.{closed_exec}
@@ -51,8 +51,8 @@ module _ (task : Task) where
   finish-is w (Some finish) name fs s = continue-ended task.limits fs (Finished finish name) (with w s)
   finish-is w None name fs s = refl
 
-  pub answered-is : (w : OutcomeWord) (outcome : Outcome) (r : Request) (fs : List Frame) (s : State) → continue task.limits fs (take_outcome r (outcome ∷ w) (with (outcome ∷ w) s)) ≡ comes_to task.limits w (answered outcome r fs s)
-  answered-is w Success r fs s = finish-is w r.effect.ends r.name fs (set_environment (sets_in r.words r.effect.sets) (logged Success r s))
+  pub answered-is : (w : OutcomeWord) (outcome : Outcome) (r : Request) (fs : List Frame) (s : State) → continue task.limits (with_file s.memory.status r.effect.runs fs) (take_outcome r (outcome ∷ w) (with (outcome ∷ w) s)) ≡ comes_to task.limits w (answered outcome r fs s)
+  answered-is w Success r fs s = finish-is w r.effect.ends r.name (with_file s.memory.status r.effect.runs fs) (set_environment (sets_in r.words r.effect.sets) (logged Success r s))
   answered-is w Failure r fs s = refl
 
   -- an outcome for the command that asks

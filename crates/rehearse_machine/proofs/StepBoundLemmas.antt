@@ -3,16 +3,18 @@ use Rattle.std.proofs.Common.{ℕ, zero, suc, Bool, true, false, List, [], ◌�
 use Rattle.hushlang.specs.Tree as tree
 use Rattle.hushlang.specs.Tree.{Script, AndOr, Joined, Command, Arms, IsProper, IsProperList, IsProperJoined, IsProperCommand, AreProperArms, HoldsCommand}
 use Rattle.hushlang.specs.Expansion.{size, most_bytes}
-use Rattle.hushlang_shells.specs.TreesByShell.{TextRead, Runs, Fails, Panics, Unread, started_in}
+use Rattle.hushlang_shells.specs.TreesByShell.{TextRead, Runs, Fails, Panics, Unread, started_in, sourced_in}
 use Rattle.rehearse_terms.specs.State.{Text, get, State}
 use Rattle.rehearse_terms.specs.declared.shell.Shell.{Shell}
 use Rattle.rehearse_rules.specs.Parameters.{parameters_in}
+use Rattle.device_list.specs.DeviceList.{file_in}
 use Rattle.device_list.specs.Called.{Called, BuiltIn, NoCommand, Device, called_by}
 use Rattle.commands.specs.BuiltInCommands.{ChangesVariables, WritesText, RunsTexts, Tests, Exits}
-use Rattle.rehearse_rules.specs.Execution.{begin_turn, Limits, Answer, Normal, Exit, Ended, Dry, CutSteps, Size, go_on, set_status, goes, holds, begin, text_end, text_failed, run_read, run_all, command, simple, sized, turns, for_each, exec_script, exec_list, exec_joined, exec_command, exec_arms, exec, Unsupported, started_text, turns_of, for_words, for_begun, block_skipped, compound, simple_call}
+use Rattle.rehearse_rules.specs.Needs.{effect_now}
+use Rattle.rehearse_rules.specs.Execution.{begin_turn, Limits, Answer, Normal, Exit, Ended, Dry, CutSteps, Size, go_on, set_status, goes, holds, begin, text_end, text_failed, run_read, run_all, command, simple, sized, turns, for_each, exec_script, exec_list, exec_joined, exec_command, exec_arms, exec, Unsupported, started_text, turns_of, for_words, for_begun, block_skipped, compound, simple_call, Request, device, request_of, run_file, file_follows, handed_over, sourced, sourced_text}
 use Rattle.rehearse_rules.proofs.GrowingSteps.{AtLeast, Grew, AtLeast-track, Grew-block}
-use Rattle.rehearse_rules.proofs.TakenOutcomes.{KeepsAll, after_condition, Keeps-script, Keeps-list, Keeps-one, Keeps-exec, Keeps-started}
-use Rattle.hushlang_shells.proofs.TreeByShellLemmas.{started_texts_are_proper}
+use Rattle.rehearse_rules.proofs.TakenOutcomes.{KeepsAll, after_condition, Keeps-script, Keeps-list, Keeps-one, Keeps-exec, Keeps-started, Keeps-device}
+use Rattle.hushlang_shells.proofs.TreeByShellLemmas.{started_texts_are_proper, sourced_texts_are_proper}
 use Rattle.rehearse_machine.proofs.BoundLemmas.{Cut-block, Cut-turns}
 use Rattle.rehearse_rules.specs.ByShell.{reads_again, fields_in, turns_in, skips_rest, status_of_loop, follows, follows_turns, call_in}
 use Rattle.rehearse_rules.proofs.TakenOutcomes.{skipped}
@@ -63,6 +65,20 @@ module _ (limits : Limits) where
     same_run [] t h = refl
     same_run (name ∷ names) t h = same_named (get t.memory.environment name) name (run_all limits text names) (run_all limits text' names) t h (λ u l. same_run names u (omega arith))
 
+    same_found : (o : Option Text) (name : Text) (t : State) → limits.step_bound < n + t.steps
+        → ◌≡◌ {A = Answer} (elim o [ None ↦ Normal (set_status 1 t) | Some v ↦ text_end limits.shell (sourced_text limits text name v t) Normal ]) (elim o [ None ↦ Normal (set_status 1 t) | Some v ↦ text_end limits.shell (sourced_text limits text' name v t) Normal ])
+    same_found None name t h = refl
+    same_found (Some v) name t h = ap (λ (a : Answer). text_end limits.shell (sourced limits.shell a) Normal) (same_read (sourced_in limits.shell v) name (sourced_texts_are_proper limits.shell v) t h)
+
+    same_file : (name : Text) (before : ℕ) (t : State) → limits.step_bound < n + t.steps → file_follows limits text name before t ≡ file_follows limits text' name before t
+    same_file name before t h =
+        let u : State = set_status before t in
+        same_if (nat_eq t.memory.status 0) (run_file limits text name u) (Normal t) (run_file limits text' name u) (Normal t) (same_found (file_in limits.devices name) name u h) refl
+
+    same_handed : (runs : Option Text) (before : ℕ) (a : Answer) (t : State) → AtLeast t.steps a → limits.step_bound < n + t.steps → handed_over limits text runs before a ≡ handed_over limits text' runs before a
+    same_handed None before a t l h = refl
+    same_handed (Some name) before a t l h = same_go_on t.steps a a (file_follows limits text name before) (file_follows limits text' name before) l refl (λ u r. same_file name before u (omega arith))
+
     same_command : (again : Bool) (b : Called) (name : Text) (ws : List Text) (t : State) → limits.step_bound < n + t.steps → command limits again text b name ws t ≡ command limits again text' b name ws t
     same_command again (BuiltIn (ChangesVariables change)) name ws t h = refl
     same_command again (BuiltIn RunsTexts) name [] t h = refl
@@ -70,7 +86,9 @@ module _ (limits : Limits) where
     same_command again (BuiltIn Tests) name ws t h = refl
     same_command again (BuiltIn (WritesText written)) name ws t h = refl
     same_command again (BuiltIn Exits) name ws t h = refl
-    same_command again (Device effect) name ws t h = refl
+    same_command again (Device effect) name ws t h =
+        let request : Request = request_of name ws (effect_now t.log effect) in
+        same_handed effect.runs t.memory.status (device limits request t) t (AtLeast-track limits.device_bound t (device limits request t) (Keeps-device limits request refl t).0) h
     same_command again NoCommand name ws t h = refl
 
     same_call : (again : Bool) (fs : List Text) (t : State) → limits.step_bound < n + t.steps → simple_call limits again text fs t ≡ simple_call limits again text' fs t

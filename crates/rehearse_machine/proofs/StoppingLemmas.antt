@@ -6,7 +6,7 @@ use Rattle.bootstore_state.specs.declared.store.StoreError.{StoreError}
 use Rattle.bootstore_state.specs.Moment.{RunningFrame, Moment}
 use Rattle.bootstore_state.specs.Record.{Record}
 use Rattle.rehearse_terms.specs.Outcomes.{OutcomeWord, Outcome, Success, Failure}
-use Rattle.rehearse_terms.specs.State.{State}
+use Rattle.rehearse_terms.specs.State.{State, Text}
 use Rattle.rehearse_terms.specs.declared.written.Written.TheVariants.{Kept}
 use Rattle.bootstore_state.specs.StoredState.{state_at}
 use Rattle.device_list.specs.Called.{sets_in}
@@ -19,7 +19,8 @@ use Rattle.rehearse_machine.specs.declared.ask.Step.{Step}
 use Rattle.rehearse_machine.specs.declared.ask.Step.TheVariants as steps
 use Rattle.rehearse_machine.specs.declared.rehearsal.Stop.{Stop}
 use Rattle.rehearse_machine.specs.declared.rehearsal.Stop.TheVariants.{Asks, Ends}
-use Rattle.rehearse_machine.specs.Places.{PlaceNext, GoOn, AskOn, StopOn, next_of, frames_of, place_finish, place_answered}
+use Rattle.rehearse_machine.specs.Places.{PlaceNext, GoOn, AskOn, StopOn, next_of, frames_of, place_finish, place_answered, above_file, place_taken}
+use Rattle.rehearse_machine.specs.Frames.{with_file}
 use Rattle.rehearse_machine.specs.AskingCommand.{found_again}
 use Rattle.rehearse_machine.specs.Came.{Came}
 use Rattle.rehearse_machine.specs.Meaning.{comes_to, IsProperNext, AreProperFrames}
@@ -40,7 +41,7 @@ module _ (limits : Limits) (old new : Record) where
   stops_asking ask step is drives =
       let d : Drives limits (steps.Asks ask) old new = subst (λ (x : Step). Drives limits x old new) is drives in
       let asking : Asking limits new.present = record { request = request_shown ask; again = d.again; sound = d.sound; within = d.within } in
-      (asking, λ w. sym (d.means w) ∙ ap (λ (x : PlaceNext). comes_to limits w (next_of x)) (sym (d.again w)), sym (d.means []) ∙ continue-dry limits (frames_of new.present.frames) (state_at new.present []))
+      (asking, λ w. sym (d.means w) ∙ ap (λ (x : PlaceNext). comes_to limits w (next_of x)) (sym (d.again w)), sym (d.means []) ∙ continue-dry limits (with_file new.present.status (request_shown ask).effect.runs (frames_of new.present.frames)) (state_at new.present []))
 
   -- and it is the one that was found
   pub stops_asked : (ask : Ask) (step : Step) → step ≡ steps.Asks ask → Drives limits step old new → IsAsked limits (request_shown ask) new.present
@@ -80,28 +81,33 @@ module _ (r : Request) (ps : List RunningFrame) where
   finish_steps (Some finish) s = refl
   finish_steps None s = refl
 
-  answered_steps : (o : Outcome) (s : State) → steps_of (place_answered o r ps s) ≡ s.steps
+  taken_steps : (o : Outcome) (s : State) → steps_of (place_taken o r ps s) ≡ s.steps
   unfolding steps_of
-  answered_steps Success s = finish_steps r.effect.ends (set_environment (sets_in r.words r.effect.sets) (logged Success r s))
-  answered_steps Failure s = refl
+  taken_steps Success s = finish_steps r.effect.ends (set_environment (sets_in r.words r.effect.sets) (logged Success r s))
+  taken_steps Failure s = refl
 
   finish_asks : (b : Option BoardEnd) (s : State) → asks (place_finish b r.name ps s) ≡ false
   unfolding asks
   finish_asks (Some finish) s = refl
   finish_asks None s = refl
 
-  answered_asks : (o : Outcome) (s : State) → asks (place_answered o r ps s) ≡ false
+  taken_asks : (o : Outcome) (s : State) → asks (place_taken o r ps s) ≡ false
   unfolding asks
-  answered_asks Success s = finish_asks r.effect.ends (set_environment (sets_in r.words r.effect.sets) (logged Success r s))
-  answered_asks Failure s = refl
+  taken_asks Success s = finish_asks r.effect.ends (set_environment (sets_in r.words r.effect.sets) (logged Success r s))
+  taken_asks Failure s = refl
 
   finish_sound : (b : Option BoardEnd) (s : State) → AreProperFrames (frames_of ps) → IsProperNext (next_of (place_finish b r.name ps s))
   finish_sound (Some finish) s h = tt
   finish_sound None s h = h
 
-  answered_sound : (o : Outcome) (s : State) → AreProperFrames (frames_of ps) → IsProperNext (next_of (place_answered o r ps s))
-  answered_sound Success s h = finish_sound r.effect.ends (set_environment (sets_in r.words r.effect.sets) (logged Success r s)) h
-  answered_sound Failure s h = h
+  taken_sound : (o : Outcome) (s : State) → AreProperFrames (frames_of ps) → IsProperNext (next_of (place_taken o r ps s))
+  taken_sound Success s h = finish_sound r.effect.ends (set_environment (sets_in r.words r.effect.sets) (logged Success r s)) h
+  taken_sound Failure s h = h
+
+-- with a file that the command hands over to
+file_sound : (before : ℕ) (runs : Option Text) (ps : List RunningFrame) → AreProperFrames (frames_of ps) → AreProperFrames (frames_of (above_file before runs ps))
+file_sound before None ps h = h
+file_sound before (Some name) ps h = (tt, h)
 
 -- a command that asks is found again
 module _ (limits : Limits) (old mid : Record) (step : Step) (asking : IsAsking limits old.present) (finds : Does step old mid (found_again limits old.present.frames)) where
@@ -161,12 +167,12 @@ module _ (limits : Limits) (old mid : Record) (step : Step) (asking : IsAsking l
     unfolding asks
     asks_none steps.Going e = tt
     asks_none (steps.Asks more) e =
-        let f : true ≡ false = ap (λ (x : Step). asks (next_shown x new.present [])) e ∙ ap asks (answers []) ∙ answered_asks asking_at.request old.present.frames outcome (state_at old.present []) in
+        let f : true ≡ false = ap (λ (x : Step). asks (next_shown x new.present [])) e ∙ ap asks (answers []) ∙ taken_asks asking_at.request (above_file old.present.status asking_at.request.effect.runs old.present.frames) outcome (state_at old.present []) in
         let g = f in cc
     asks_none (steps.Ends halt) e = tt
 
     soundly : IsSoundStep next new.present
-    soundly = subst IsProperNext (sym (ap next_of (answers []))) (answered_sound asking_at.request old.present.frames outcome (state_at old.present []) asking_at.sound)
+    soundly = subst IsProperNext (sym (ap next_of (answers []))) (taken_sound asking_at.request (above_file old.present.status asking_at.request.effect.runs old.present.frames) outcome (state_at old.present []) (file_sound old.present.status asking_at.request.effect.runs old.present.frames asking_at.sound))
 
     seen_steps : (x : Step) → steps_of (next_shown x new.present []) ≡ new.present.steps
     unfolding steps_of
@@ -175,7 +181,7 @@ module _ (limits : Limits) (old mid : Record) (step : Step) (asking : IsAsking l
     seen_steps (steps.Ends halt) = refl
 
     same_steps : new.present.steps ≡ old.present.steps
-    same_steps = sym (seen_steps next) ∙ ap steps_of (answers []) ∙ answered_steps asking_at.request old.present.frames outcome (state_at old.present [])
+    same_steps = sym (seen_steps next) ∙ ap steps_of (answers []) ∙ taken_steps asking_at.request (above_file old.present.status asking_at.request.effect.runs old.present.frames) outcome (state_at old.present [])
 
     same_begun : new.begun ≡ old.begun
     same_begun =

@@ -34,8 +34,8 @@ module _ (limits : Limits) (step : Step) (mid new : Record) (does : Does step mi
   pub step_sound : IsSoundStep step new.present
   step_sound = subst IsProperNext (sym (moved [])) (move-proper limits (frames_of mid.present.frames) (state_at mid.present []) sound)
 
-  pub step_progress : Progress limits (state_at mid.present []) (moves_left limits.shell mid.present) (next_of (next_shown step new.present []))
-  step_progress = subst (Progress limits (state_at mid.present []) (moves_left limits.shell mid.present)) (sym (moved [])) (move_progress limits (frames_of mid.present.frames) (state_at mid.present []) sound)
+  pub step_progress : Progress limits (state_at mid.present []) (moves_left limits mid.present) (next_of (next_shown step new.present []))
+  step_progress = subst (Progress limits (state_at mid.present []) (moves_left limits mid.present)) (sym (moved [])) (move_progress limits (frames_of mid.present.frames) (state_at mid.present []) sound)
 
 further_on : (limits : Limits) (s : State) (n : ℕ) (next : Next) → s.steps ≡ n → IsFurther limits s next → IsFurtherOn limits.step_bound n next
 further_on limits s n (Go fs t) e h = let a = h.0 in (omega arith, h.1)
@@ -56,7 +56,7 @@ module _ (limits : Limits) (step : Step) (old mid new : Record) (waits : Waits l
     sound = step_sound limits step mid new does waits.sound;
     kept = keeps_both old mid new waits.kept does.1;
     again = λ w. subst (AsksAgain limits) (sym (does.0 w)) (asks_again limits mid.present.frames (state_at mid.present w));
-    further = ends_turn limits step new.present (state_at mid.present []) old.present.steps (moves_left limits.shell mid.present) waits.steps (step_progress limits step mid new does waits.sound) other;
+    further = ends_turn limits step new.present (state_at mid.present []) old.present.steps (moves_left limits mid.present) waits.steps (step_progress limits step mid new does waits.sound) other;
   }
 
   pub waited : step ≡ steps.Going → new.present.steps ≡ old.present.steps → Waits limits old new
@@ -67,14 +67,14 @@ module _ (limits : Limits) (step : Step) (old mid new : Record) (waits : Waits l
     steps = k;
   }
 
-  fewer_of : (s : State) (left : ℕ) → s.memory.environment ≡ entries mid.present.environment → left ≡ moves_left limits.shell mid.present → s.steps ≡ new.present.steps → Progress limits s left (next_of (next_shown steps.Going new.present [])) → moves_left limits.shell new.present < left
+  fewer_of : (s : State) (left : ℕ) → s.memory.environment ≡ entries mid.present.environment → left ≡ moves_left limits mid.present → s.steps ≡ new.present.steps → Progress limits s left (next_of (next_shown steps.Going new.present [])) → moves_left limits new.present < left
   fewer_of s left v l k (inl h) = let a = h.0 in absurd (omega arith)
   fewer_of s left v l k (inr h) =
       let same : entries new.present.environment ≡ s.memory.environment = h.1 in
-      subst (λ x. weight limits.shell x (frames_of new.present.frames) < left) (sym same) h.2
+      subst (λ x. weight limits x (frames_of new.present.frames) < left) (sym same) h.2
 
-  pub fewer : step ≡ steps.Going → new.present.steps ≡ old.present.steps → moves_left limits.shell new.present < moves_left limits.shell mid.present
-  fewer e k = fewer_of (state_at mid.present []) (moves_left limits.shell mid.present) refl refl (waits.steps ∙ sym k) (subst (λ (x : Step). Progress limits (state_at mid.present []) (moves_left limits.shell mid.present) (next_of (next_shown x new.present []))) e (step_progress limits step mid new does waits.sound))
+  pub fewer : step ≡ steps.Going → new.present.steps ≡ old.present.steps → moves_left limits new.present < moves_left limits mid.present
+  fewer e k = fewer_of (state_at mid.present []) (moves_left limits mid.present) refl refl (waits.steps ∙ sym k) (subst (λ (x : Step). Progress limits (state_at mid.present []) (moves_left limits mid.present) (next_of (next_shown x new.present []))) e (step_progress limits step mid new does waits.sound))
 
 pub waits_first : (limits : Limits) (old : Record) → IsSound old.present → Waits limits old old
 waits_first limits old s = record { means = λ w. refl; sound = s; kept = record { marked = refl; begun = omega arith }; steps = refl }

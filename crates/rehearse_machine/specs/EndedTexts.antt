@@ -17,18 +17,21 @@ is_text kinds.Text = true
 is_text kinds.Block = false
 is_text kinds.For = false
 is_text kinds.Run = false
+is_text kinds.File = false
 
 abbrev pub is_block : FrameKind → Bool
 is_block kinds.Text = false
 is_block kinds.Block = true
 is_block kinds.For = false
 is_block kinds.Run = false
+is_block kinds.File = false
 
 abbrev pub is_run : FrameKind → Bool
 is_run kinds.Text = false
 is_run kinds.Block = false
 is_run kinds.For = false
 is_run kinds.Run = true
+is_run kinds.File = false
 
 -- whether the command of a place is over, as that of an `if` whose block runs
 abbrev pub is_over : At → Bool

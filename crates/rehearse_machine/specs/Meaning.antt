@@ -4,10 +4,10 @@ use Rattle.hushlang.specs.Tree.{Script, Joined, Command, Arms, IsProper, IsPrope
 use Rattle.rehearse_terms.specs.Outcomes.{OutcomeWord}
 use Rattle.rehearse_terms.specs.State.{State}
 use Rattle.rehearse_rules.specs.ByShell.{status_of_loop}
-use Rattle.rehearse_rules.specs.Execution.{Limits, Answer, Normal, Exit, Ended, Dry, Ending, Request, go_on, set_status, holds, text_end, take_outcome, run_all, turns, for_each, exec_script, exec_joined, exec_command, exec_arms, exec, block_skipped, compound}
+use Rattle.rehearse_rules.specs.Execution.{Limits, Answer, Normal, Exit, Ended, Dry, Ending, Request, go_on, set_status, holds, text_end, take_outcome, run_all, turns, for_each, exec_script, exec_joined, exec_command, exec_arms, exec, block_skipped, compound, file_follows, sourced}
 use Rattle.rehearse_rules.specs.Runs.{Task, run_on}
 use Rattle.rehearse_machine.specs.Came.{Came, Over, settled}
-use Rattle.rehearse_machine.specs.Frames.{Frame, Lists, Linked, IfCondition, LoopCondition, LoopBody, ForBody, RunNames, RunText, Next, Go, Ask, Stop, CommandEnd}
+use Rattle.rehearse_machine.specs.Frames.{Frame, Lists, Linked, IfCondition, LoopCondition, LoopBody, ForBody, RunNames, RunText, Next, Go, Ask, Stop, CommandEnd, RunFile, FileText, with_file}
 
 -- the state with this word left
 abbrev pub with : OutcomeWord → State → State
@@ -60,6 +60,8 @@ module _ (limits : Limits) where
       compound limits.shell (go_on a (λ t. for_each limits.shell name (script body) t.memory.status values t))
   resume (RunNames names) a = first_or_next a (run_all limits full names)
   resume (RunText names) a = text_end limits.shell a (run_all limits full names)
+  resume (RunFile name before) a = go_on a (file_follows limits full name before)
+  resume FileText a = text_end limits.shell (sourced limits.shell a) Normal
   resume CommandEnd a = compound limits.shell a
 
   -- what all the frames make of an answer
@@ -67,10 +69,10 @@ module _ (limits : Limits) where
   continue [] a = settled a
   continue (f ∷ fs) a = continue fs (resume f a)
 
-  -- the result of a move, with this word left
+  -- the result of a move, with this word left; a command that asks may hand over to the text of a file
   abbrev pub comes_to : OutcomeWord → Next → Came
   comes_to w (Go fs s) = continue fs (Normal (with w s))
-  comes_to w (Ask request fs s) = continue fs (take_outcome request w (with w s))
+  comes_to w (Ask request fs s) = continue (with_file s.memory.status request.effect.runs fs) (take_outcome request w (with w s))
   comes_to w (Stop ending s) = Over ending (with w s)
 
 -- what a frame holds is proper
@@ -83,6 +85,8 @@ IsProperFrame (LoopBody until c b) = HoldsCommand c × HoldsCommand b
 IsProperFrame (ForBody name values body) = IsProper body
 IsProperFrame (RunNames names) = Unit {0}
 IsProperFrame (RunText names) = Unit {0}
+IsProperFrame (RunFile name before) = Unit {0}
+IsProperFrame FileText = Unit {0}
 IsProperFrame CommandEnd = Unit {0}
 
 abbrev pub AreProperFrames : List Frame → Type 0
@@ -102,7 +106,7 @@ module _ (task : Task) where
   -- a command has asked: whatever follows p, it takes the next outcome
   abbrev pub AsksAt : OutcomeWord → Request → List Frame → State → Type 0
   AsksAt p request fs s =
-      (w : OutcomeWord) → settled (run_on task (p ++ w)) ≡ continue task.limits fs (take_outcome request w (with w s))
+      (w : OutcomeWord) → settled (run_on task (p ++ w)) ≡ comes_to task.limits w (Ask request fs s)
 
   -- the run is over: whatever follows p is not used
   abbrev pub EndsAt : OutcomeWord → Ending → State → Type 0

@@ -2,10 +2,12 @@
 use Rattle.std.specs.Prelude.{ℕ, suc, ◌+◌, List, [], ◌∷◌, Option, Some, None}
 use Rattle.hushlang.specs.Tree as tree
 use Rattle.hushlang.specs.Tree.{Script, AndOr, Joined, Command, Arms}
-use Rattle.hushlang_shells.specs.TreesByShell.{TextRead, Runs, Fails, Panics, Unread, started_in}
+use Rattle.hushlang_shells.specs.TreesByShell.{TextRead, Runs, Fails, Panics, Unread, started_in, sourced_in}
+use Rattle.device_list.specs.DeviceList.{file_in}
 use Rattle.rehearse_terms.specs.State.{Text, Variables, get}
 use Rattle.rehearse_terms.specs.declared.shell.Shell.{Shell}
-use Rattle.rehearse_machine.specs.Frames.{Frame, Lists, Linked, IfCondition, LoopCondition, LoopBody, ForBody, RunNames, RunText, CommandEnd}
+use Rattle.rehearse_rules.specs.Execution.{Limits}
+use Rattle.rehearse_machine.specs.Frames.{Frame, Lists, Linked, IfCondition, LoopCondition, LoopBody, ForBody, RunNames, RunText, CommandEnd, RunFile, FileText}
 
 -- how many moves lead from a command to the first step in it
 abbrev mutual
@@ -57,22 +59,29 @@ abbrev pub text_weight : Shell → Option Text → ℕ → ℕ → ℕ
 text_weight shell None x m = m
 text_weight shell (Some text) x m = read_weight (started_in shell text) x m
 
+abbrev pub file_weight : Shell → Option Text → ℕ → ℕ
+file_weight shell None m = m
+file_weight shell (Some text) m = read_weight (sourced_in shell text) (suc m) m
+
 abbrev pub names_weight : Shell → Variables → List Text → ℕ → ℕ
 names_weight shell environment [] m = m
 names_weight shell environment (name ∷ names) m =
     text_weight shell (get environment name) (suc (names_weight shell environment names m + m)) m
 
-abbrev pub frame_weight : Shell → Variables → Frame → ℕ → ℕ
-frame_weight shell environment (Lists lists) m = block_weight lists m
-frame_weight shell environment (Linked links) m = links_weight links m
-frame_weight shell environment (IfCondition b arms) m = suc (block_weight b (suc m) + arms_weight arms m)
-frame_weight shell environment (LoopCondition until c b last) m = suc (block_weight b (suc (block_weight c m)) + m)
-frame_weight shell environment (LoopBody until c b) m = suc (block_weight c m)
-frame_weight shell environment (ForBody name values body) m = for_weight body values m
-frame_weight shell environment (RunNames names) m = suc (names_weight shell environment names m)
-frame_weight shell environment (RunText names) m = suc (names_weight shell environment names m + m)
-frame_weight shell environment CommandEnd m = suc m
+abbrev pub frame_weight : Limits → Variables → Frame → ℕ → ℕ
+frame_weight limits environment (Lists lists) m = block_weight lists m
+frame_weight limits environment (Linked links) m = links_weight links m
+frame_weight limits environment (IfCondition b arms) m = suc (block_weight b (suc m) + arms_weight arms m)
+frame_weight limits environment (LoopCondition until c b last) m = suc (block_weight b (suc (block_weight c m)) + m)
+frame_weight limits environment (LoopBody until c b) m = suc (block_weight c m)
+frame_weight limits environment (ForBody name values body) m = for_weight body values m
+frame_weight limits environment (RunNames names) m = suc (names_weight limits.shell environment names m)
+frame_weight limits environment (RunText names) m = suc (names_weight limits.shell environment names m + m)
+frame_weight limits environment (RunFile name before) m =
+    suc (file_weight limits.shell (file_in limits.devices name) m + m)
+frame_weight limits environment FileText m = suc m
+frame_weight limits environment CommandEnd m = suc m
 
-abbrev pub weight : Shell → Variables → List Frame → ℕ
-weight shell environment [] = 0
-weight shell environment (f ∷ fs) = frame_weight shell environment f (weight shell environment fs)
+abbrev pub weight : Limits → Variables → List Frame → ℕ
+weight limits environment [] = 0
+weight limits environment (f ∷ fs) = frame_weight limits environment f (weight limits environment fs)

@@ -13,7 +13,7 @@ use Rattle.device_list.specs.DeviceList.{Devices}
 use Rattle.device_list.specs.CommandsShown.{lent_effect}
 use Rattle.rehearse_terms.specs.Bounds.{BoundsShown}
 use Rattle.rehearse_rules.specs.Execution.{Limits, Request, remember}
-use Rattle.rehearse_machine.specs.Places.{PlaceNext, GoOn, AskOn, StopOn}
+use Rattle.rehearse_machine.specs.Places.{PlaceNext, GoOn, AskOn, StopOn, above_file}
 use Rattle.rehearse_rules.specs.EndingsShown.{halt_shown}
 use Rattle.rehearse_machine.specs.declared.ask.Ask.{Ask}
 use Rattle.rehearse_machine.specs.declared.ask.Step.{Step}
@@ -38,6 +38,10 @@ next_shown (steps.Ends halt) m w = StopOn (halt_shown halt) (state_at m w)
 
 abbrev pub limits_of : Devices → BoundsShown → Limits
 limits_of devices bounds = record { devices = devices; device_bound = bounds.devices; step_bound = bounds.steps; shell = bounds.shell }
+
+-- a file that a command hands over to, above the frames
+abbrev pub file_above : (runs : Option Text) → Moment → Moment
+file_above runs m = record m { frames = above_file m.status runs m.frames }
 
 -- the frames below the innermost
 abbrev pub under : Moment → List RunningFrame

@@ -8,7 +8,7 @@ use Rattle.rehearse_terms.specs.declared.shell.Shell.{Shell}
 use Rattle.rehearse_rules.specs.Execution.{Limits, set_status}
 use Rattle.rehearse_machine.specs.declared.next_move.Next.{Next}
 use Rattle.rehearse_machine.specs.declared.next_move.Next.TheVariants as nexts
-use Rattle.rehearse_machine.specs.Places.{PlaceNext, GoOn, moved_to, block_frame, place_command, place_counted, for_move, run_move, command_at, list_at, place_for}
+use Rattle.rehearse_machine.specs.Places.{PlaceNext, GoOn, moved_to, block_frame, place_command, place_counted, for_move, run_move, command_at, list_at, place_for, file_move}
 
 -- what the frame f does next, over the frames below it
 abbrev pub continued : Limits → Next → RunningFrame → List RunningFrame → State → PlaceNext
@@ -25,6 +25,7 @@ continued limits (nexts.Loops name words) f fs s =
 continued limits nexts.Turns f fs s =
     for_move limits.shell (command_at (list_at f.script f.place.list) f.place.command) f fs s
 continued limits nexts.Names f fs s = run_move limits.shell f fs s
+continued limits nexts.Hands f fs s = file_move limits f fs s
 
 -- the frame f does next what is said, within any limits
 abbrev pub Continues : Next → RunningFrame → (Limits → List RunningFrame → State → PlaceNext) → Type 0
@@ -56,3 +57,4 @@ HasRoom (nexts.Assigns values) f = f.place.command + 1 < 2 ^ 64
 HasRoom (nexts.Loops name words) f = f.place.command + 1 < 2 ^ 64
 HasRoom nexts.Turns f = Unit {0}
 HasRoom nexts.Names f = Unit {0}
+HasRoom nexts.Hands f = Unit {0}

@@ -10,17 +10,18 @@ use Rattle.bootstore_state.specs.declared.frame.FrameKind.{FrameKind}
 use Rattle.bootstore_state.specs.declared.frame.FrameKind.TheVariants as kinds
 use Rattle.bootstore_state.specs.Moment.{RunningFrame}
 use Rattle.rehearse_terms.specs.Outcomes.{Outcome, Success, Failure}
-use Rattle.hushlang_shells.specs.TreesByShell.{TextRead, Runs, Fails, Panics, Unread, started_in}
+use Rattle.hushlang_shells.specs.TreesByShell.{TextRead, Runs, Fails, Panics, Unread, started_in, sourced_in}
 use Rattle.rehearse_terms.specs.State.{Text, get, State}
 use Rattle.rehearse_terms.specs.declared.shell.Shell.{Shell}
 use Rattle.rehearse_terms.specs.declared.shell.Shell.TheVariants.{Profile, Old2023, Old2025, Modern2025}
 use Rattle.rehearse_rules.specs.ByShell.{unread, reads_again, call_in, leaves_in, status_of_exit, asks_in, truth_in, fields_in, turns_in, skips_rest, status_of_nothing, status_of_no_block, status_of_loop, follows, assigned_in, follows_turns}
 use Rattle.rehearse_rules.specs.Parameters.{parameters_in}
+use Rattle.device_list.specs.DeviceList.{file_in}
 use Rattle.device_list.specs.Called.{Called, BuiltIn, NoCommand, Device, called_by, sets_in}
 use Rattle.commands.specs.BuiltInCommands.{ChangesVariables, WritesText, RunsTexts, Tests, Exits, variables_changed, text_written}
 use Rattle.rehearse_rules.specs.Needs.{effect_now}
 use Rattle.rehearse_rules.specs.Execution.{Limits, Ending, End, CutDevices, CutSteps, Unknown, Size, Finished, remember, set_status, begin_turn, status_when, goes, holds, Request, outcome_when, told, told_again, logged, set_environment, Unsupported, Panic, assign_local, request_of, test_request, text_failed, for_begun, block_skipped, compound_left}
-use Rattle.rehearse_machine.specs.Frames.{Frame, Lists, Linked, IfCondition, LoopCondition, LoopBody, ForBody, RunNames, RunText, Next, Go, Ask, Stop, begun_text, CommandEnd}
+use Rattle.rehearse_machine.specs.Frames.{Frame, Lists, Linked, IfCondition, LoopCondition, LoopBody, ForBody, RunNames, RunText, Next, Go, Ask, Stop, begun_text, CommandEnd, RunFile, FileText}
 
 -- ---- parts of a script by their numbers
 
@@ -109,11 +110,18 @@ abbrev pub run_frame : ℕ → List Text → Frame
 run_frame zero names = RunNames names
 run_frame (suc k) names = RunText (drop (suc k) names)
 
+-- the text of a file has not begun, or it has
+abbrev pub file_part : (turn last : ℕ) → (names : List Text) → Frame
+file_part zero last [] = Lists tree.Empty
+file_part zero last (name ∷ more) = RunFile name last
+file_part (suc k) last names = FileText
+
 abbrev pub frames_by : FrameKind → RunningFrame → List Frame
 frames_by kinds.Text f = script_frames (list_at f.script f.place.list) f.place (drop_lists (suc f.place.list) f.script)
 frames_by kinds.Block f = script_frames (list_at f.script f.place.list) f.place (drop_lists (suc f.place.list) f.script)
 frames_by kinds.For f = for_frame (command_at (list_at f.script f.place.list) f.place.command) f.place.turn f.words ∷ []
 frames_by kinds.Run f = run_frame f.place.turn f.words ∷ []
+frames_by kinds.File f = file_part f.place.turn f.place.last f.words ∷ []
 
 -- the frames that the frames of a store describe
 abbrev pub frames_of : List RunningFrame → List Frame
@@ -170,6 +178,15 @@ block_frame script = record { kind = kinds.Block; script = script; words = []; p
 abbrev pub names_frame : Script → List Text → RunningFrame
 names_frame script names = record { kind = kinds.Run; script = script; words = names; place = place 0 0 0 0 }
 
+-- a file whose text may run, in no script, with the status from before the command
+abbrev pub file_frame : (before : ℕ) → (name : Text) → RunningFrame
+file_frame before name = record { kind = kinds.File; script = tree.Empty; words = name ∷ []; place = place 0 0 0 before }
+
+-- a command that names a file hands over to its text
+abbrev pub above_file : (before : ℕ) → (runs : Option Text) → List RunningFrame → List RunningFrame
+above_file before None ps = ps
+above_file before (Some name) ps = file_frame before name ∷ ps
+
 -- the `for` at the place of a frame, and its fields
 abbrev pub values_frame : RunningFrame → List Text → RunningFrame
 values_frame f values =
@@ -191,11 +208,24 @@ abbrev pub left_script : Shell → (turn : ℕ) → RunningFrame → List Runnin
 left_script shell zero f fs outwards s = outwards
 left_script shell (suc a) f fs outwards s = left_compound shell (command_over f ∷ fs) outwards s
 
+-- `exit` in the text of a file ends that text, in the modern shell the run
+abbrev pub file_left : Shell → List RunningFrame → State → PlaceNext
+file_left Profile ps s = GoOn ps s
+file_left Old2023 ps s = GoOn ps s
+file_left Old2025 ps s = GoOn ps s
+file_left Modern2025 ps s = StopOn (End s.memory.status) s
+
+-- `exit` at a file whose text has not begun, or in its text
+abbrev pub left_file : Shell → (turn : ℕ) → List RunningFrame → (outwards : PlaceNext) → State → PlaceNext
+left_file shell zero fs outwards s = outwards
+left_file shell (suc k) fs outwards s = file_left shell fs s
+
 abbrev pub left_by : Shell → FrameKind → RunningFrame → List RunningFrame → (outwards : PlaceNext) → State → PlaceNext
 left_by shell kinds.Text f fs outwards s = left_script shell f.place.turn f fs outwards s
 left_by shell kinds.Block f fs outwards s = left_script shell f.place.turn f fs outwards s
 left_by shell kinds.For f fs outwards s = left_compound shell fs outwards s
 left_by shell kinds.Run f fs outwards s = run_left (f ∷ fs) fs s
+left_by shell kinds.File f fs outwards s = left_file shell f.place.turn fs outwards s
 
 -- `exit` ends the text that is running, or leaves a compound command in it
 abbrev pub left : Shell → List RunningFrame → State → PlaceNext
@@ -211,10 +241,14 @@ abbrev pub place_finish : Option BoardEnd → Text → List RunningFrame → Sta
 place_finish (Some finish) name ps s = StopOn (Finished finish name) s
 place_finish None name ps s = GoOn ps s
 
-abbrev pub place_answered : Outcome → Request → List RunningFrame → State → PlaceNext
-place_answered Success request ps s =
+abbrev pub place_taken : Outcome → Request → List RunningFrame → State → PlaceNext
+place_taken Success request ps s =
     place_finish request.effect.ends request.name ps (set_environment (sets_in request.words request.effect.sets) (logged Success request s))
-place_answered Failure request ps s = GoOn ps (logged Failure request s)
+place_taken Failure request ps s = GoOn ps (logged Failure request s)
+
+-- the outcome of the command that asks, which may hand over to the text of a file
+abbrev pub place_answered : Outcome → Request → List RunningFrame → State → PlaceNext
+place_answered outcome request ps s = place_taken outcome request (above_file s.memory.status request.effect.runs ps) s
 
 -- a command that is told its answer again goes on with it; another one asks
 abbrev pub place_tell_or_ask : (told : Option Bool) → Request → List RunningFrame → State → PlaceNext
@@ -230,7 +264,7 @@ place_assign shell (pair ∷ pairs) ps s =
       | false ↦ StopOn Size s
     ]
 
--- the text of a name of a `run`, which is f
+-- the text of a name of a `run`, or of a file, which is f
 abbrev pub place_read : Shell → TextRead → Text → RunningFrame → List RunningFrame → State → PlaceNext
 place_read shell (Runs t) name f fs s = GoOn (text_frame t ∷ in_turn (suc f.place.turn) 0 f ∷ fs) (begun_text t s)
 place_read shell Fails name f fs s = GoOn fs (set_status 1 s)
@@ -240,6 +274,11 @@ place_read shell Unread name f fs s = StopOn (unread shell name) s
 abbrev pub place_text : Shell → Option Text → Text → RunningFrame → List RunningFrame → State → PlaceNext
 place_text shell None name f fs s = GoOn fs (set_status 1 s)
 place_text shell (Some text) name f fs s = place_read shell (started_in shell text) name f fs s
+
+-- the text of a file, which f names
+abbrev pub place_sourced : Shell → Option Text → Text → RunningFrame → List RunningFrame → State → PlaceNext
+place_sourced shell None name f fs s = GoOn fs (set_status 1 s)
+place_sourced shell (Some text) name f fs s = place_read shell (sourced_in shell text) name f fs s
 
 abbrev pub place_name : Shell → Option Text → RunningFrame → List RunningFrame → State → PlaceNext
 place_name shell None f fs s = GoOn fs s
@@ -410,11 +449,29 @@ module _ (limits : Limits) where
   place_list None f fs s = GoOn fs s
   place_list (Some list) f fs s = place_turn list f.place.turn f fs s
 
+  -- after a success the text of a file begins
+  abbrev pub file_begins : Option Text → RunningFrame → List RunningFrame → State → PlaceNext
+  file_begins None f fs s = GoOn fs s
+  file_begins (Some name) f fs s =
+      elim (nat_eq s.memory.status 0) [
+        | true ↦ place_sourced limits.shell (file_in limits.devices name) name f fs (set_status f.place.last s)
+        | false ↦ GoOn fs s
+      ]
+
+  -- it has ended, and so has the command that handed over
+  abbrev pub file_ends : List RunningFrame → State → PlaceNext
+  file_ends fs s = elim (nat_eq s.memory.status 0) [ true ↦ GoOn fs s | false ↦ GoOn fs (text_failed limits.shell s) ]
+
+  abbrev pub file_move : RunningFrame → List RunningFrame → State → PlaceNext
+  file_move f fs s =
+      elim (nat_eq f.place.turn 0) [ true ↦ file_begins (slice_get f.words 0) f fs s | false ↦ file_ends fs s ]
+
   abbrev pub place_by : FrameKind → RunningFrame → List RunningFrame → State → PlaceNext
   place_by kinds.Text f fs s = place_list (list_at f.script f.place.list) f fs s
   place_by kinds.Block f fs s = place_list (list_at f.script f.place.list) f fs s
   place_by kinds.For f fs s = for_move limits.shell (command_at (list_at f.script f.place.list) f.place.command) f fs s
   place_by kinds.Run f fs s = run_move limits.shell f fs s
+  place_by kinds.File f fs s = file_move f fs s
 
   -- one move, at places
   abbrev pub place_move : List RunningFrame → State → PlaceNext

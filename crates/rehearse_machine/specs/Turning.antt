@@ -4,7 +4,6 @@ use Rattle.std.specs.FinMap.{entries}
 use Rattle.bootstore_state.specs.Moment.{Moment}
 use Rattle.bootstore_state.specs.Record.{Record}
 use Rattle.rehearse_terms.specs.Outcomes.{OutcomeWord}
-use Rattle.rehearse_terms.specs.declared.shell.Shell.{Shell}
 use Rattle.bootstore_state.specs.StoredState.{state_at}
 use Rattle.rehearse_rules.specs.Execution.{Limits, Normal}
 use Rattle.rehearse_machine.specs.declared.ask.Step.{Step}
@@ -45,8 +44,8 @@ IsWithin bound (Ask r fs t) = t.steps ≤ bound
 IsWithin bound (Stop ending t) = t.steps ≤ bound
 
 -- an upper bound of the moves to the next step
-abbrev pub moves_left : Shell → Moment → ℕ
-moves_left shell m = weight shell (entries m.environment) (frames_of m.frames)
+abbrev pub moves_left : Limits → Moment → ℕ
+moves_left limits m = weight limits (entries m.environment) (frames_of m.frames)
 
 -- a turn: what is to come stays the same, and a step is begun or the run is over
 pub record Turns (limits : Limits) (step : Step) (old new : Record) : Type 0 where

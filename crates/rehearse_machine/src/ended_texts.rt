@@ -16,7 +16,7 @@ fn is_text(kind: FrameKind) -> bool
 {
     match kind {
         FrameKind::Text => true,
-        FrameKind::Block | FrameKind::For | FrameKind::Run => false,
+        FrameKind::Block | FrameKind::For | FrameKind::Run | FrameKind::File => false,
     }
 }
 
@@ -26,7 +26,7 @@ fn is_block(kind: FrameKind) -> bool
 {
     match kind {
         FrameKind::Block => true,
-        FrameKind::Text | FrameKind::For | FrameKind::Run => false,
+        FrameKind::Text | FrameKind::For | FrameKind::Run | FrameKind::File => false,
     }
 }
 
@@ -36,7 +36,7 @@ fn is_run(kind: FrameKind) -> bool
 {
     match kind {
         FrameKind::Run => true,
-        FrameKind::Text | FrameKind::Block | FrameKind::For => false,
+        FrameKind::Text | FrameKind::Block | FrameKind::For | FrameKind::File => false,
     }
 }
 

@@ -51,6 +51,7 @@ pub(crate) fn next_of(frame: &Frame, shell: Shell, status: u8) -> Next<'_>
         FrameKind::Block => next_in_script(frame, shell, status),
         FrameKind::For => Next::Turns,
         FrameKind::Run => Next::Names,
+        FrameKind::File => Next::Hands,
     }
 }
 
@@ -136,7 +137,7 @@ fn next_name<'d, S: Store>(
 }
 
 /// Starts the text of a name. A text without a command gives the status 0.
-fn begin_text<'d, S: Store>(
+pub(crate) fn begin_text<'d, S: Store>(
     store: &mut S,
     frame: &Frame,
     script: Rc<Script>,

@@ -11,6 +11,7 @@ mod by_shell;
 mod computed;
 mod ended_texts;
 mod expecting;
+mod file_moves;
 mod for_turn;
 mod frame_moves;
 mod frames;

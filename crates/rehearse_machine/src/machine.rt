@@ -8,6 +8,7 @@ ghost use Rattle.rehearse_machine.specs.Turning.{IsSound, Turns, Drives};
 use crate::ask::Step;
 use crate::assigns::begin_assign;
 use crate::ended_texts::drop_ended;
+use crate::file_moves::move_file;
 use crate::frame_moves::{move_for, move_run, next_of};
 use crate::frames::{behind, block, enter, finish, go_on, leave, skip};
 use crate::named::look_up;
@@ -63,6 +64,7 @@ fn proceed<'d, S: Store>(
         Next::Loops(name, words) => begin_for(alloc, store, fields, frame, bounds, name, words),
         Next::Turns => move_for(store, frame, bounds.shell()),
         Next::Names => move_run(store, frame, bounds.shell()),
+        Next::Hands => move_file(alloc, store, frame, devices, bounds),
     }
 }
 

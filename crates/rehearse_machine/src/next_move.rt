@@ -27,4 +27,6 @@ pub(crate) enum Next<'a> {
     Turns,
     /// The next name of a `run` begins, or the `run` ends.
     Names,
+    /// The text of a file begins after a success, or it has ended.
+    Hands,
 }

@@ -7,10 +7,11 @@ ghost use Rattle.rehearse_terms.specs.Outcomes.{Outcome};
 ghost use Rattle.rehearse_rules.specs.Execution.{succeeds, with_all};
 ghost use Rattle.device_list.specs.CommandsShown.{lent_effect};
 ghost use Rattle.device_list.specs.DeviceList.{Devices as ListedDevices};
-ghost use Rattle.rehearse_machine.specs.Places.{place_answered, place_ask};
+ghost use Rattle.rehearse_machine.specs.Places.{place_taken, place_answered, place_ask};
 ghost use Rattle.rehearse_machine.specs.MovesShown.{Changed, Comes, request_shown, limits_of};
 
 use crate::ask::{Ask, Statuses, Step};
+use crate::file_moves::hand_over;
 use crate::told::told;
 use bootstore_state::{LogEntry, Store, StoreError};
 use commands::is_bad_name;
@@ -21,8 +22,10 @@ use std::alloc::Global;
 use text::copied_words;
 
 /// Gives a device command its outcome, which goes into the log and decides the status. On success
-/// the command sets its variables, and may end the run.
+/// the command sets its variables, and may end the run, or hand over to the text of a file. Errors:
+/// `Memory`.
 pub fn answer<'d, S: Store>(
+    alloc: Global,
     store: &mut S,
     ask: Ask<'d>,
     success: bool,
@@ -30,6 +33,16 @@ pub fn answer<'d, S: Store>(
     ensures { (outcome : Outcome) → succeeds outcome ≡ success
         → Comes result (S.record_of store.old) (S.record_of store.new)
         (place_answered outcome (request_shown ask.entry) (S.record_of store.old).present.frames) }
+{
+    hand_over(alloc, store, ask.effect.runs)?;
+    take(store, ask, success)
+}
+
+/// Gives a device command its outcome, above the frames that are there.
+fn take<'d, S: Store>(store: &mut S, ask: Ask<'d>, success: bool) -> Result<Step<'d>, StoreError>
+    ensures { (outcome : Outcome) → succeeds outcome ≡ success
+        → Comes result (S.record_of store.old) (S.record_of store.new)
+        (place_taken outcome (request_shown ask.entry) (S.record_of store.old).present.frames) }
 {
     let Ask {
         name,
@@ -92,7 +105,7 @@ pub(crate) fn ask<'d, S: Store>(
         statuses,
     };
     match answered {
-        Some(success) => answer(store, request, success),
+        Some(success) => answer(alloc, store, request, success),
         None => Ok(Step::Asks(request)),
     }
 }

@@ -214,19 +214,19 @@ pub fn begin<'a, S: Store>(
 
 /// Gives the device command that asks an outcome. Errors: `Memory`.
 fn give_outcome<'a, S: Store>(
-    _rehearsal: &Rehearsal<'a>,
+    rehearsal: &Rehearsal<'a>,
     store: &mut S,
     ask: Ask<'a>,
     success: bool,
 ) -> Result<Step<'a>, StoreError>
-    requires asks { IsAsking (task_in _rehearsal.now).limits (S.record_of store.old).present }
-    requires this { IsAsked (task_in _rehearsal.now).limits (request_shown ask)
+    requires asks { IsAsking (task_in rehearsal.now).limits (S.record_of store.old).present }
+    requires this { IsAsked (task_in rehearsal.now).limits (request_shown ask)
         (S.record_of store.old).present }
     ensures { IfOk result
-        (λ step. TakesOutcome (task_in _rehearsal.now).limits (outcome_when success)
+        (λ step. TakesOutcome (task_in rehearsal.now).limits (outcome_when success)
         (S.record_of store.old) (S.record_of store.new) step) }
 {
-    answer(store, ask, success)
+    answer(rehearsal.alloc, store, ask, success)
 }
 
 /// Gives the device command that asks an outcome, and goes on until the next one asks, or the run

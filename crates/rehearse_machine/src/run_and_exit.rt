@@ -6,12 +6,12 @@ ghost use Rattle.text.specs.TextsShown.{bytes_of_words};
 ghost use Rattle.rehearse_terms.specs.State.{State};
 ghost use Rattle.rehearse_rules.specs.Execution.{compound_left};
 ghost use Rattle.rehearse_machine.specs.Exits.{exits};
-ghost use Rattle.rehearse_machine.specs.Places.{left, left_by, left_compound, run_left, PlaceNext, GoOn, names_frame};
+ghost use Rattle.rehearse_machine.specs.Places.{left, left_by, left_compound, file_left, run_left, PlaceNext, GoOn, names_frame};
 ghost use Rattle.rehearse_machine.specs.MovesShown.{Comes, Went, under};
 
 use crate::ask::Step;
 use crate::by_shell::left_status;
-use crate::frames::{finish, leave_with, over, place};
+use crate::frames::{finish, leave, leave_with, over, place};
 use bootstore_state::{Frame, FrameKind, Store, StoreError};
 use hushlang::Script;
 use rehearse_rules::Halt;
@@ -43,6 +43,10 @@ pub(crate) enum Exits {
     Turns,
     /// It leaves a text of a `run`.
     Text,
+    /// It leaves the text of a file.
+    File,
+    /// It ends the run.
+    Run,
 }
 
 /// What `exit` does in a compound command: this in the modern shell, and else it goes further
@@ -55,6 +59,17 @@ fn in_compound(shell: Shell, here: Exits) -> Exits
     match shell {
         Shell::Profile | Shell::Old2023 | Shell::Old2025 => Exits::Outwards,
         Shell::Modern2025 => here,
+    }
+}
+
+/// What `exit` does in the text of a file: it ends that text, in the modern shell the run.
+fn in_file(shell: Shell) -> Exits
+    ensures { (f : RunningFrame) (fs : List RunningFrame) (outwards : PlaceNext) (s : State) →
+        file_left shell fs s ≡ exits result f fs outwards s }
+{
+    match shell {
+        Shell::Profile | Shell::Old2023 | Shell::Old2025 => Exits::File,
+        Shell::Modern2025 => Exits::Run,
     }
 }
 
@@ -74,11 +89,19 @@ fn exit_at(frame: &Frame, shell: Shell) -> Exits
         }
         FrameKind::For => in_compound(shell, Exits::Turns),
         FrameKind::Run => Exits::Text,
+        FrameKind::File => {
+            if frame.at().turn == 0 {
+                Exits::Outwards
+            } else {
+                in_file(shell)
+            }
+        }
     }
 }
 
 /// Leaves the text that is running: removes the frames above the innermost `run`, and that `run` too
-/// if the status is not 0. Without a `run` the whole run ends. In the modern shell it leaves the
+/// if the status is not 0, or those down to the frame of a file. Without a `run` or a file the whole run
+/// ends, in the modern shell also in the text of a file. In the modern shell it leaves the
 /// innermost compound command in that text instead, if there is one.
 pub(crate) fn leave_text<'d, S: Store>(store: &mut S, shell: Shell) -> Result<Step<'d>, StoreError>
     ensures { Comes result (S.record_of store.old) (S.record_of store.new)
@@ -102,6 +125,8 @@ pub(crate) fn leave_text<'d, S: Store>(store: &mut S, shell: Shell) -> Result<St
                 leave_run(store)?;
                 return Ok(Step::Going);
             }
+            Exits::File => return leave(store),
+            Exits::Run => return Ok(Step::Ends(Halt::End(store.get_status()))),
         }
     }
     Ok(Step::Ends(Halt::End(store.get_status())))

@@ -94,6 +94,7 @@ fn ask_file<'d, S: Store>(
         always: None,
         needs: &[],
         normal: false,
+        runs: None,
         sets: &[],
     };
     ask(alloc, store, bounds, name, &question, effect, statuses)

@@ -6,4 +6,4 @@ abbrev pub invariant-moves : goal.invariant-moves
 invariant-moves g l = Waits (limits_of l.devices l.bounds) (g.S.Store.record_of l.initial.store) (g.S.Store.record_of l.store)
 
 abbrev pub decreases-moves : goal.decreases-moves
-decreases-moves g l = moves_left l.bounds.shell (g.S.Store.record_of l.store).present
+decreases-moves g l = moves_left (limits_of l.devices l.bounds) (g.S.Store.record_of l.store).present

@@ -67,6 +67,35 @@ returns-in-Text g c =
     (ap (λ (x : List RunningFrame). run_left x below s) (is_top now.present.frames f c.in-Some.ensures) ∙ sym (c.in-Text.ensures below (left shell below s) s)))
     c.in_ok-leave_run-in-Text.ensures)
 
+pub returns-in-File : goal.returns-in-File
+returns-in-File g c =
+    let shell = c.args.shell in
+    let old = g.S.Store.record_of c.args.store.now in
+    let now = g.S.Store.record_of c.frames.store in
+    let new = g.S.Store.record_of c.leave.new.store in
+    let f = c.in-Some.frame.now in
+    let below = under now.present in
+    comes_after c.leave.result old now new (λ s. s) (left shell old.present.frames) c.frames.invariant.1 c.frames.invariant.2
+    (comes_at c.leave.result now new (GoOn below) (left shell old.present.frames)
+    (λ w. let s = state_at now.present w in
+    leaves_at shell now.present.frames old.present.frames f (GoOn below s) s c.in-Some.ensures c.frames.invariant.0
+    (sym (c.in-File.ensures below (left shell below s) s)))
+    c.leave.ensures)
+
+pub returns-in-Run : goal.returns-in-Run
+returns-in-Run g c =
+    let shell = c.args.shell in
+    let old = (g.S.Store.record_of c.args.store.now).present in
+    let now = (g.S.Store.record_of c.frames.store).present in
+    let f = c.in-Some.frame.now in
+    let below = under now in (
+      λ w. let s = state_at now w in
+          ap (λ (n : ℕ). StopOn (End n) s) c.get_status-in-Run.ensures
+          ∙ leaves_at shell now.frames old.frames f (StopOn (End s.memory.status) s) s c.in-Some.ensures c.frames.invariant.0 (sym (c.in-Run.ensures below (left shell below s) s))
+          ∙ ap (λ (t : State). left shell old.frames t) (c.frames.invariant.1 w),
+      c.frames.invariant.2,
+    )
+
 pub frames-preserved : goal.frames-preserved
 frames-preserved g c =
     let shell = c.args.shell in
