@@ -11,6 +11,7 @@ use Rattle.device_list.specs.declared.finish.BoardEnd.{BoardEnd}
 use Rattle.device_list.specs.Called.{sets_in}
 use Rattle.rehearse_rules.specs.Execution.{Limits, Answer, Ending, CutDevices, CutSteps, End, Unknown, Syntax, Unsupported, Panic, Size, Finished, Request, finish, take_outcome, set_environment, logged, succeeds}
 use Rattle.rehearse_machine.specs.Came.{Came, Over, Wants}
+use Rattle.rehearse_machine.specs.Frames.{Frame, with_file}
 use Rattle.rehearse_machine.specs.Places.{frames_of}
 use Rattle.rehearse_machine.specs.Meaning.{continue}
 use Rattle.rehearse_machine.specs.Machine.{Asking, asked_at}
@@ -142,9 +143,10 @@ module _ (limits : Limits) (m : Moment) (asking : Asking limits m) where
       let k : List LoggedCommand = m.log ++ entry_of asking.request d ∷ [] in
       let s : State = state_at m (d ∷ w) in
       let a : Answer = take_outcome asking.request (d ∷ w) s in
-      let read : List Access = of_frames limits [] (frames_of m.frames) a in
-      let h = logs_itself limits m.steps k (continue limits (frames_of m.frames) a)
-      (continue_alike limits m.steps m.steps k k [] (frames_of m.frames) (keys_read read) a a (reads_within (keys_read read) read (all_itself (keys_read read))) (took limits (keys_read read) asking.request d w s)) in
+      let below : List Frame = with_file m.status asking.request.effect.runs (frames_of m.frames) in
+      let read : List Access = of_frames limits [] below a in
+      let h = logs_itself limits m.steps k (continue limits below a)
+      (continue_alike limits m.steps m.steps k k [] below (keys_read read) a a (reads_within (keys_read read) read (all_itself (keys_read read))) (took limits (keys_read read) asking.request d w s)) in
       (h.further, ap came_log (asked_so limits m asking (d ∷ w)) ∙ h.goes_on_here ∙ append_assoc m.log (entry_of asking.request d ∷ []) h.further)
 
   -- the commands that took an outcome: after those of the moment, this one, and then others

@@ -16,4 +16,5 @@ mod BoundExamples
 mod FailuresExamples
 mod ModernShellExamples
 mod ShellExamples
+mod FileExamples
 mod LogLinesExamples

@@ -9,7 +9,7 @@ use Rattle.rehearse_terms.specs.State.{Text, State, LoggedCommand}
 use Rattle.rehearse_rules.specs.Execution.{Limits, Answer, Normal, Ended, Ending, End, CutDevices, CutSteps, Unknown, Syntax, Unsupported, Panic, Size, Finished, Request, finish, take_outcome, logged, set_environment}
 use Rattle.rehearse_machine.specs.AskingCommand.{found_again}
 use Rattle.rehearse_machine.specs.Came.{Came, Over, Wants}
-use Rattle.rehearse_machine.specs.Frames.{Frame, Next, Go, Ask, Stop, finish_next, answered, move}
+use Rattle.rehearse_machine.specs.Frames.{Frame, Next, Go, Ask, Stop, finish_next, answered, move, with_file}
 use Rattle.rehearse_machine.specs.Machine.{Asking, IsAsking, asked_at}
 use Rattle.rehearse_machine.specs.Meaning.{with, continue, comes_to}
 use Rattle.rehearse_machine.specs.Places.{PlaceNext, next_of, frames_of}
@@ -124,7 +124,7 @@ module _ (limits : Limits) (wanted : List Text) (i j : ℕ) (k l : List LoggedCo
 
   there_beyond : (w : OutcomeWord) (a : Next) (ending : Ending) (t : State) → IsBeyondThere limits i j k l a → Alike (comes_to limits w a) (Over ending (with w t))
   there_beyond w (Go fs s) ending t h = stays_beyond fs (Normal (with w s)) ending (with w t) h
-  there_beyond w (Ask request fs s) ending t h = stays_beyond fs (take_outcome request w (with w s)) ending (with w t) (ask_beyond w request fs (with w s) h)
+  there_beyond w (Ask request fs s) ending t h = stays_beyond (with_file s.memory.status request.effect.runs fs) (take_outcome request w (with w s)) ending (with w t) (ask_beyond w request fs (with w s) h)
   there_beyond w (Stop other s) ending t h = beyond h
 
   decided : (w : OutcomeWord) (later known : List Key) (a b : Next) → AreAmong later known → Decide limits wanted a w later → NextAlike limits i j k l known a b → Alike (comes_to limits w a) (comes_to limits w b)
@@ -163,7 +163,7 @@ finished_so limits w (Some how) name fs s = sym (continue-ended limits fs (Finis
 finished_so limits w None name fs s = refl
 
 pub answered_so : (limits : Limits) (w : OutcomeWord) (outcome : Outcome) (request : Request) (fs : List Frame) (s : State) → comes_to limits w (answered outcome request fs s) ≡ comes_to limits (outcome ∷ w) (Ask request fs s)
-answered_so limits w Success request fs s = finished_so limits w request.effect.ends request.name fs (set_environment (sets_in request.words request.effect.sets) (logged Success request s))
+answered_so limits w Success request fs s = finished_so limits w request.effect.ends request.name (with_file s.memory.status request.effect.runs fs) (set_environment (sets_in request.words request.effect.sets) (logged Success request s))
 answered_so limits w Failure request fs s = refl
 
 pub keys_of_answers : KeysOfAnswers
@@ -191,8 +191,8 @@ wants_alike limits wanted s t = same (record {
 
 pub keys_of_asking : KeysOfAsking
 keys_of_asking limits wanted request fs s won lost from_success from_failure [] t agree =
-    subst (λ (c : Came). CameAlike limits s.steps t.steps s.log t.log wanted c (comes_to limits [] (Ask request fs t))) (sym (continue-dry limits fs (with [] s)))
-    (subst (λ (d : Came). CameAlike limits s.steps t.steps s.log t.log wanted (Wants (with [] s)) d) (sym (continue-dry limits fs (with [] t))) (wants_alike limits wanted s t))
+    subst (λ (c : Came). CameAlike limits s.steps t.steps s.log t.log wanted c (comes_to limits [] (Ask request fs t))) (sym (continue-dry limits (with_file s.memory.status request.effect.runs fs) (with [] s)))
+    (subst (λ (d : Came). CameAlike limits s.steps t.steps s.log t.log wanted (Wants (with [] s)) d) (sym (continue-dry limits (with_file t.memory.status request.effect.runs fs) (with [] t))) (wants_alike limits wanted s t))
 keys_of_asking limits wanted request fs s won lost from_success from_failure (Success ∷ w) t agree =
     from_success w t (agree_fewer won (won ++ lost) s t (all_left won won lost (all_itself won)) agree)
 keys_of_asking limits wanted request fs s won lost from_success from_failure (Failure ∷ w) t agree =

@@ -1,27 +1,29 @@
 -- Frames go alike from states that agree on what they read, as far as the bounds allow.
-use Rattle.std.proofs.Common.{◌≡◌, ◌∙◌, refl, sym, ap, subst, ℕ, suc, ◌+◌, arith, Bool, true, false, List, [], ◌∷◌, ◌++◌, map, length, Option, Some, nat_eq}
+use Rattle.std.proofs.Common.{◌≡◌, ◌∙◌, refl, sym, ap, subst, ℕ, suc, ◌+◌, arith, Bool, true, false, List, [], ◌∷◌, ◌++◌, map, length, Option, Some, None, nat_eq}
 use Rattle.hushlang.specs.Tree.{Script, Joined, Arms}
 use Rattle.rehearse_terms.specs.Outcomes.{OutcomeWord, WordKind, Run, Long}
 use Rattle.rehearse_terms.specs.State.{Text, State, LoggedCommand, get}
-use Rattle.rehearse_rules.specs.Execution.{Limits, Answer, Normal, Exit, Ended, Dry, Ending, End, take_outcome, run_all, turns, block_skipped, go_on}
+use Rattle.rehearse_rules.specs.Execution.{Limits, Answer, Normal, Exit, Ended, Dry, Ending, End, take_outcome, run_all, turns, block_skipped, go_on, file_follows, text_end, sourced, Request}
 use Rattle.rehearse_rules.specs.Runs.{taken_kind}
-use Rattle.rehearse_rules.proofs.TakenOutcomes.{KeepsAll, Keeps-script, Keeps-joined, Keeps-arms, Keeps-exec, Keeps-run, Keeps-turns, Keeps-for, Keeps-if, Keeps-stays, after_condition, Keeps-after_condition, Keeps-skip}
+use Rattle.rehearse_rules.proofs.TakenOutcomes.{KeepsAll, Keeps-script, Keeps-joined, Keeps-arms, Keeps-exec, Keeps-run, Keeps-turns, Keeps-for, Keeps-if, Keeps-stays, after_condition, Keeps-after_condition, Keeps-skip, Keeps-file}
+use Rattle.rehearse_machine.specs.Came as came
 use Rattle.rehearse_machine.specs.Came.{Over, settled}
-use Rattle.rehearse_machine.specs.Frames.{Frame, Lists, Linked, IfCondition, LoopCondition, LoopBody, ForBody, RunNames, RunText, CommandEnd}
+use Rattle.rehearse_machine.specs.Frames.{Frame, Lists, Linked, IfCondition, LoopCondition, LoopBody, ForBody, RunNames, RunText, CommandEnd, RunFile, FileText, with_file}
 use Rattle.rehearse_machine.specs.Meaning.{with, first_or_next, full, script, joined_of, arms_of, again, resume, continue}
+use Rattle.rehearse_machine.proofs.MoveMeaning.{continue-dry}
 use Rattle.rehearse_reads.specs.Keys.{Key, Environment, Status, Access, AgreeOn, ReadsWithin, known_after}
-use Rattle.rehearse_reads.specs.Accesses.{turns_accesses, each_accesses, taken_accesses, modern_accesses, behind}
+use Rattle.rehearse_reads.specs.Accesses.{turns_accesses, each_accesses, taken_accesses, handing_reads, outcome_writes, modern_accesses, behind, behind_text, sourced_accesses}
 use Rattle.rehearse_reads.specs.Alike as alike
 use Rattle.rehearse_reads.specs.Alike.{AreAbreast, IsAlike}
 use Rattle.rehearse_reads.proofs.AccessLemmas.{within_first, within_then}
 use Rattle.rehearse_reads.proofs.KeysRead.{reads_within}
 use Rattle.rehearse_reads.proofs.AbreastLemmas.{moved_at, near_moved}
-use Rattle.rehearse_reads.proofs.AlikeParts.{further_apart, normal_later, if_later, normal_alike, ended_alike, dry_alike, if_alike, go_on_alike, text_end_alike, Alike-read}
+use Rattle.rehearse_reads.proofs.AlikeParts.{further_apart, normal_later, if_later, normal_alike, ended_alike, dry_alike, if_alike, go_on_alike, text_end_alike, Alike-read, after_then}
 use Rattle.rehearse_reads.proofs.AlikeDevices.{take_alike}
-use Rattle.rehearse_reads.proofs.AlikeLoops.{Alike-turns, Alike-each, Alike-skip, after_alike, compound_then, compound_alike}
-use Rattle.rehearse_reads.proofs.AlikeScripts.{Alike-run, Alike-script, Alike-joined, Alike-arms, Alike-exec}
+use Rattle.rehearse_reads.proofs.AlikeLoops.{Alike-turns, Alike-each, Alike-skip, after_alike, compound_then, compound_alike, sourced_alike}
+use Rattle.rehearse_reads.proofs.AlikeScripts.{Alike-run, Alike-script, Alike-joined, Alike-arms, Alike-exec, Alike-file}
 use Rattle.rehearse_reads.proofs.AlikeRuns.{from_the_start}
-use Rattle.rehearse_frames.specs.ToCome.{names_read, first_behind, of_full, of_script, of_joined, of_arms, of_again, of_condition, of_choice, of_names, of_frame, of_end, of_frames, choice, condition, turns_left}
+use Rattle.rehearse_frames.specs.ToCome.{names_read, first_behind, of_full, of_script, of_joined, of_arms, of_again, of_condition, of_choice, of_names, of_frame, of_end, of_frames, choice, condition, turns_left, of_file}
 use Rattle.rehearse_frames.specs.AlikeFutures.{CameAlike, same, cut_here, beyond}
 use Rattle.rehearse_frames.specs.Laws.{FramesGoAlike, AskedAlike}
 
@@ -118,6 +120,14 @@ module _ (limits : Limits) (i j : ℕ) (k l : List LoggedCommand) where
       (λ t. Keeps-for limits name (script limits body) (kept_script body) t.memory.status values t) v h) w
   resume_alike (RunNames names) known a b w h = first_alike known a b (run_all limits (full limits) names) (of_names limits names) (names_does names) (kept_names names) w h
   resume_alike (RunText names) known a b w h = text_end_alike limits i j k l known a b (run_all limits (full limits) names) (of_names limits names) (names_does names) (kept_names names) w h
+  resume_alike (RunFile name before) known a b w h =
+      go_on_alike limits i j k l known a b (file_follows limits (full limits) name before) (of_file limits name before) (Alike-file limits i j k l (full limits) (of_full limits) kept_full full_does name before) (Keeps-file limits (full limits) kept_full name before) w h
+  resume_alike FileText known a b w h =
+      let last : List Access = sourced_accesses limits.shell a in
+      let ended : List Access = behind_text (sourced limits.shell a) (λ t. []) in
+      after_then limits i j k l known last ended (text_end limits.shell (sourced limits.shell a) Normal) (text_end limits.shell (sourced limits.shell b) Normal)
+      (text_end_alike limits i j k l (known_after known last) (sourced limits.shell a) (sourced limits.shell b) Normal (λ t. []) (λ ks s t near v. normal_alike limits i j k l ks s t near) (Keeps-stays limits.device_bound) (within_then known last ended w)
+      (sourced_alike limits i j k l limits.shell known a b (within_first known last ended w) h))
   resume_alike CommandEnd known a b w h = compound_alike limits i j k l limits.shell known a b w h
 
   module _ (wanted : List Text) where
@@ -188,12 +198,26 @@ frames_go_alike limits wanted w fs keys s t within agree =
     continue_alike limits s.steps t.steps s.log t.log wanted fs keys (Normal (with w s)) (Normal (with w t)) (reads_within keys (of_frames limits wanted fs (Normal (with w s))) within)
     (normal_alike limits s.steps t.steps s.log t.log keys (with w s) (with w t) (beside limits keys s t w agree))
 
+-- the text of the file that follows begins with the same status, if it follows
+file_alike : (limits : Limits) (request : Request) (fs : List Frame) (keys : List Key) (s t : State) → AgreeOn keys s t → (w : OutcomeWord) → ReadsWithin keys (taken_accesses request w)
+    → continue limits (with_file t.memory.status request.effect.runs fs) (take_outcome request w (with w t)) ≡ continue limits (with_file s.memory.status request.effect.runs fs) (take_outcome request w (with w t))
+file_alike limits request fs keys s t agree [] within =
+    continue-dry limits (with_file t.memory.status request.effect.runs fs) (with [] t) ∙ sym (continue-dry limits (with_file s.memory.status request.effect.runs fs) (with [] t))
+file_alike limits request fs keys s t agree (d ∷ w) within =
+    ap (λ (gs : List Frame). continue limits gs (take_outcome request (d ∷ w) (with (d ∷ w) t))) (by request.effect.runs within)
+  where
+    by : (runs : Option Text) → ReadsWithin keys (handing_reads runs ++ outcome_writes d request) → with_file t.memory.status runs fs ≡ with_file s.memory.status runs fs
+    by None h = refl
+    by (Some name) h = ap (λ (n : ℕ). RunFile name n ∷ fs) (agree Status h.0)
+
 pub asked_alike : AskedAlike
 asked_alike limits wanted w request fs keys s t within agree =
     let taken : List Access = taken_accesses request w in
     let here : Answer = take_outcome request w (with w s) in
     let there : Answer = take_outcome request w (with w t) in
-    let rest : List Access = of_frames limits wanted fs here in
+    let below : List Frame = with_file s.memory.status request.effect.runs fs in
+    let rest : List Access = of_frames limits wanted below here in
     let read : ReadsWithin keys (taken ++ rest) = reads_within keys (taken ++ rest) within in
-    continue_alike limits s.steps t.steps s.log t.log wanted fs (known_after keys taken) here there (within_then keys taken rest read)
-    (take_alike limits s.steps t.steps s.log t.log request w keys (with w s) (with w t) (beside limits keys s t w agree))
+    subst (λ (c : came.Came). CameAlike limits s.steps t.steps s.log t.log wanted (continue limits below here) c) (sym (file_alike limits request fs keys s t agree w (within_first keys taken rest read)))
+    (continue_alike limits s.steps t.steps s.log t.log wanted below (known_after keys taken) here there (within_then keys taken rest read)
+    (take_alike limits s.steps t.steps s.log t.log request w keys (with w s) (with w t) (beside limits keys s t w agree)))

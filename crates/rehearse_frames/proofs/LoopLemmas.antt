@@ -67,7 +67,7 @@ module _ (limits : Limits) where
   progress_grows s n (Stop ending t) (inr h) = let a : t.steps ≡ s.steps = h in omega arith
 
   on_grows : (next : Next) → IsProperNext next → (state_in next).steps ≤ (state_in (moved_on limits next)).steps
-  on_grows (Go fs s) p = progress_grows s (weight limits.shell s.memory.environment fs) (move limits fs s) (move_progress limits fs s p)
+  on_grows (Go fs s) p = progress_grows s (weight limits s.memory.environment fs) (move limits fs s) (move_progress limits fs s p)
   on_grows (Ask request fs s) p = omega arith
   on_grows (Stop ending s) p = omega arith
 

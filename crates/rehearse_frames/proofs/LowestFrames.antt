@@ -1,5 +1,5 @@
 -- A run without its lowest frames, if nothing comes back to these.
-use Rattle.std.proofs.Common.{◌≡◌, ◌∙◌, refl, sym, ap, subst, ℕ, zero, suc, ◌+◌, ◌-◌, ◌<◌, ◌≤◌, arith, List, [], ◌∷◌, ◌++◌, length, map, drop, append_assoc, Option, Some, None, inl, inr}
+use Rattle.std.proofs.Common.{◌≡◌, ◌∙◌, refl, sym, ap, subst, ℕ, zero, suc, ◌+◌, ◌-◌, ◌<◌, ◌≤◌, arith, List, [], ◌∷◌, ◌++◌, length, map, take, drop, append_assoc, Option, Some, None, inl, inr}
 use Rattle.std.proofs.lemmas.List.{length-append, length-drop, take-append-drop, take_at, take_all}
 use Rattle.device_list.specs.declared.finish.BoardEnd.{BoardEnd}
 use Rattle.device_list.specs.Called.{sets_in}
@@ -10,11 +10,11 @@ use Rattle.rehearse_terms.specs.State.{Text, State, LoggedCommand, get}
 use Rattle.rehearse_rules.specs.Execution.{Limits, Ending, Answer, Normal, Exit, Ended, Dry, End, Request, logged, set_environment, take_outcome}
 use Rattle.rehearse_machine.specs.AskingCommand.{found_again}
 use Rattle.rehearse_machine.specs.Came.{Came, Over, Wants}
-use Rattle.rehearse_machine.specs.Frames.{Frame, Next, Ask}
+use Rattle.rehearse_machine.specs.Frames.{Frame, Next, Ask, with_file}
 use Rattle.rehearse_machine.specs.Machine.{Asking, IsAsking, asked_at}
 use Rattle.rehearse_machine.specs.Meaning.{with, resume, continue, AreProperFrames}
 use Rattle.rehearse_machine.specs.MovesShown.{next_shown}
-use Rattle.rehearse_machine.specs.Places.{PlaceNext, GoOn, AskOn, StopOn, frames_by, frames_of, place_finish, place_answered, place_move}
+use Rattle.rehearse_machine.specs.Places.{PlaceNext, GoOn, AskOn, StopOn, frames_by, frames_of, file_frame, above_file, place_finish, place_taken, place_answered, place_move}
 use Rattle.rehearse_machine.specs.declared.ask.Step.{Step}
 use Rattle.rehearse_machine.specs.declared.ask.Step.TheVariants as steps
 use Rattle.rehearse_machine.proofs.MoveMeaning.{continue-ended, continue-dry}
@@ -73,9 +73,22 @@ lifted_finish : (below : ℕ) (o : Option BoardEnd) (name : Text) (ps : List Run
 lifted_finish below (Some finish) name ps s = refl
 lifted_finish below None name ps s = refl
 
-lifted_answered : (below : ℕ) (outcome : Outcome) (r : Request) (ps : List RunningFrame) (s : State) → lifted below (place_answered outcome r ps s) ≡ place_answered outcome r (above below ps) s
-lifted_answered below Success r ps s = lifted_finish below r.effect.ends r.name ps (set_environment (sets_in r.words r.effect.sets) (logged Success r s))
-lifted_answered below Failure r ps s = refl
+lifted_taken : (below : ℕ) (outcome : Outcome) (r : Request) (ps : List RunningFrame) (s : State) → lifted below (place_taken outcome r ps s) ≡ place_taken outcome r (above below ps) s
+lifted_taken below Success r ps s = lifted_finish below r.effect.ends r.name ps (set_environment (sets_in r.words r.effect.sets) (logged Success r s))
+lifted_taken below Failure r ps s = refl
+
+one_more : (below : ℕ) (f : RunningFrame) (ps : List RunningFrame) → below ≤ length ps → above below (f ∷ ps) ≡ f ∷ above below ps
+one_more below f ps within =
+    let more : length (f ∷ ps) - below ≡ suc (length ps - below) = omega arith in ap (λ (count : ℕ). take count (f ∷ ps)) more
+
+lifted_file : (below before : ℕ) (runs : Option Text) (ps : List RunningFrame) → below ≤ length ps → above below (above_file before runs ps) ≡ above_file before runs (above below ps)
+lifted_file below before None ps within = refl
+lifted_file below before (Some name) ps within = one_more below (file_frame before name) ps within
+
+lifted_answered : (below : ℕ) (outcome : Outcome) (r : Request) (ps : List RunningFrame) (s : State) → below ≤ length ps
+    → lifted below (place_answered outcome r ps s) ≡ place_answered outcome r (above below ps) s
+lifted_answered below outcome r ps s within =
+    lifted_taken below outcome r (above_file s.memory.status r.effect.runs ps) s ∙ ap (λ (fs : List RunningFrame). place_taken outcome r fs s) (lifted_file below s.memory.status r.effect.runs ps within)
 
 -- ---- moves
 
@@ -115,8 +128,8 @@ moves_stay_above limits below step old new within stays shown w = by (any_move_o
     by (inr back) = absurd (never_back qs below step new w long stays (subst (ComesBack qs) whole back))
 
 pub outcomes_stay_above : OutcomesStayAbove
-outcomes_stay_above below outcome request step old new shown w =
-    shown_above below step new w ∙ ap (lifted below) (shown w) ∙ lifted_answered below outcome request old.frames (state_at old w)
+outcomes_stay_above below outcome request step old new within shown w =
+    shown_above below step new w ∙ ap (lifted below) (shown w) ∙ lifted_answered below outcome request old.frames (state_at old w) within
 
 -- ---- a device command that asks
 
@@ -178,6 +191,10 @@ pub asks_above : AsksAbove
 unfolding IsAsking
 asks_above limits below m asking within = asking_above limits below m asking within
 
+file_joins : (before : ℕ) (runs : Option Text) (xs ys : List Frame) → with_file before runs (xs ++ ys) ≡ with_file before runs xs ++ ys
+file_joins before None xs ys = refl
+file_joins before (Some name) xs ys = refl
+
 -- ---- what is to come
 
 module _ (limits : Limits) where
@@ -213,23 +230,34 @@ module _ (limits : Limits) where
     all : top ++ bottom ≡ frames_of m.frames
     all = sym (frames_join (above below m.frames) (lowest below m.frames)) ∙ ap frames_of (with_lowest below m.frames)
 
+    -- with the file that the command hands over to, from a state with this status
+    abbrev front_at : (before : ℕ) → List Frame
+    front_at before = with_file before asking.request.effect.runs top
+
+    abbrev front : List Frame
+    front = front_at m.status
+
+    whole : (before : ℕ) → with_file before asking.request.effect.runs (top ++ bottom) ≡ front_at before ++ bottom
+    whole before = file_joins before asking.request.effect.runs top bottom
+
     abbrev asking_there : Asking limits (without_lowest below m)
     asking_there = asking_above limits below m asking within
 
     abbrev taken : OutcomeWord → State → Answer
     taken w t = take_outcome asking.request w (with w t)
 
-    here : (w : OutcomeWord) → asked_at limits (without_lowest below m) w ≡ continue limits top (taken w (state_at m []))
+    here : (w : OutcomeWord) → asked_at limits (without_lowest below m) w ≡ continue limits front (taken w (state_at m []))
     here w = asked_so limits (without_lowest below m) asking_there w
 
-    never_here : (w : OutcomeWord) (status : ℕ) (x : State) → continue limits top (taken w (state_at m [])) ≡ Over (End status) x → ⊥
+    never_here : (w : OutcomeWord) (status : ℕ) (x : State) → continue limits front (taken w (state_at m [])) ≡ Over (End status) x → ⊥
     never_here w status x e = never w status x (here w ∙ e)
 
     same_above : (w : OutcomeWord) → asked_at limits m w ≡ asked_at limits (without_lowest below m) w
     same_above w =
         asked_so limits m asking w
-        ∙ ap (λ (fs : List Frame). continue limits fs (taken w (state_at m []))) (sym all)
-        ∙ continue_over top bottom (taken w (state_at m [])) (never_here w)
+        ∙ ap (λ (fs : List Frame). continue limits (with_file m.status asking.request.effect.runs fs) (taken w (state_at m []))) (sym all)
+        ∙ ap (λ (fs : List Frame). continue limits fs (taken w (state_at m []))) (whole m.status)
+        ∙ continue_over front bottom (taken w (state_at m [])) (never_here w)
         ∙ sym (here w)
 
     keys_above : (wanted : List Text) (keys : List Key) → AreEnoughAt limits wanted (without_lowest below m) keys → AreEnoughAt limits wanted m keys
@@ -238,8 +266,10 @@ module _ (limits : Limits) where
         let there : AreEnough limits wanted (Ask asking.request top s) keys = subst (λ (next : Next). AreEnough limits wanted next keys) (asks_so limits (without_lowest below m) asking_there) enough in
         subst (λ (next : Next). AreEnough limits wanted next keys) (sym (asks_so limits m asking))
         (subst (λ (fs : List Frame). AreEnough limits wanted (Ask asking.request fs s) keys) all
-        (λ w t agree. subst (λ (c : Came). CameAlike limits s.steps t.steps s.log t.log wanted c (continue limits (top ++ bottom) (taken w t))) (sym (continue_over top bottom (taken w s) (never_here w)))
-        (alike_over s.steps t.steps s.log t.log wanted (continue limits top (taken w s)) top bottom (taken w t) (never_here w) (there w t agree))))
+        (λ w t agree. subst (λ (fs : List Frame). CameAlike limits s.steps t.steps s.log t.log wanted (continue limits fs (taken w s)) (continue limits (with_file t.memory.status asking.request.effect.runs (top ++ bottom)) (taken w t))) (sym (whole m.status))
+        (subst (λ (fs : List Frame). CameAlike limits s.steps t.steps s.log t.log wanted (continue limits (front ++ bottom) (taken w s)) (continue limits fs (taken w t))) (sym (whole t.memory.status))
+        (subst (λ (c : Came). CameAlike limits s.steps t.steps s.log t.log wanted c (continue limits (front_at t.memory.status ++ bottom) (taken w t))) (sym (continue_over front bottom (taken w s) (never_here w)))
+        (alike_over s.steps t.steps s.log t.log wanted (continue limits front (taken w s)) (front_at t.memory.status) bottom (taken w t) (never_here w) (there w t agree))))))
 
 pub lowest_make_no_difference : LowestMakeNoDifference
 unfolding IsAsking
@@ -251,7 +281,7 @@ keys_hold_below limits wanted below m keys asking within never enough = keys_abo
 
 -- with no outcome left, the command that asks wants one
 wants_one : (limits : Limits) (m : Moment) (asking : Asking limits m) → asked_at limits m [] ≡ Wants (state_at m [])
-wants_one limits m asking = asked_so limits m asking [] ∙ continue-dry limits (frames_of m.frames) (state_at m [])
+wants_one limits m asking = asked_so limits m asking [] ∙ continue-dry limits (with_file m.status asking.request.effect.runs (frames_of m.frames)) (state_at m [])
 
 no_end : (status : ℕ) (s t : State) → Wants t ≡ Over (End status) s → ⊥
 no_end status s t e = absurd (cc)

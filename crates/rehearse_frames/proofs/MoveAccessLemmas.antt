@@ -4,13 +4,13 @@ use Rattle.device_list.specs.declared.finish.BoardEnd.{BoardEnd}
 use Rattle.hushlang.specs.Tree as tree
 use Rattle.hushlang.specs.Tree.{Script, AndOr, Joined, Command, Arms, IsProper, IsProperCommand, HoldsCommand}
 use Rattle.hushlang.specs.Expansion.{size, most_bytes}
-use Rattle.hushlang_shells.specs.TreesByShell.{TextRead, Runs, Fails, Panics, Unread, started_in}
-use Rattle.hushlang_shells.proofs.TreeByShellLemmas.{started_texts_are_proper}
+use Rattle.hushlang_shells.specs.TreesByShell.{TextRead, Runs, Fails, Panics, Unread, started_in, sourced_in}
+use Rattle.hushlang_shells.proofs.TreeByShellLemmas.{started_texts_are_proper, sourced_texts_are_proper}
 use Rattle.builtins.specs.Builtins.{Builtin, SetEnv, Run, Test, Echo, True, False, Leave, builtin_of}
 use Rattle.commands.specs.Computed.{Computed}
 use Rattle.commands.specs.BuiltInCommands.{ChangesVariables, carried, deed_of}
 use Rattle.device_list.specs.Called.{BuiltIn, Device, NoCommand, called_by, sets_in}
-use Rattle.device_list.specs.DeviceList.{Effect, effect_of, computed_by}
+use Rattle.device_list.specs.DeviceList.{Effect, effect_of, computed_by, file_in}
 use Rattle.rehearse_terms.specs.Outcomes.{OutcomeWord, Outcome, Success, Failure}
 use Rattle.rehearse_terms.specs.State.{Text, get, State}
 use Rattle.rehearse_terms.specs.declared.shell.Shell.{Shell}
@@ -18,19 +18,20 @@ use Rattle.rehearse_terms.specs.declared.shell.Shell.TheVariants.{Profile, Old20
 use Rattle.rehearse_rules.specs.Parameters.{parameters_in}
 use Rattle.rehearse_rules.specs.ByShell.{unread, leaves_in, status_of_exit, asks_in, truth_in, fields_in, turns_in, skips_rest, status_of_loop, follows, assigned_in, reads_again, follows_turns, status_of_no_block, call_in}
 use Rattle.rehearse_rules.specs.Needs.{effect_now}
-use Rattle.rehearse_rules.specs.Execution.{Limits, Answer, Normal, Exit, Ended, Ending, CutDevices, CutSteps, Unknown, Size, Finished, Unsupported, Panic, Request, go_on, set_status, status_when, goes, holds, begin, finish, tell_or_take, told, told_again, logged, set_environment, device, text_end, run_all, command, simple, sized, assign, assign_local, turns, for_each, begin_turn, run_read, started_text, request_of, test_request, text_failed, turns_of, for_words, for_begun, block_skipped, compound, compound_left, Dry, simple_call}
-use Rattle.rehearse_rules.proofs.CompoundLemmas.{compound_normal, compound_ended}
+use Rattle.rehearse_rules.specs.Execution.{Limits, Answer, Normal, Exit, Ended, Ending, End, CutDevices, CutSteps, Unknown, Size, Finished, Unsupported, Panic, Request, go_on, set_status, status_when, goes, holds, begin, finish, tell_or_take, told, told_again, logged, set_environment, device, text_end, run_all, command, simple, sized, assign, assign_local, turns, for_each, begin_turn, run_read, started_text, request_of, test_request, text_failed, turns_of, for_words, for_begun, block_skipped, compound, compound_left, Dry, simple_call, run_file, handed_over, sourced, sourced_text}
+use Rattle.rehearse_rules.proofs.NeedsLemmas.{now_runs}
+use Rattle.rehearse_rules.proofs.CompoundLemmas.{compound_normal, compound_ended, sourced_normal, sourced_ended}
 use Rattle.rehearse_rules.proofs.GrowingSteps.{Grew, AtLeast-track, Grew-block}
 use Rattle.rehearse_rules.proofs.TakenOutcomes.{KeepsAll, Keeps-script, Keeps-exec}
-use Rattle.rehearse_machine.specs.Frames.{Frame, Lists, Linked, IfCondition, LoopCondition, LoopBody, ForBody, RunNames, RunText, Next, Go, Ask, Stop, tell_or_ask, finish_next, leave, begin_assign, begin_for, begin_arms, begin_read, begin_text, begin_names, begin_exit, fitting, ask, begin_called, begin_fields, counted, begin_command, answered, move, begin_turns, begin_words, CommandEnd, leave_compound, behind_block, begin_simple_call}
+use Rattle.rehearse_machine.specs.Frames.{Frame, Lists, Linked, IfCondition, LoopCondition, LoopBody, ForBody, RunNames, RunText, Next, Go, Ask, Stop, tell_or_ask, finish_next, leave, begin_assign, begin_for, begin_arms, begin_read, begin_text, begin_names, begin_exit, fitting, ask, begin_called, begin_fields, counted, begin_command, answered, move, begin_turns, begin_words, CommandEnd, leave_compound, behind_block, begin_simple_call, RunFile, FileText, with_file, leave_file, begin_sourced, begin_file}
 use Rattle.rehearse_machine.specs.Meaning.{with, full, script, one, joined_of, arms_of, again, resume, AreProperFrames}
 use Rattle.rehearse_machine.proofs.MoveMeaning.{failed_with_1, turn_more}
 use Rattle.rehearse_machine.proofs.StepBoundLemmas.{closed_exec}
 use Rattle.rehearse_machine.proofs.BoundLemmas.{Cut-block}
 use Rattle.rehearse_reads.specs.Keys.{Access, Reads, Writes, Environment, Status, all_read}
-use Rattle.rehearse_reads.specs.Accesses.{needs_reads, listed_accesses, behind, behind_text, status_written, word_reads, words_reads, sized_accesses, local_accesses, assign_accesses, turns_accesses, turn_accesses, each_accesses, for_accesses, begun_accesses, told_reads, answer_accesses, outcome_accesses, device_accesses, computed_accesses, read_accesses, started_accesses, builtin_accesses, call_accesses, simple_accesses, modern_accesses, turns_of_accesses, for_words_accesses, left_accesses, compound_accesses, nothing_accesses, simple_call_accesses}
-use Rattle.rehearse_frames.specs.ToCome.{names_read, of_full, of_script, of_one, of_joined, of_arms, of_again, of_condition, of_choice, of_names, of_frames, of_next, choice, condition, turns_left, of_compound}
-use Rattle.rehearse_frames.specs.MoveAccesses.{of_listed, of_leaving, of_exit, of_telling, of_beginning_for, of_beginning_arms, of_beginning_read, of_beginning_text, of_beginning_names, of_asking, of_builtin, of_call, of_fields, of_command, of_move, of_beginning_turns, of_beginning_words, of_leaving_compound, of_simple_call}
+use Rattle.rehearse_reads.specs.Accesses.{needs_reads, listed_accesses, behind, behind_text, status_written, word_reads, words_reads, sized_accesses, local_accesses, assign_accesses, turns_accesses, turn_accesses, each_accesses, for_accesses, begun_accesses, told_reads, answer_accesses, outcome_accesses, device_accesses, computed_accesses, read_accesses, started_accesses, builtin_accesses, call_accesses, simple_accesses, modern_accesses, turns_of_accesses, for_words_accesses, left_accesses, compound_accesses, nothing_accesses, simple_call_accesses, file_accesses, handed_accesses, sourced_accesses, sourced_text_accesses}
+use Rattle.rehearse_frames.specs.ToCome.{names_read, of_full, of_script, of_one, of_joined, of_arms, of_again, of_condition, of_choice, of_names, of_frames, of_next, choice, condition, turns_left, of_compound, of_file}
+use Rattle.rehearse_frames.specs.MoveAccesses.{of_listed, of_leaving, of_exit, of_telling, of_beginning_for, of_beginning_arms, of_beginning_read, of_beginning_text, of_beginning_file, of_beginning_names, of_asking, of_builtin, of_call, of_fields, of_command, of_move, of_beginning_turns, of_beginning_words, of_leaving_compound, of_simple_call}
 use Rattle.rehearse_frames.specs.Laws.{MovesComeFirst, OutcomesComeFirst}
 use Rattle.rehearse_frames.proofs.NoneBegun.{nothing_behind, None-block}
 use Rattle.rehearse_frames.proofs.SameAccesses.{either, same_behind, turns_same, closed_accesses}
@@ -56,6 +57,9 @@ module _ (limits : Limits) (wanted : List Text) (w : OutcomeWord) where
   frames_ended (ForBody name values body ∷ fs) ending s = ap (Rest fs) (compound_ended limits.shell ending s) ∙ frames_ended fs ending s
   frames_ended (RunNames names ∷ fs) ending s = frames_ended fs ending s
   frames_ended (RunText names ∷ fs) ending s = frames_ended fs ending s
+  frames_ended (RunFile name before ∷ fs) ending s = frames_ended fs ending s
+  frames_ended (FileText ∷ fs) ending s =
+      ap (λ (a : Answer). behind_text a (λ t. []) ++ Rest fs (text_end limits.shell a Normal)) (sourced_ended limits.shell ending s) ∙ frames_ended fs ending s
   frames_ended (CommandEnd ∷ fs) ending s = ap (Rest fs) (compound_ended limits.shell ending s) ∙ frames_ended fs ending s
 
   if_so : (b : Bool) (xs ys : List Access) (x y : Next) (fs : List Frame) (zs ws : List Access) (u v : Answer) → xs ++ After x ≡ zs ++ Rest fs u → ys ++ After y ≡ ws ++ Rest fs v
@@ -107,6 +111,18 @@ module _ (limits : Limits) (wanted : List Text) (w : OutcomeWord) where
   left_compound_so Old2025 own ps fs s xs outwards same e = e
   left_compound_so Modern2025 own ps fs s xs outwards same e = ap (λ (l : List Access). Reads Status ∷ Writes Status ∷ l) (same (with w (compound_left s)))
 
+  -- `exit` in the text of a file
+  file_left_so : (b : Bool) (fs : List Frame) (t : State) → Rest fs (Normal t) ≡ (elim b [ true ↦ [] | false ↦ [] ]) ++ Rest fs (elim b [ true ↦ Normal t | false ↦ Normal t ])
+  file_left_so true fs t = refl
+  file_left_so false fs t = refl
+
+  left_file_so : (shell : Shell) → limits.shell ≡ shell → (fs : List Frame) (s : State)
+      → Reads Status ∷ After (leave_file shell fs s) ≡ (sourced_accesses shell (Exit (with w s)) ++ behind_text (sourced shell (Exit (with w s))) (λ t. [])) ++ Rest fs (text_end limits.shell (sourced shell (Exit (with w s))) Normal)
+  left_file_so Profile own fs s = ap (λ (xs : List Access). Reads Status ∷ xs) (file_left_so (nat_eq s.memory.status 0) fs (with w s))
+  left_file_so Old2023 own fs s = ap (λ (xs : List Access). Reads Status ∷ xs) (file_left_so (nat_eq s.memory.status 0) fs (with w s))
+  left_file_so Old2025 own fs s = ap (λ (xs : List Access). Reads Status ∷ xs) (file_left_so (nat_eq s.memory.status 0) fs (with w s))
+  left_file_so Modern2025 own fs s = ap (λ (xs : List Access). Reads Status ∷ xs) (sym (frames_ended fs (End s.memory.status) (with w s)))
+
   leave_so : (fs : List Frame) (s : State) → of_leaving limits.shell s.memory.status fs ++ After (leave limits.shell fs s) ≡ Rest fs (Exit (with w s))
   leave_so [] s = refl
   leave_so (RunNames names ∷ fs) s = ap (λ (xs : List Access). Reads Status ∷ xs) (names_left (nat_eq s.memory.status 0) names fs s)
@@ -117,6 +133,8 @@ module _ (limits : Limits) (wanted : List Text) (w : OutcomeWord) where
   leave_so (LoopCondition until c b last ∷ fs) s = left_compound_so limits.shell refl (CommandEnd ∷ fs) fs s (of_leaving limits.shell s.memory.status fs) (leave limits.shell fs s) (λ t. sym (over_so fs t)) (leave_so fs s)
   leave_so (LoopBody until c b ∷ fs) s = left_compound_so limits.shell refl (CommandEnd ∷ fs) fs s (of_leaving limits.shell s.memory.status fs) (leave limits.shell fs s) (λ t. sym (over_so fs t)) (leave_so fs s)
   leave_so (ForBody name fields body ∷ fs) s = left_compound_so limits.shell refl fs fs s (of_leaving limits.shell s.memory.status fs) (leave limits.shell fs s) (λ t. refl) (leave_so fs s)
+  leave_so (RunFile name before ∷ fs) s = leave_so fs s
+  leave_so (FileText ∷ fs) s = left_file_so limits.shell refl fs s
   leave_so (CommandEnd ∷ fs) s = left_compound_so limits.shell refl (CommandEnd ∷ fs) fs s (of_leaving limits.shell s.memory.status fs) (leave limits.shell fs s) (λ t. sym (over_so fs t)) (leave_so fs s)
 
   stops_so : (fs : List Frame) (ending : Ending) (s : State) → names_read wanted ≡ Rest fs (Ended ending (with w s))
@@ -163,6 +181,48 @@ module _ (limits : Limits) (wanted : List Text) (w : OutcomeWord) where
   text_so None name names fs s = refl
   text_so (Some v) name names fs s = read_so (started_in limits.shell v) name names fs s (started_texts_are_proper limits.shell v)
 
+  -- ---- texts of files
+
+  abbrev of_file_text : List Frame → Answer → List Access
+  of_file_text fs a = (sourced_accesses limits.shell a ++ behind_text (sourced limits.shell a) (λ t. [])) ++ Rest fs (text_end limits.shell (sourced limits.shell a) Normal)
+
+  closed_file_so : (a : Script) → IsProper a → (fs : List Frame) (t : State)
+      → of_script limits a t ++ of_file_text fs (script limits a t)
+      ≡ ((of_full limits a t ++ sourced_accesses limits.shell (full limits a t)) ++ behind_text (sourced limits.shell (full limits a t)) (λ u. [])) ++ Rest fs (text_end limits.shell (sourced limits.shell (full limits a t)) Normal)
+  closed_file_so a p fs t =
+      let xs : List Access = of_full limits a t in
+      let ys : List Access = sourced_accesses limits.shell (full limits a t) in
+      let zs : List Access = behind_text (sourced limits.shell (full limits a t)) (λ u. []) in
+      let rest : List Access = Rest fs (text_end limits.shell (sourced limits.shell (full limits a t)) Normal) in
+      sym (ap (λ (l : List Access). l ++ rest) (append_assoc xs ys zs) ∙ append_assoc xs (ys ++ zs) rest
+      ∙ ap (λ (l : List Access). l ++ of_file_text fs (full limits a t)) (closed_accesses limits limits.step_bound a p t (omega arith))
+      ∙ ap (λ (x : Answer). of_script limits a t ++ of_file_text fs x) (closed_exec limits limits.step_bound a p t (omega arith)))
+
+  sourced_so : (found : TextRead) (name : Text) (fs : List Frame) (s : State) → ((t : Script) → found ≡ Runs t → IsProper t)
+      → of_beginning_read found ++ After (begin_sourced limits.shell found name fs s)
+      ≡ ((read_accesses limits (full limits) (of_full limits) found (with w s) ++ sourced_accesses limits.shell (run_read limits (full limits) name found (with w s))) ++ behind_text (sourced limits.shell (run_read limits (full limits) name found (with w s))) (λ t. []))
+      ++ Rest fs (text_end limits.shell (sourced limits.shell (run_read limits (full limits) name found (with w s))) Normal)
+  sourced_so Fails name fs s p =
+      ap (λ (n : ℕ). Writes Status ∷ Reads Status ∷ Rest fs (Normal (set_status n (with w s)))) (sym (failed_with_1 limits.shell))
+      ∙ ap (λ (a : Answer). Writes Status ∷ (behind_text a (λ t. []) ++ Rest fs (text_end limits.shell a Normal))) (sym (sourced_normal limits.shell (set_status 1 (with w s))))
+  sourced_so Panics name fs s p = stops_so fs (Panic name) s ∙ ap (λ (a : Answer). behind_text a (λ t. []) ++ Rest fs (text_end limits.shell a Normal)) (sym (sourced_ended limits.shell (Panic name) (with w s)))
+  sourced_so Unread name fs s p = stops_so fs (unread limits.shell name) s ∙ ap (λ (a : Answer). behind_text a (λ t. []) ++ Rest fs (text_end limits.shell a Normal)) (sym (sourced_ended limits.shell (unread limits.shell name) (with w s)))
+  sourced_so (Runs tree.Empty) name fs s p = ap (λ (xs : List Access). Writes Status ∷ xs) (closed_file_so tree.Empty tt fs (set_status 0 (with w s)))
+  sourced_so (Runs (tree.Runs l ls)) name fs s p = closed_file_so (tree.Runs l ls) (p (tree.Runs l ls) refl) fs (with w s)
+
+  file_so : (o : Option Text) (name : Text) (fs : List Frame) (s : State)
+      → of_beginning_file limits.shell o ++ After (begin_file limits.shell o name fs s)
+      ≡ (elim o [ None ↦ status_written | Some v ↦ sourced_text_accesses limits (full limits) (of_full limits) name v (with w s) ++ behind_text (sourced_text limits (full limits) name v (with w s)) (λ t. []) ])
+      ++ Rest fs (elim o [ None ↦ Normal (set_status 1 (with w s)) | Some v ↦ text_end limits.shell (sourced_text limits (full limits) name v (with w s)) Normal ])
+  file_so None name fs s = refl
+  file_so (Some v) name fs s = sourced_so (sourced_in limits.shell v) name fs s (sourced_texts_are_proper limits.shell v)
+
+  -- the text of a file has ended
+  file_end_so : (b : Bool) (fs : List Frame) (s : State) → After (elim b [ true ↦ Go fs s | false ↦ Go fs (text_failed limits.shell s) ])
+      ≡ (elim b [ true ↦ [] | false ↦ [] ]) ++ Rest fs (elim b [ true ↦ Normal (with w s) | false ↦ Normal (text_failed limits.shell (with w s)) ])
+  file_end_so true fs s = refl
+  file_end_so false fs s = refl
+
   names_so : (names : List Text) (fs : List Frame) (s : State) → of_beginning_names limits.shell names s ++ After (begin_names limits.shell names fs s) ≡ of_names limits names (with w s) ++ Rest fs (run_all limits (full limits) names (with w s))
   names_so [] fs s = refl
   names_so (name ∷ names) fs s = ap (λ (xs : List Access). Reads (Environment name) ∷ xs) (text_so (get s.memory.environment name) name names fs s)
@@ -173,18 +233,24 @@ module _ (limits : Limits) (wanted : List Text) (w : OutcomeWord) where
   finish_so (Some finish) name fs s = stops_so fs (Finished finish name) s
   finish_so None name fs s = refl
 
-  tell_so : (o : Option Bool) (request : Request) (fs : List Frame) (s : State) → of_telling o request ++ After (tell_or_ask o request fs s) ≡ answer_accesses o request (with w s) ++ Rest fs (tell_or_take o request (with w s))
+  tell_so : (o : Option Bool) (request : Request) (fs : List Frame) (s : State) → of_telling o request ++ After (tell_or_ask o request fs s) ≡ answer_accesses o request (with w s) ++ Rest (with_file s.memory.status request.effect.runs fs) (tell_or_take o request (with w s))
   tell_so None request fs s = refl
   tell_so (Some true) request fs s =
-      ap (λ (xs : List Access). outcome_accesses Success request ++ xs) (finish_so request.effect.ends request.name fs (set_environment (sets_in request.words request.effect.sets) (logged Success (told_again request) s)))
+      ap (λ (xs : List Access). outcome_accesses Success request ++ xs) (finish_so request.effect.ends request.name (with_file s.memory.status request.effect.runs fs) (set_environment (sets_in request.words request.effect.sets) (logged Success (told_again request) s)))
   tell_so (Some false) request fs s = refl
 
-  ask_so : (request : Request) (fs : List Frame) (s : State) → of_asking limits request s ++ After (ask limits request fs s) ≡ device_accesses limits request (with w s) ++ Rest fs (device limits request (with w s))
+  ask_so : (request : Request) (fs : List Frame) (s : State) → of_asking limits request s ++ After (ask limits request fs s) ≡ device_accesses limits request (with w s) ++ Rest (with_file s.memory.status request.effect.runs fs) (device limits request (with w s))
   ask_so request fs s =
       let o : Option Bool = told request s.log in
       let keys : List Access = all_read (told_reads request) in
-      if_so (nat_lt (length s.log) limits.device_bound) (keys ++ of_telling o request) [] (tell_or_ask o request fs s) (Stop CutDevices s) fs (keys ++ answer_accesses o request (with w s)) [] (tell_or_take o request (with w s)) (Ended CutDevices (with w s))
-      (in_front keys (of_telling o request) (After (tell_or_ask o request fs s)) (answer_accesses o request (with w s)) (Rest fs (tell_or_take o request (with w s))) (tell_so o request fs s)) (stops_so fs CutDevices s)
+      let below : List Frame = with_file s.memory.status request.effect.runs fs in
+      if_so (nat_lt (length s.log) limits.device_bound) (keys ++ of_telling o request) [] (tell_or_ask o request fs s) (Stop CutDevices s) below (keys ++ answer_accesses o request (with w s)) [] (tell_or_take o request (with w s)) (Ended CutDevices (with w s))
+      (in_front keys (of_telling o request) (After (tell_or_ask o request fs s)) (answer_accesses o request (with w s)) (Rest below (tell_or_take o request (with w s))) (tell_so o request fs s)) (stops_so below CutDevices s)
+
+  -- what a command hands over to
+  handed_so : (runs : Option Text) (before : ℕ) (asked : List Access) (fs : List Frame) (a : Answer) → asked ++ Rest (with_file before runs fs) a ≡ handed_accesses limits (full limits) (of_full limits) runs before asked a ++ Rest fs (handed_over limits (full limits) runs before a)
+  handed_so None before asked fs a = refl
+  handed_so (Some name) before asked fs a = sym (append_assoc asked (behind a (of_file limits name before)) (Rest fs (handed_over limits (full limits) (Some name) before a)))
 
   exit_so : (o : Option ℕ) (other : ℕ) (fs : List Frame) (s : State) → of_exit limits.shell o fs ++ After (begin_exit limits.shell o other fs s) ≡ status_written ++ Rest fs (elim o [ Some status ↦ Exit (set_status status (with w s)) | None ↦ Normal (set_status other (with w s)) ])
   exit_so (Some status) other fs s = ap (λ (xs : List Access). Writes Status ∷ xs) (leave_so fs (set_status status s))
@@ -210,13 +276,17 @@ module _ (limits : Limits) (wanted : List Text) (w : OutcomeWord) where
       by : (o : Option Computed) (b : Option Builtin) (f : Option Effect)
           → (elim o [ Some computed ↦ computed_accesses computed | None ↦ elim b [ Some builtin ↦ of_builtin limits again builtin name ws fs s | None ↦ elim f [ Some effect ↦ of_listed limits name ws effect s | None ↦ [] ] ] ])
           ++ After (begin_called limits again (elim o [ Some computed ↦ BuiltIn (ChangesVariables (λ vs. carried computed)) | None ↦ elim b [ Some builtin ↦ BuiltIn (deed_of builtin) | None ↦ elim f [ Some effect ↦ Device effect | None ↦ NoCommand ] ] ]) name ws fs s)
-          ≡ (elim o [ Some computed ↦ computed_accesses computed | None ↦ elim b [ Some builtin ↦ builtin_accesses limits (full limits) (of_full limits) builtin name ws (with w s) | None ↦ elim f [ Some effect ↦ listed_accesses limits name ws effect (with w s) | None ↦ [] ] ] ])
+          ≡ (elim o [ Some computed ↦ computed_accesses computed | None ↦ elim b [ Some builtin ↦ builtin_accesses limits (full limits) (of_full limits) builtin name ws (with w s) | None ↦ elim f [ Some effect ↦ handed_accesses limits (full limits) (of_full limits) effect.runs s.memory.status (listed_accesses limits name ws effect (with w s)) (device limits (request_of name ws (effect_now s.log effect)) (with w s)) | None ↦ [] ] ] ])
           ++ Rest fs (command limits again (full limits) (elim o [ Some computed ↦ BuiltIn (ChangesVariables (λ vs. carried computed)) | None ↦ elim b [ Some builtin ↦ BuiltIn (deed_of builtin) | None ↦ elim f [ Some effect ↦ Device effect | None ↦ NoCommand ] ] ]) name ws (with w s))
       by (Some computed) b f = refl
       by None (Some builtin) f = builtin_so again builtin name ws fs s
       by None None (Some effect) =
           let request : Request = request_of name ws (effect_now s.log effect) in
-          in_front (all_read (needs_reads effect.needs)) (of_asking limits request s) (After (ask limits request fs s)) (device_accesses limits request (with w s)) (Rest fs (device limits request (with w s))) (ask_so request fs s)
+          let a : Answer = device limits request (with w s) in
+          let asked : List Access = listed_accesses limits name ws effect (with w s) in
+          in_front (all_read (needs_reads effect.needs)) (of_asking limits request s) (After (ask limits request fs s)) (device_accesses limits request (with w s)) (Rest (with_file s.memory.status request.effect.runs fs) a) (ask_so request fs s)
+          ∙ handed_so request.effect.runs s.memory.status asked fs a
+          ∙ ap (λ (runs : Option Text). handed_accesses limits (full limits) (of_full limits) runs s.memory.status asked a ++ Rest fs (handed_over limits (full limits) runs s.memory.status a)) (now_runs s.log effect)
       by None None None = stops_so fs (Unknown name) s
 
   simple_call_so : (again : Bool) (ws : List Text) (fs : List Frame) (s : State) → of_simple_call limits again fs ws s ++ After (begin_simple_call limits again ws fs s) ≡ simple_call_accesses limits (full limits) (of_full limits) ws (with w s) ++ Rest fs (simple_call limits again (full limits) ws (with w s))
@@ -417,12 +487,22 @@ module _ (limits : Limits) (wanted : List Text) (w : OutcomeWord) where
   move_so (RunText names ∷ fs) p s =
       ap (λ (xs : List Access). Reads Status ∷ xs)
       (if_so (nat_eq s.memory.status 0) (of_beginning_names limits.shell names s) [] (begin_names limits.shell names fs s) (Go fs (text_failed limits.shell s)) fs (of_names limits names (with w s)) [] (run_all limits (full limits) names (with w s)) (Normal (text_failed limits.shell (with w s))) (names_so names fs s) refl)
+  move_so (RunFile name before ∷ fs) p s =
+      let t : State = with w s in
+      let u : State = set_status before s in
+      let found : Option Text = file_in limits.devices name in
+      ap (λ (xs : List Access). Reads Status ∷ xs)
+      (if_so (nat_eq s.memory.status 0) (Writes Status ∷ of_beginning_file limits.shell found) [] (begin_file limits.shell found name fs u) (Go fs s) fs (Writes Status ∷ file_accesses limits (full limits) (of_full limits) name (with w u)) [] (run_file limits (full limits) name (with w u)) (Normal t)
+      (ap (λ (xs : List Access). Writes Status ∷ xs) (file_so found name fs u)) refl)
+  move_so (FileText ∷ fs) p s =
+      ap (λ (xs : List Access). Reads Status ∷ xs) (file_end_so (nat_eq s.memory.status 0) fs s)
+      ∙ ap (λ (a : Answer). behind_text a (λ t. []) ++ Rest fs (text_end limits.shell a Normal)) (sym (sourced_normal limits.shell (with w s)))
   move_so (CommandEnd ∷ fs) p s = over_so fs (with w s)
 
   -- an outcome is taken
   outcome_so : (outcome : Outcome) (request : Request) (fs : List Frame) (s : State) → of_next limits wanted (outcome ∷ w) (Ask request fs s) ≡ outcome_accesses outcome request ++ After (answered outcome request fs s)
   outcome_so Success request fs s =
-      ap (λ (xs : List Access). outcome_accesses Success request ++ xs) (sym (finish_so request.effect.ends request.name fs (set_environment (sets_in request.words request.effect.sets) (logged Success request s))))
+      ap (λ (xs : List Access). outcome_accesses Success request ++ xs) (sym (finish_so request.effect.ends request.name (with_file s.memory.status request.effect.runs fs) (set_environment (sets_in request.words request.effect.sets) (logged Success request s))))
   outcome_so Failure request fs s = refl
 
 pub moves_come_first : MovesComeFirst

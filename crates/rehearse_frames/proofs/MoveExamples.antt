@@ -13,7 +13,7 @@ use Rattle.rehearse_terms.specs.State.{Text, State, LoggedCommand, start}
 use Rattle.rehearse_terms.specs.declared.written.Written.TheVariants.{Kept}
 use Rattle.rehearse_terms.specs.declared.shell.Shell.TheVariants.{Profile}
 use Rattle.rehearse_rules.specs.Execution.{Limits, Request, request_of, set_status}
-use Rattle.rehearse_machine.specs.Frames.{Frame, Lists, IfCondition, LoopCondition, LoopBody, ForBody, RunNames, RunText, Ask}
+use Rattle.rehearse_machine.specs.Frames.{Frame, Lists, IfCondition, LoopCondition, LoopBody, ForBody, RunNames, RunText, RunFile, FileText, Ask}
 use Rattle.rehearse_reads.specs.Keys.{Key, Environment, Local, AnswerTo, Status, Access, Reads, Writes, keys_read}
 use Rattle.rehearse_frames.specs.MoveAccesses.{of_move}
 use Rattle.rehearse_frames.specs.ToCome.{of_next}
@@ -21,7 +21,9 @@ use Rattle.rehearse_frames.specs.ToCome.{of_next}
 -- ---- what they are computed with
 
 abbrev devices : Devices
-devices = only ((codes "load", quiet) ∷ (codes "stay", record quiet { stays = true }) ∷ [])
+devices = record (only ((codes "load", quiet) ∷ (codes "stay", record quiet { stays = true }) ∷ [])) {
+  files = (codes "boot.scr", codes "echo $a") ∷ (codes "empty", []) ∷ (codes "no script", codes "fi") ∷ [];
+}
 
 abbrev limits : Limits
 limits = record { devices = devices; device_bound = 4; step_bound = 8; shell = Profile }
@@ -127,35 +129,77 @@ next_text = refl
 no_next_text : of_move limits (RunText (codes "b" ∷ []) ∷ []) (set_status 1 before) ≡ Reads Status ∷ []
 no_next_text = refl
 
+-- the text of a file begins after a success, which no variable is read for
+file_begins : of_move limits (RunFile (codes "boot.scr") 1 ∷ []) before ≡ Reads Status ∷ Writes Status ∷ []
+unfolding tree_of
+file_begins = refl
+
+empty_file_begins : of_move limits (RunFile (codes "empty") 1 ∷ []) before ≡ Reads Status ∷ Writes Status ∷ Writes Status ∷ []
+unfolding tree_of
+empty_file_begins = refl
+
+no_script_begins : of_move limits (RunFile (codes "no script") 1 ∷ []) before ≡ Reads Status ∷ Writes Status ∷ []
+unfolding tree_of
+no_script_begins = refl
+
+no_file_begins : of_move limits (RunFile (codes "none") 1 ∷ []) before ≡ Reads Status ∷ Writes Status ∷ Writes Status ∷ []
+no_file_begins = refl
+
+file_after_a_failure : of_move limits (RunFile (codes "boot.scr") 1 ∷ []) (set_status 1 before) ≡ Reads Status ∷ []
+file_after_a_failure = refl
+
+file_ended : of_move limits (FileText ∷ []) before ≡ Reads Status ∷ []
+file_ended = refl
+
+-- `exit` in it, whose status is the call's, or the run's
+exit_of_a_file : begins (codes "exit") (FileText ∷ []) before ≡ Writes Status ∷ Reads Status ∷ []
+unfolding begins
+exit_of_a_file = refl
+
 -- ---- what is to come after a device command, with the value of b at the end
 
 abbrev load : Request
 load = request_of (codes "load") (codes "a" ∷ []) quiet
 
-unfoldable to_come : Text → OutcomeWord → List Key
+unfoldable to_come_of : Request → Text → OutcomeWord → List Key
 unfolding script_of fields joined atoms digits behind_variable
-to_come text w = keys_read (of_next limits (codes "b" ∷ []) w (Ask load (Lists (script_of text) ∷ []) before))
+to_come_of request text w = keys_read (of_next limits (codes "b" ∷ []) w (Ask request (Lists (script_of text) ∷ []) before))
+
+abbrev to_come : Text → OutcomeWord → List Key
+to_come text w = to_come_of load text w
 
 -- the status is written by the outcome
 status_is_dead : to_come (codes "echo $?") (Success ∷ []) ≡ b ∷ []
-unfolding to_come
+unfolding to_come_of
 status_is_dead = refl
 
 -- a value that is set is not read
 set_before_the_end : to_come (codes "setenv b $a") (Success ∷ []) ≡ a ∷ []
-unfolding to_come
+unfolding to_come_of
 set_before_the_end = refl
+
+-- the text of a file comes before what follows, after a success alone; the status is kept for it
+abbrev file_to_come : Text → OutcomeWord → List Key
+file_to_come text w = to_come_of (record load { effect = record quiet { runs = Some (codes "boot.scr") } }) text w
+
+file_after_a_success : file_to_come (codes "setenv a 2") (Success ∷ []) ≡ Status ∷ a ∷ b ∷ []
+unfolding to_come_of
+file_after_a_success = refl
+
+no_file_after_a_failure : file_to_come (codes "setenv a 2") (Failure ∷ []) ≡ Status ∷ b ∷ []
+unfolding to_come_of
+no_file_after_a_failure = refl
 
 -- what follows a failure alone
 after_a_failure : to_come (codes "if test $? = 0; then echo $a; fi") (Failure ∷ []) ≡ b ∷ []
-unfolding to_come
+unfolding to_come_of
 after_a_failure = refl
 
 after_a_success : to_come (codes "if test $? = 0; then echo $a; fi") (Success ∷ []) ≡ a ∷ b ∷ []
-unfolding to_come
+unfolding to_come_of
 after_a_success = refl
 
 -- without an outcome nothing is to come
 no_outcome : to_come (codes "echo $a") [] ≡ []
-unfolding to_come
+unfolding to_come_of
 no_outcome = refl

@@ -4,12 +4,12 @@ use Rattle.device_list.specs.declared.finish.BoardEnd.{BoardEnd}
 use Rattle.hushlang.specs.Tree as tree
 use Rattle.hushlang.specs.Tree.{Script, Command, Arms}
 use Rattle.hushlang.specs.Expansion.{size, most_bytes}
-use Rattle.hushlang_shells.specs.TreesByShell.{TextRead, Runs, Fails, Panics, Unread, started_in}
+use Rattle.hushlang_shells.specs.TreesByShell.{TextRead, Runs, Fails, Panics, Unread, started_in, sourced_in}
 use Rattle.builtins.specs.Builtins.{Builtin, SetEnv, Run, Test, Echo, True, False, Leave, builtin_of}
 use Rattle.commands.specs.Computed.{Computed}
 use Rattle.commands.specs.BuiltInCommands.{ChangesVariables, carried, deed_of, variables_changed, text_written, echo, setenv}
 use Rattle.device_list.specs.Called.{BuiltIn, Device, NoCommand, called_by, sets_in}
-use Rattle.device_list.specs.DeviceList.{Effect, effect_of, computed_by}
+use Rattle.device_list.specs.DeviceList.{Effect, effect_of, computed_by, file_in}
 use Rattle.rehearse_terms.specs.Outcomes.{Outcome, Success, Failure}
 use Rattle.rehearse_terms.specs.State.{Text, get, State, LoggedCommand, answer_in}
 use Rattle.rehearse_terms.specs.declared.shell.Shell.{Shell}
@@ -19,9 +19,9 @@ use Rattle.rehearse_rules.proofs.NeedsLemmas.{now_same}
 use Rattle.rehearse_rules.specs.Parameters.{parameters_in}
 use Rattle.rehearse_rules.specs.ByShell.{unread, reads_again, leaves_in, status_of_exit, asks_in, truth_in, fields_in, turns_in, skips_rest, status_of_nothing, status_of_no_block, status_of_loop, status_in_turn, follows, assigned_in, follows_turns, left_status, call_in}
 use Rattle.rehearse_rules.specs.Execution.{Limits, Ending, End, CutDevices, CutSteps, Unknown, Size, Finished, Unsupported, Request, remember, set_status, set_local, begin_turn, status_when, goes, holds, outcome_when, told, told_again, logged, set_environment, assign_local, text_failed, request_of, test_request, for_begun, block_skipped, compound_left}
-use Rattle.rehearse_machine.specs.Frames.{Frame, Lists, Linked, IfCondition, LoopCondition, LoopBody, ForBody, RunNames, RunText, Next, Go, Ask, Stop, tell_or_ask, finish_next, leave, leave_run, begin_assign, begin_for, begin_arms, begin_read, begin_text, begin_names, begin_exit, begun_text, fitting, ask, begin_called, begin_fields, counted, begin_command, answered, move, begin_turns, begin_words, CommandEnd, leave_compound, behind_block, begin_simple_call}
+use Rattle.rehearse_machine.specs.Frames.{Frame, Lists, Linked, IfCondition, LoopCondition, LoopBody, ForBody, RunNames, RunText, Next, Go, Ask, Stop, tell_or_ask, finish_next, leave, leave_run, begin_assign, begin_for, begin_arms, begin_read, begin_text, begin_names, begin_exit, begun_text, fitting, ask, begin_called, begin_fields, counted, begin_command, answered, move, begin_turns, begin_words, CommandEnd, leave_compound, behind_block, begin_simple_call, RunFile, FileText, with_file, leave_file, begin_sourced, begin_file}
 use Rattle.rehearse_reads.specs.Keys.{Key, Environment, Local, Status, Access, Reads, Writes, AgreeOn, AreAmong, all_read, ReadsWithin, known_after}
-use Rattle.rehearse_reads.specs.Accesses.{status_written, word_reads, words_reads, setenv_accesses, computed_accesses, needs_reads, told_reads, outcome_accesses, names_written, sized_accesses, local_accesses, assign_accesses, turn_accesses, nothing_accesses, begun_accesses, modern_accesses}
+use Rattle.rehearse_reads.specs.Accesses.{status_written, word_reads, words_reads, setenv_accesses, computed_accesses, needs_reads, told_reads, handing_reads, outcome_writes, outcome_accesses, names_written, sized_accesses, local_accesses, assign_accesses, turn_accesses, nothing_accesses, begun_accesses, modern_accesses}
 use Rattle.rehearse_reads.specs.Alike.{AreAbreast, IsCutBy}
 use Rattle.rehearse_reads.proofs.AccessLemmas.{within_first, within_then, after_both, read_first, read_then, after_read}
 use Rattle.rehearse_reads.proofs.AbreastLemmas.{near_begun, near_status, near_statuses, near_local, near_assigned, near_logged, near_set, near_computed, near_sets, near_echoed, near_failed}
@@ -30,7 +30,7 @@ use Rattle.rehearse_reads.proofs.AlikeParts.{further_apart}
 use Rattle.rehearse_reads.proofs.AlikeDevices.{told_alike, met_alike}
 use Rattle.rehearse_reads.proofs.AlikeLoops.{near_turn, near_for, near_skipped}
 use Rattle.rehearse_machine.proofs.ProgressLemmas.{IsQuiet, either-quiet, assign-quiet, fields-quiet, for-quiet, words-quiet}
-use Rattle.rehearse_frames.specs.MoveAccesses.{of_leaving, of_exit, of_telling, of_beginning_for, of_beginning_arms, of_beginning_read, of_beginning_text, of_beginning_names, of_asking, of_listed, of_builtin, of_call, of_fields, of_command, of_move, of_beginning_turns, of_beginning_words, of_leaving_compound, of_simple_call}
+use Rattle.rehearse_frames.specs.MoveAccesses.{of_leaving, of_exit, of_telling, of_beginning_for, of_beginning_arms, of_beginning_read, of_beginning_text, of_beginning_file, of_beginning_names, of_asking, of_listed, of_builtin, of_call, of_fields, of_command, of_move, of_beginning_turns, of_beginning_words, of_leaving_compound, of_simple_call}
 
 -- the steps that were begun before what is next, and the room that it needs for device commands
 abbrev pub next_steps : Next → ℕ
@@ -117,6 +117,14 @@ module _ (limits : Limits) (i j : ℕ) (k l : List LoggedCommand) where
   leaves_compound Modern2025 ps known s t xs a b same near h =
       goes_alike (near_statuses limits i j k l known s t (left_status s.memory.status) (left_status t.memory.status) (ap left_status same) near)
 
+  -- `exit` in the text of a file
+  leaves_file : (shell : Shell) (status : ℕ) (fs : List Frame) (known : List Key) (s t : State) → s.memory.status ≡ status → t.memory.status ≡ status → Near known s t → NextAlike known (leave_file shell fs s) (leave_file shell fs t)
+  leaves_file Profile status fs known s t e f near = goes_alike near
+  leaves_file Old2023 status fs known s t e f near = goes_alike near
+  leaves_file Old2025 status fs known s t e f near = goes_alike near
+  leaves_file Modern2025 status fs known s t e f near =
+      subst (λ (n : ℕ). NextAlike known (Stop (End s.memory.status) s) (Stop (End n) t)) (e ∙ sym f) (stops_alike near)
+
   -- `exit` has set the status in both
   leaves : (shell : Shell) (status : ℕ) (fs : List Frame) (known : List Key) (s t : State) → s.memory.status ≡ status → t.memory.status ≡ status → Near known s t → NextAlike (known_after known (of_leaving shell status fs)) (leave shell fs s) (leave shell fs t)
   leaves shell status [] known s t e f near =
@@ -134,6 +142,8 @@ module _ (limits : Limits) (i j : ℕ) (k l : List LoggedCommand) where
       leaves_compound shell (CommandEnd ∷ fs) known s t (of_leaving shell status fs) (leave shell fs s) (leave shell fs t) (f ∙ sym e) near (leaves shell status fs known s t e f near)
   leaves shell status (ForBody name fields body ∷ fs) known s t e f near =
       leaves_compound shell fs known s t (of_leaving shell status fs) (leave shell fs s) (leave shell fs t) (f ∙ sym e) near (leaves shell status fs known s t e f near)
+  leaves shell status (RunFile name before ∷ fs) known s t e f near = leaves shell status fs known s t e f near
+  leaves shell status (FileText ∷ fs) known s t e f near = leaves_file shell status fs known s t e f near
   leaves shell status (CommandEnd ∷ fs) known s t e f near =
       leaves_compound shell (CommandEnd ∷ fs) known s t (of_leaving shell status fs) (leave shell fs s) (leave shell fs t) (f ∙ sym e) near (leaves shell status fs known s t e f near)
 
@@ -147,12 +157,40 @@ module _ (limits : Limits) (i j : ℕ) (k l : List LoggedCommand) where
   finishes known (Some finish) name fs s t near = stops_alike near
   finishes known None name fs s t near = goes_alike near
 
-  pub answers_alike : (outcome : Outcome) (request : Request) (fs : List Frame) → Moves (answered outcome request fs) (λ s. outcome_accesses outcome request)
-  answers_alike Success request fs known s t near w =
+  -- the status that is kept for the text of a file is the same in both
+  same_file : (outcome : Outcome) (request : Request) (fs : List Frame) (known : List Key) (s t : State) → Near known s t → ReadsWithin known (outcome_accesses outcome request)
+      → with_file t.memory.status request.effect.runs fs ≡ with_file s.memory.status request.effect.runs fs
+  same_file outcome request fs known s t near = by request.effect.runs
+    where
+      by : (runs : Option Text) → ReadsWithin known (handing_reads runs ++ outcome_writes outcome request) → with_file t.memory.status runs fs ≡ with_file s.memory.status runs fs
+      by None w = refl
+      by (Some name) w = ap (λ (n : ℕ). RunFile name n ∷ fs) (near.keys Status w.0)
+
+  after_handing : (runs : Option Text) (known : List Key) (xs : List Access) (a b : Next) → NextAlike (known_after known xs) a b → NextAlike (known_after known (handing_reads runs ++ xs)) a b
+  after_handing None known xs a b h = h
+  after_handing (Some name) known xs a b h = h
+
+  -- with the same file above the frames of both
+  answers_over : (outcome : Outcome) (request : Request) (fs : List Frame) (known : List Key) (s t : State) → Near known s t → with_file t.memory.status request.effect.runs fs ≡ with_file s.memory.status request.effect.runs fs
+      → NextAlike (known_after known (outcome_writes outcome request)) (answered outcome request fs s) (answered outcome request fs t)
+  answers_over Success request fs known s t near e =
       let sets : List (Text × Text) = sets_in request.words request.effect.sets in
-      finishes (known_after (Status ∷ known) (names_written (map (λ e. e.0) sets))) request.effect.ends request.name fs (set_environment sets (logged Success request s)) (set_environment sets (logged Success request t))
-      (near_set limits i j k l (Status ∷ known) (logged Success request s) (logged Success request t) sets (near_logged limits i j k l known s t Success request near))
-  answers_alike Failure request fs known s t near w = goes_alike (near_logged limits i j k l known s t Failure request near)
+      let here : State = set_environment sets (logged Success request s) in
+      let there : State = set_environment sets (logged Success request t) in
+      let after : List Key = known_after (Status ∷ known) (names_written (map (λ e. e.0) sets)) in
+      let below : List Frame = with_file s.memory.status request.effect.runs fs in
+      subst (λ (gs : List Frame). NextAlike after (finish_next request.effect.ends request.name below here) (finish_next request.effect.ends request.name gs there)) (sym e)
+      (finishes after request.effect.ends request.name below here there
+      (near_set limits i j k l (Status ∷ known) (logged Success request s) (logged Success request t) sets (near_logged limits i j k l known s t Success request near)))
+  answers_over Failure request fs known s t near e =
+      let below : List Frame = with_file s.memory.status request.effect.runs fs in
+      subst (λ (gs : List Frame). NextAlike (Status ∷ known) (Go below (logged Failure request s)) (Go gs (logged Failure request t))) (sym e)
+      (goes_alike (near_logged limits i j k l known s t Failure request near))
+
+  pub answers_alike : (outcome : Outcome) (request : Request) (fs : List Frame) → Moves (answered outcome request fs) (λ s. outcome_accesses outcome request)
+  answers_alike outcome request fs known s t near w =
+      after_handing request.effect.runs known (outcome_writes outcome request) (answered outcome request fs s) (answered outcome request fs t)
+      (answers_over outcome request fs known s t near (same_file outcome request fs known s t near w))
 
   tells : (o : Option Bool) (request : Request) (fs : List Frame) → Moves (tell_or_ask o request fs) (λ s. of_telling o request)
   tells None request fs known s t near w = asks_alike near
@@ -162,7 +200,7 @@ module _ (limits : Limits) (i j : ℕ) (k l : List LoggedCommand) where
   answer_needs : (outcome : Outcome) (request : Request) (fs : List Frame) (s : State) → length s.log < next_devices (answered outcome request fs s)
   answer_needs Success request fs s = by request.effect.ends
     where
-      by : (ends : Option BoardEnd) → length s.log < next_devices (finish_next ends request.name fs (set_environment (sets_in request.words request.effect.sets) (logged Success request s)))
+      by : (ends : Option BoardEnd) → length s.log < next_devices (finish_next ends request.name (with_file s.memory.status request.effect.runs fs) (set_environment (sets_in request.words request.effect.sets) (logged Success request s)))
       by (Some how) = let a = one_more s Success request in omega arith
       by None = let a = one_more s Success request in omega arith
   answer_needs Failure request fs s = let a = one_more s Failure request in omega arith
@@ -260,6 +298,17 @@ module _ (limits : Limits) (i j : ℕ) (k l : List LoggedCommand) where
   begins_text : (shell : Shell) (text : Option Text) (name : Text) (names : List Text) (fs : List Frame) → Moves (begin_text shell text name names fs) (λ s. of_beginning_text shell text)
   begins_text shell None name names fs known s t near w = sets_status 1 fs known s t near w
   begins_text shell (Some text) name names fs known s t near w = begins_read shell (started_in shell text) name names fs known s t near w
+
+  begins_sourced : (shell : Shell) (found : TextRead) (name : Text) (fs : List Frame) → Moves (begin_sourced shell found name fs) (λ s. of_beginning_read found)
+  begins_sourced shell (Runs tree.Empty) name fs known s t near w = goes_alike (near_status limits i j k l known s t 0 near)
+  begins_sourced shell (Runs (tree.Runs x xs)) name fs known s t near w = goes_alike near
+  begins_sourced shell Fails name fs known s t near w = goes_alike (near_status limits i j k l known s t 1 near)
+  begins_sourced shell Panics name fs known s t near w = stops_alike near
+  begins_sourced shell Unread name fs known s t near w = stops_alike near
+
+  begins_file : (shell : Shell) (text : Option Text) (name : Text) (fs : List Frame) → Moves (begin_file shell text name fs) (λ s. of_beginning_file shell text)
+  begins_file shell None name fs known s t near w = sets_status 1 fs known s t near w
+  begins_file shell (Some text) name fs known s t near w = begins_sourced shell (sourced_in shell text) name fs known s t near w
 
   begins_names : (shell : Shell) (names : List Text) (fs : List Frame) → Moves (begin_names shell names fs) (of_beginning_names shell names)
   begins_names shell [] fs known s t near w = goes_alike near
@@ -430,4 +479,18 @@ module _ (limits : Limits) (i j : ℕ) (k l : List LoggedCommand) where
       if_moves known (nat_eq s.memory.status 0) (nat_eq t.memory.status 0) (ap (λ (n : ℕ). nat_eq n 0) (near.keys Status w.0))
       (begin_names limits.shell names fs s) (Go fs (text_failed limits.shell s)) (begin_names limits.shell names fs t) (Go fs (text_failed limits.shell t))
       (of_beginning_names limits.shell names s) [] (begins_names limits.shell names fs known s t near) (λ v. goes_alike (near_failed limits i j k l known s t limits.shell (near.keys Status w.0) near)) w.1
+  moves_alike (RunFile name before ∷ fs) known s t near w =
+      let found : Option Text = file_in limits.devices name in
+      let here : State = set_status before s in
+      let there : State = set_status before t in
+      if_moves known (nat_eq s.memory.status 0) (nat_eq t.memory.status 0) (ap (λ (n : ℕ). nat_eq n 0) (near.keys Status w.0))
+      (begin_file limits.shell found name fs here) (Go fs s) (begin_file limits.shell found name fs there) (Go fs t)
+      (Writes Status ∷ of_beginning_file limits.shell found) [] (begins_file limits.shell found name fs (Status ∷ known) here there (near_status limits i j k l known s t before near)) (λ v. goes_alike near) w.1
+  moves_alike (FileText ∷ fs) known s t near w = by (nat_eq s.memory.status 0) (nat_eq t.memory.status 0) (ap (λ (n : ℕ). nat_eq n 0) (near.keys Status w.0))
+    where
+      by : (b c : Bool) → c ≡ b → NextAlike known (elim b [ true ↦ Go fs s | false ↦ Go fs (text_failed limits.shell s) ]) (elim c [ true ↦ Go fs t | false ↦ Go fs (text_failed limits.shell t) ])
+      by true true e = goes_alike near
+      by true false e = absurd (cc)
+      by false true e = absurd (cc)
+      by false false e = goes_alike (near_failed limits i j k l known s t limits.shell (near.keys Status w.0) near)
   moves_alike (CommandEnd ∷ fs) known s t near w = goes_alike near

@@ -1,5 +1,5 @@
 -- A move of frames with others below them: it is the same move, or it comes back to the others.
-use Rattle.std.proofs.Common.{ℕ, zero, suc, Bool, true, false, List, [], ◌∷◌, ◌++◌, length, Option, Some, None, refl, ◌≡◌, ◌≤◌, ◌⊎◌, inl, inr, arith, nat_lt, nat_le, nat_eq}
+use Rattle.std.proofs.Common.{ℕ, zero, suc, Bool, true, false, List, [], ◌∷◌, ◌++◌, length, Option, Some, None, refl, ap, ◌≡◌, ◌∙◌, ◌≤◌, ◌⊎◌, inl, inr, arith, nat_lt, nat_le, nat_eq}
 use Rattle.std.specs.Prelude.{slice_get}
 use Rattle.device_list.specs.declared.finish.BoardEnd.{BoardEnd}
 use Rattle.device_list.specs.Called.{Called, BuiltIn, NoCommand, Device, called_by, sets_in}
@@ -7,7 +7,7 @@ use Rattle.hushlang.specs.Tree as tree
 use Rattle.hushlang.specs.Tree.{Script, AndOr, Command, Arms}
 use Rattle.hushlang.specs.Expansion.{size, most_bytes}
 use Rattle.hushlang.specs.declared.tree.Op.{Op}
-use Rattle.hushlang_shells.specs.TreesByShell.{TextRead, Runs, Fails, Panics, Unread, started_in}
+use Rattle.hushlang_shells.specs.TreesByShell.{TextRead, Runs, Fails, Panics, Unread, started_in, sourced_in}
 use Rattle.bootstore_state.specs.Moment.{RunningFrame}
 use Rattle.bootstore_state.specs.declared.frame.FrameKind.{FrameKind}
 use Rattle.bootstore_state.specs.declared.frame.FrameKind.TheVariants as kinds
@@ -21,7 +21,8 @@ use Rattle.rehearse_rules.specs.Execution.{Limits, End, CutDevices, CutSteps, Si
 use Rattle.rehearse_rules.specs.Needs.{effect_now}
 use Rattle.rehearse_rules.specs.Parameters.{parameters_in}
 use Rattle.rehearse_machine.specs.AskingCommand.{fields_again, found_again, words_in_front}
-use Rattle.rehearse_machine.specs.Places.{list_at, joined_at, command_in, command_at, drop_arms, place, PlaceNext, GoOn, AskOn, StopOn, moved_to, behind, in_turn, block_frame, with_block, command_over, left, left_by, left_script, left_compound, place_exit, place_finish, place_answered, place_tell_or_ask, place_assign, place_read, place_text, place_name, run_move, for_turn, for_move, for_begins, place_turns, place_arms, condition_ends, loop_ends, if_moves, loop_moves, phase_move, place_fitting, place_words, place_for, place_ask, place_called, place_simple_call, place_fields, place_counted, place_command, place_skipped, place_joined, place_begins, place_turn, place_list, place_by, place_move}
+use Rattle.rehearse_machine.specs.Places.{left_file, file_left, place_sourced, file_begins, file_ends, file_move, list_at, joined_at, command_in, command_at, drop_arms, place, PlaceNext, GoOn, AskOn, StopOn, moved_to, behind, in_turn, block_frame, with_block, command_over, left, left_by, left_script, left_compound, place_exit, place_finish, above_file, place_taken, place_answered, place_tell_or_ask, place_assign, place_read, place_text, place_name, run_move, for_turn, for_move, for_begins, place_turns, place_arms, condition_ends, loop_ends, if_moves, loop_moves, phase_move, place_fitting, place_words, place_for, place_ask, place_called, place_simple_call, place_fields, place_counted, place_command, place_skipped, place_joined, place_begins, place_turn, place_list, place_by, place_move}
+use Rattle.device_list.specs.DeviceList.{file_in}
 
 -- with these frames below
 abbrev pub under : List RunningFrame → PlaceNext → PlaceNext
@@ -59,11 +60,22 @@ module _ (qs : List RunningFrame) where
   script_over shell zero f fs x y s h = h
   script_over shell (suc a) f fs x y s h = compound_over shell (command_over f ∷ fs) x y s h
 
+  text_over_left : (shell : Shell) (fs : List RunningFrame) (s : State) → IsOver (file_left shell fs s) (file_left shell (fs ++ qs) s)
+  text_over_left Profile fs s = inl refl
+  text_over_left Old2023 fs s = inl refl
+  text_over_left Old2025 fs s = inl refl
+  text_over_left Modern2025 fs s = inl refl
+
+  file_over : (shell : Shell) (turn : ℕ) (fs : List RunningFrame) (x y : PlaceNext) (s : State) → IsOver x y → IsOver (left_file shell turn fs x s) (left_file shell turn (fs ++ qs) y s)
+  file_over shell zero fs x y s h = h
+  file_over shell (suc k) fs x y s h = text_over_left shell fs s
+
   left_by_over : (shell : Shell) (kind : FrameKind) (f : RunningFrame) (fs : List RunningFrame) (x y : PlaceNext) (s : State) → IsOver x y → IsOver (left_by shell kind f fs x s) (left_by shell kind f (fs ++ qs) y s)
   left_by_over shell kinds.Text f fs x y s h = script_over shell f.place.turn f fs x y s h
   left_by_over shell kinds.Block f fs x y s h = script_over shell f.place.turn f fs x y s h
   left_by_over shell kinds.For f fs x y s h = compound_over shell fs x y s h
   left_by_over shell kinds.Run f fs x y s h = over_if (nat_eq s.memory.status 0) (GoOn (f ∷ fs) s) (GoOn fs s) (GoOn (f ∷ fs ++ qs) s) (GoOn (fs ++ qs) s) (inl refl) (inl refl)
+  left_by_over shell kinds.File f fs x y s h = file_over shell f.place.turn fs x y s h
 
 -- what is left of frames is no more than they are
 module _ (shell : Shell) (qs : List RunningFrame) where
@@ -77,11 +89,22 @@ module _ (shell : Shell) (qs : List RunningFrame) where
   script_back zero f fs x s l h = h
   script_back (suc a) f fs x s l h = compound_back shell (command_over f ∷ fs) x s l h
 
+  text_back : (own : Shell) (fs : List RunningFrame) (s : State) → length fs ≤ length qs → ComesBack qs (file_left own fs s)
+  text_back Profile fs s l = l
+  text_back Old2023 fs s l = l
+  text_back Old2025 fs s l = l
+  text_back Modern2025 fs s l = (s.memory.status, refl)
+
+  file_back : (turn : ℕ) (fs : List RunningFrame) (x : PlaceNext) (s : State) → length fs ≤ length qs → ComesBack qs x → ComesBack qs (left_file shell turn fs x s)
+  file_back zero fs x s l h = h
+  file_back (suc k) fs x s l h = text_back shell fs s l
+
   left_by_back : (kind : FrameKind) (f : RunningFrame) (fs : List RunningFrame) (x : PlaceNext) (s : State) → length (f ∷ fs) ≤ length qs → ComesBack qs x → ComesBack qs (left_by shell kind f fs x s)
   left_by_back kinds.Text f fs x s l h = script_back f.place.turn f fs x s l h
   left_by_back kinds.Block f fs x s l h = script_back f.place.turn f fs x s l h
   left_by_back kinds.For f fs x s l h = compound_back shell fs x s (omega arith) h
   left_by_back kinds.Run f fs x s l h = back_if qs (nat_eq s.memory.status 0) (GoOn (f ∷ fs) s) (GoOn fs s) l (omega arith)
+  left_by_back kinds.File f fs x s l h = file_back f.place.turn fs x s (omega arith) h
 
   left_back : (fs : List RunningFrame) (s : State) → length fs ≤ length qs → ComesBack qs (left shell fs s)
   left_back [] s l = (s.memory.status, refl)
@@ -102,9 +125,17 @@ module _ (limits : Limits) (qs : List RunningFrame) where
   finish_over (Some finish) name ps s = refl
   finish_over None name ps s = refl
 
+  taken_over : (outcome : Outcome) (r : Request) (ps : List RunningFrame) (s : State) → place_taken outcome r (ps ++ qs) s ≡ under qs (place_taken outcome r ps s)
+  taken_over Success r ps s = finish_over r.effect.ends r.name ps (set_environment (sets_in r.words r.effect.sets) (logged Success r s))
+  taken_over Failure r ps s = refl
+
+  file_above : (before : ℕ) (runs : Option Text) (ps : List RunningFrame) → above_file before runs (ps ++ qs) ≡ above_file before runs ps ++ qs
+  file_above before None ps = refl
+  file_above before (Some name) ps = refl
+
   pub answered_over : (outcome : Outcome) (r : Request) (ps : List RunningFrame) (s : State) → place_answered outcome r (ps ++ qs) s ≡ under qs (place_answered outcome r ps s)
-  answered_over Success r ps s = finish_over r.effect.ends r.name ps (set_environment (sets_in r.words r.effect.sets) (logged Success r s))
-  answered_over Failure r ps s = refl
+  answered_over outcome r ps s =
+      ap (λ (fs : List RunningFrame). place_taken outcome r fs s) (file_above s.memory.status r.effect.runs ps) ∙ taken_over outcome r (above_file s.memory.status r.effect.runs ps) s
 
   tell_over : (o : Option Bool) (r : Request) (ps : List RunningFrame) (s : State) → IsOver qs (place_tell_or_ask o r ps s) (place_tell_or_ask o r (ps ++ qs) s)
   tell_over (Some success) r ps s = inl (answered_over (outcome_when success) (told_again r) ps s)
@@ -178,6 +209,27 @@ module _ (limits : Limits) (qs : List RunningFrame) where
         let t : State = text_failed limits.shell s in
         over_if qs (nat_eq f.place.turn 0) x (elim (nat_eq s.memory.status 0) [ true ↦ x | false ↦ GoOn fs t ]) y (elim (nat_eq s.memory.status 0) [ true ↦ y | false ↦ GoOn (fs ++ qs) t ]) (name_over o s)
         (over_if qs (nat_eq s.memory.status 0) x (GoOn fs t) y (GoOn (fs ++ qs) t) (name_over o s) (inl refl))
+
+    sourced_over : (o : Option Text) (name : Text) (s : State) → IsOver qs (place_sourced limits.shell o name f fs s) (place_sourced limits.shell o name f (fs ++ qs) s)
+    sourced_over None name s = inl refl
+    sourced_over (Some text) name s = read_over (sourced_in limits.shell text) name s
+
+    file_begins_over : (o : Option Text) (s : State) → IsOver qs (file_begins limits o f fs s) (file_begins limits o f (fs ++ qs) s)
+    file_begins_over None s = inl refl
+    file_begins_over (Some name) s =
+        let o : Option Text = file_in limits.devices name in
+        let u : State = set_status f.place.last s in
+        over_if qs (nat_eq s.memory.status 0) (place_sourced limits.shell o name f fs u) (GoOn fs s) (place_sourced limits.shell o name f (fs ++ qs) u) (GoOn (fs ++ qs) s) (sourced_over o name u) (inl refl)
+
+    file_ends_over : (s : State) → IsOver qs (file_ends limits fs s) (file_ends limits (fs ++ qs) s)
+    file_ends_over s =
+        let t : State = text_failed limits.shell s in
+        over_if qs (nat_eq s.memory.status 0) (GoOn fs s) (GoOn fs t) (GoOn (fs ++ qs) s) (GoOn (fs ++ qs) t) (inl refl) (inl refl)
+
+    file_moves_over : (s : State) → IsOver qs (file_move limits f fs s) (file_move limits f (fs ++ qs) s)
+    file_moves_over s =
+        let o : Option Text = slice_get f.words 0 in
+        over_if qs (nat_eq f.place.turn 0) (file_begins limits o f fs s) (file_ends limits fs s) (file_begins limits o f (fs ++ qs) s) (file_ends limits (fs ++ qs) s) (file_begins_over o s) (file_ends_over s)
 
     value_over : (o : Option Text) (name : Text) (body : Script) (s : State) → IsOver qs (for_turn limits.shell o name body f fs s) (for_turn limits.shell o name body f (fs ++ qs) s)
     value_over None name body s = inl refl
@@ -278,6 +330,7 @@ module _ (limits : Limits) (qs : List RunningFrame) where
     by_over kinds.Block s = list_over (list_at f.script f.place.list) s
     by_over kinds.For s = for_over (command_at (list_at f.script f.place.list) f.place.command) s
     by_over kinds.Run s = run_over s
+    by_over kinds.File s = file_moves_over s
 
     -- ---- and the command before the place, found again
 

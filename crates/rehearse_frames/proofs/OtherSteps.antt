@@ -4,12 +4,12 @@ use Rattle.device_list.specs.declared.finish.BoardEnd.{BoardEnd}
 use Rattle.hushlang.specs.Tree as tree
 use Rattle.hushlang.specs.Tree.{Script, Command, Arms}
 use Rattle.hushlang.specs.Expansion.{size, most_bytes}
-use Rattle.hushlang_shells.specs.TreesByShell.{TextRead, Runs, Fails, Panics, Unread, started_in}
+use Rattle.hushlang_shells.specs.TreesByShell.{TextRead, Runs, Fails, Panics, Unread, started_in, sourced_in}
 use Rattle.builtins.specs.Builtins.{Builtin, SetEnv, Run, Test, Echo, True, False, Leave, builtin_of}
 use Rattle.commands.specs.Computed.{Computed}
 use Rattle.commands.specs.BuiltInCommands.{ChangesVariables, carried, deed_of}
 use Rattle.device_list.specs.Called.{BuiltIn, Device, NoCommand, called_by, sets_in}
-use Rattle.device_list.specs.DeviceList.{Effect, effect_of, computed_by}
+use Rattle.device_list.specs.DeviceList.{Effect, effect_of, computed_by, file_in}
 use Rattle.rehearse_terms.specs.Outcomes.{Outcome, Success, Failure}
 use Rattle.rehearse_terms.specs.State.{Text, get, State}
 use Rattle.rehearse_terms.specs.declared.shell.Shell.{Shell}
@@ -18,10 +18,10 @@ use Rattle.rehearse_rules.specs.Needs.{effect_now}
 use Rattle.rehearse_rules.specs.Parameters.{parameters_in}
 use Rattle.rehearse_rules.specs.ByShell.{reads_again, leaves_in, status_of_exit, asks_in, truth_in, fields_in, turns_in, skips_rest, status_of_loop, follows, assigned_in, follows_turns, call_in}
 use Rattle.rehearse_rules.specs.Execution.{Limits, CutDevices, CutSteps, Size, Unsupported, Request, set_status, status_when, goes, holds, outcome_when, told, told_again, logged, set_environment, assign_local, text_failed, request_of, test_request, for_begun, block_skipped}
-use Rattle.rehearse_machine.specs.Frames.{Frame, Lists, Linked, IfCondition, LoopCondition, LoopBody, ForBody, RunNames, RunText, Next, Go, Ask, Stop, tell_or_ask, finish_next, leave, begin_assign, begin_for, begin_arms, begin_read, begin_text, begin_names, begin_exit, fitting, ask, begin_called, begin_fields, counted, begin_command, answered, move, begin_turns, begin_words, CommandEnd, leave_compound, behind_block, begin_simple_call}
-use Rattle.rehearse_reads.specs.Keys.{Access, Reads, Status, all_read}
+use Rattle.rehearse_machine.specs.Frames.{Frame, Lists, Linked, IfCondition, LoopCondition, LoopBody, ForBody, RunNames, RunText, Next, Go, Ask, Stop, tell_or_ask, finish_next, leave, begin_assign, begin_for, begin_arms, begin_read, begin_text, begin_names, begin_exit, fitting, ask, begin_called, begin_fields, counted, begin_command, answered, move, begin_turns, begin_words, CommandEnd, leave_compound, behind_block, begin_simple_call, RunFile, FileText, with_file, leave_file, begin_sourced, begin_file}
+use Rattle.rehearse_reads.specs.Keys.{Access, Reads, Writes, Status, all_read}
 use Rattle.rehearse_reads.specs.Accesses.{status_written, word_reads, words_reads, computed_accesses, needs_reads, told_reads, sized_accesses, local_accesses, assign_accesses, begun_accesses, modern_accesses}
-use Rattle.rehearse_frames.specs.MoveAccesses.{of_exit, of_telling, of_beginning_for, of_beginning_arms, of_beginning_read, of_beginning_text, of_beginning_names, of_asking, of_listed, of_builtin, of_call, of_fields, of_command, of_move, of_beginning_turns, of_beginning_words, of_simple_call}
+use Rattle.rehearse_frames.specs.MoveAccesses.{of_exit, of_telling, of_beginning_for, of_beginning_arms, of_beginning_read, of_beginning_text, of_beginning_file, of_beginning_names, of_asking, of_listed, of_builtin, of_call, of_fields, of_command, of_move, of_beginning_turns, of_beginning_words, of_simple_call}
 use Rattle.rehearse_frames.specs.KeysToCome.{state_in}
 use Rattle.rehearse_frames.specs.Loops.{later}
 
@@ -63,6 +63,12 @@ left_run : (b : Bool) (run : Frame) (fs : List Frame) (n : ℕ) (s : State) → 
 left_run true run fs n s = refl
 left_run false run fs n s = refl
 
+left_file : (shell : Shell) (fs : List Frame) (n : ℕ) (s : State) → leave_file shell fs (at_steps n s) ≡ next_at n (leave_file shell fs s)
+left_file Profile fs n s = refl
+left_file Old2023 fs n s = refl
+left_file Old2025 fs n s = refl
+left_file Modern2025 fs n s = refl
+
 leaves : (shell : Shell) (fs : List Frame) (n : ℕ) (s : State) → leave shell fs (at_steps n s) ≡ next_at n (leave shell fs s)
 leaves shell [] n s = refl
 leaves shell (RunNames names ∷ fs) n s = left_run (nat_eq s.memory.status 0) (RunNames names) fs n s
@@ -73,6 +79,8 @@ leaves shell (IfCondition b arms ∷ fs) n s = left_compound shell (CommandEnd �
 leaves shell (LoopCondition until c b last ∷ fs) n s = left_compound shell (CommandEnd ∷ fs) n s (leave shell fs s) (leave shell fs (at_steps n s)) (leaves shell fs n s)
 leaves shell (LoopBody until c b ∷ fs) n s = left_compound shell (CommandEnd ∷ fs) n s (leave shell fs s) (leave shell fs (at_steps n s)) (leaves shell fs n s)
 leaves shell (ForBody name values body ∷ fs) n s = left_compound shell fs n s (leave shell fs s) (leave shell fs (at_steps n s)) (leaves shell fs n s)
+leaves shell (RunFile name before ∷ fs) n s = leaves shell fs n s
+leaves shell (FileText ∷ fs) n s = left_file shell fs n s
 leaves shell (CommandEnd ∷ fs) n s = left_compound shell (CommandEnd ∷ fs) n s (leave shell fs s) (leave shell fs (at_steps n s)) (leaves shell fs n s)
 
 exits : (shell : Shell) (o : Option ℕ) (other : ℕ) (fs : List Frame) → Overlooks (begin_exit shell o other fs) (λ s. of_exit shell o fs)
@@ -86,7 +94,7 @@ finishes (Some how) name fs n s = refl
 finishes None name fs n s = refl
 
 answers : (outcome : Outcome) (request : Request) (fs : List Frame) (n : ℕ) (s : State) → answered outcome request fs (at_steps n s) ≡ next_at n (answered outcome request fs s)
-answers Success request fs n s = finishes request.effect.ends request.name fs n (set_environment (sets_in request.words request.effect.sets) (logged Success request s))
+answers Success request fs n s = finishes request.effect.ends request.name (with_file s.memory.status request.effect.runs fs) n (set_environment (sets_in request.words request.effect.sets) (logged Success request s))
 answers Failure request fs n s = refl
 
 tells : (o : Option Bool) (request : Request) (fs : List Frame) → Overlooks (tell_or_ask o request fs) (λ s. of_telling o request)
@@ -123,6 +131,17 @@ begins_read shell Unread name names fs n s = (refl, refl)
 begins_text : (shell : Shell) (text : Option Text) (name : Text) (names : List Text) (fs : List Frame) → Overlooks (begin_text shell text name names fs) (λ s. of_beginning_text shell text)
 begins_text shell None name names fs n s = (refl, refl)
 begins_text shell (Some text) name names fs n s = begins_read shell (started_in shell text) name names fs n s
+
+begins_sourced : (shell : Shell) (found : TextRead) (name : Text) (fs : List Frame) → Overlooks (begin_sourced shell found name fs) (λ s. of_beginning_read found)
+begins_sourced shell (Runs tree.Empty) name fs n s = (refl, refl)
+begins_sourced shell (Runs (tree.Runs list more)) name fs n s = (refl, refl)
+begins_sourced shell Fails name fs n s = (refl, refl)
+begins_sourced shell Panics name fs n s = (refl, refl)
+begins_sourced shell Unread name fs n s = (refl, refl)
+
+begins_file : (shell : Shell) (text : Option Text) (name : Text) (fs : List Frame) → Overlooks (begin_file shell text name fs) (λ s. of_beginning_file shell text)
+begins_file shell None name fs n s = (refl, refl)
+begins_file shell (Some text) name fs n s = begins_sourced shell (sourced_in shell text) name fs n s
 
 begins_names : (shell : Shell) (names : List Text) (fs : List Frame) → Overlooks (begin_names shell names fs) (of_beginning_names shell names)
 begins_names shell [] fs n s = (refl, refl)
@@ -282,4 +301,12 @@ module _ (limits : Limits) where
   moves_later (RunText names ∷ fs) steps s room =
       either_later (nat_eq s.memory.status 0) (begin_names limits.shell names fs) (λ t. Go fs (text_failed limits.shell t)) (of_beginning_names limits.shell names) (λ t. [])
       (overlooked (begin_names limits.shell names fs) (of_beginning_names limits.shell names) (begins_names limits.shell names fs)) (λ d t l. (refl, refl)) steps s room
+  moves_later (RunFile name before ∷ fs) steps s room =
+      let found : Option Text = file_in limits.devices name in
+      let begins : State → Next = λ t. begin_file limits.shell found name fs (set_status before t) in
+      let reads : State → List Access = λ t. Writes Status ∷ of_beginning_file limits.shell found in
+      either_later (nat_eq s.memory.status 0) begins (Go fs) reads (λ t. [])
+      (overlooked begins reads (λ n t. ((begins_file limits.shell found name fs n (set_status before t)).0, refl))) (λ d t l. (refl, refl)) steps s room
+  moves_later (FileText ∷ fs) steps s room =
+      ((either_later (nat_eq s.memory.status 0) (Go fs) (λ t. Go fs (text_failed limits.shell t)) (λ t. []) (λ t. []) (λ d t l. (refl, refl)) (λ d t l. (refl, refl)) steps s room).0, refl)
   moves_later (CommandEnd ∷ fs) steps s room = (refl, refl)

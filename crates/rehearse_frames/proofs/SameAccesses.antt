@@ -3,21 +3,22 @@ use Rattle.std.proofs.Common.{◌≡◌, ◌∙◌, refl, sym, ap, ℕ, zero, su
 use Rattle.hushlang.specs.Tree as tree
 use Rattle.hushlang.specs.Tree.{Script, AndOr, Joined, Command, Arms, IsProper, IsProperList, IsProperJoined, IsProperCommand, AreProperArms, HoldsCommand}
 use Rattle.hushlang.specs.Expansion.{size, most_bytes}
-use Rattle.hushlang_shells.specs.TreesByShell.{TextRead, Runs, Fails, Panics, Unread, started_in}
-use Rattle.hushlang_shells.proofs.TreeByShellLemmas.{started_texts_are_proper}
+use Rattle.hushlang_shells.specs.TreesByShell.{TextRead, Runs, Fails, Panics, Unread, started_in, sourced_in}
+use Rattle.hushlang_shells.proofs.TreeByShellLemmas.{started_texts_are_proper, sourced_texts_are_proper}
 use Rattle.builtins.specs.Builtins.{Builtin, SetEnv, Run, Test, Echo, True, False, Leave, builtin_of}
 use Rattle.commands.specs.Computed.{Computed}
-use Rattle.device_list.specs.DeviceList.{Effect, effect_of, computed_by}
+use Rattle.device_list.specs.DeviceList.{Effect, effect_of, computed_by, file_in}
 use Rattle.rehearse_terms.specs.State.{Text, get, State}
 use Rattle.rehearse_rules.specs.Parameters.{parameters_in}
 use Rattle.rehearse_rules.specs.ByShell.{fields_in, turns_in, skips_rest, follows, follows_turns, call_in}
-use Rattle.rehearse_rules.specs.Execution.{Limits, Answer, Normal, Exit, Ended, Dry, CutSteps, go_on, set_status, goes, holds, begin_turn, started_text, run_read, exec_script, exec_list, exec_command, exec, request_of, for_begun, block_skipped, exec_arms, turns, for_each}
+use Rattle.rehearse_rules.specs.Needs.{effect_now}
+use Rattle.rehearse_rules.specs.Execution.{Limits, Answer, Normal, Exit, Ended, Dry, CutSteps, go_on, set_status, goes, holds, begin_turn, started_text, run_read, exec_script, exec_list, exec_command, exec, request_of, for_begun, block_skipped, exec_arms, turns, for_each, Request, device, sourced, sourced_text}
 use Rattle.rehearse_rules.proofs.GrowingSteps.{AtLeast, Grew, AtLeast-track, Grew-block}
-use Rattle.rehearse_rules.proofs.TakenOutcomes.{KeepsAll, Keeps-script, Keeps-list, Keeps-one, Keeps-exec, Keeps-started}
+use Rattle.rehearse_rules.proofs.TakenOutcomes.{KeepsAll, Keeps-script, Keeps-list, Keeps-one, Keeps-exec, Keeps-started, Keeps-device}
 use Rattle.rehearse_machine.proofs.StepBoundLemmas.{same_if, block_proper, same_script, same_exec, same_turns, same_for, same_if_arms}
 use Rattle.rehearse_machine.proofs.BoundLemmas.{Cut-block}
 use Rattle.rehearse_reads.specs.Keys.{Access, Reads, Writes, Environment, Status, all_read}
-use Rattle.rehearse_reads.specs.Accesses.{listed_accesses, behind, behind_text, status_written, words_reads, sized_accesses, turns_accesses, turn_accesses, each_accesses, for_accesses, begun_accesses, device_accesses, computed_accesses, read_accesses, started_accesses, run_accesses, builtin_accesses, call_accesses, simple_accesses, script_accesses, list_accesses, joined_accesses, command_accesses, arms_accesses, accesses, modern_accesses, turns_of_accesses, for_words_accesses, compound_accesses, simple_call_accesses}
+use Rattle.rehearse_reads.specs.Accesses.{listed_accesses, behind, behind_text, status_written, words_reads, sized_accesses, turns_accesses, turn_accesses, each_accesses, for_accesses, begun_accesses, device_accesses, computed_accesses, read_accesses, started_accesses, run_accesses, builtin_accesses, call_accesses, simple_accesses, script_accesses, list_accesses, joined_accesses, command_accesses, arms_accesses, accesses, modern_accesses, turns_of_accesses, for_words_accesses, compound_accesses, simple_call_accesses, file_accesses, follow_accesses, handed_accesses, sourced_accesses, sourced_text_accesses}
 use Rattle.rehearse_frames.proofs.NoneBegun.{None-block, None-turns}
 
 pub same_both : (xs ys zs ws : List Access) → xs ≡ ys → zs ≡ ws → xs ++ zs ≡ ys ++ ws
@@ -97,6 +98,28 @@ module _ (limits : Limits) where
 
     -- ---- commands
 
+    found_same : (o : Option Text) (name : Text) (t : State) → limits.step_bound < n + t.steps
+        → ◌≡◌ {A = List Access} (elim o [ None ↦ status_written | Some v ↦ sourced_text_accesses limits text u name v t ++ behind_text (sourced_text limits text name v t) (λ x. []) ])
+        (elim o [ None ↦ status_written | Some v ↦ sourced_text_accesses limits text' u' name v t ++ behind_text (sourced_text limits text' name v t) (λ x. []) ])
+    found_same None name t h = refl
+    found_same (Some v) name t h =
+        let found : TextRead = sourced_in limits.shell v in
+        let proper : (tree : Script) → found ≡ Runs tree → IsProper tree = sourced_texts_are_proper limits.shell v in
+        ap (λ (xs : List Access). (xs ++ sourced_accesses limits.shell (run_read limits text name found t)) ++ behind_text (sourced limits.shell (run_read limits text name found t)) (λ x. [])) (read_same found proper t h)
+        ∙ ap (λ (a : Answer). (read_accesses limits text' u' found t ++ sourced_accesses limits.shell a) ++ behind_text (sourced limits.shell a) (λ x. [])) (read_answers found name proper t h)
+
+    file_same : (name : Text) (before : ℕ) (t : State) → limits.step_bound < n + t.steps → follow_accesses limits text u name before t ≡ follow_accesses limits text' u' name before t
+    file_same name before t h =
+        let v : State = set_status before t in
+        ap (λ (xs : List Access). Reads Status ∷ xs)
+        (either (nat_eq t.memory.status 0) (Writes Status ∷ file_accesses limits text u name v) [] (Writes Status ∷ file_accesses limits text' u' name v) []
+        (ap (λ (xs : List Access). Writes Status ∷ xs) (found_same (file_in limits.devices name) name v h)) refl)
+
+    handed_same : (runs : Option Text) (before : ℕ) (asked : List Access) (a : Answer) (t : State) → AtLeast t.steps a → limits.step_bound < n + t.steps → handed_accesses limits text u runs before asked a ≡ handed_accesses limits text' u' runs before asked a
+    handed_same None before asked a t l h = refl
+    handed_same (Some name) before asked a t l h =
+        ap (λ (xs : List Access). asked ++ xs) (same_behind t.steps a a (follow_accesses limits text u name before) (follow_accesses limits text' u' name before) l refl (λ x r. file_same name before x (omega arith)))
+
     builtin_same : (b : Builtin) (name : Text) (ws : List Text) (t : State) → limits.step_bound < n + t.steps → builtin_accesses limits text u b name ws t ≡ builtin_accesses limits text' u' b name ws t
     builtin_same SetEnv name ws t h = refl
     builtin_same Run name [] t h = refl
@@ -111,11 +134,13 @@ module _ (limits : Limits) where
     call_same name ws t h = by (computed_by limits.devices name ws) (builtin_of name) (effect_of limits.devices name ws)
       where
         by : (o : Option Computed) (b : Option Builtin) (f : Option Effect)
-            → ◌≡◌ {A = List Access} (elim o [ Some computed ↦ computed_accesses computed | None ↦ elim b [ Some builtin ↦ builtin_accesses limits text u builtin name ws t | None ↦ elim f [ Some effect ↦ listed_accesses limits name ws effect t | None ↦ [] ] ] ])
-            (elim o [ Some computed ↦ computed_accesses computed | None ↦ elim b [ Some builtin ↦ builtin_accesses limits text' u' builtin name ws t | None ↦ elim f [ Some effect ↦ listed_accesses limits name ws effect t | None ↦ [] ] ] ])
+            → ◌≡◌ {A = List Access} (elim o [ Some computed ↦ computed_accesses computed | None ↦ elim b [ Some builtin ↦ builtin_accesses limits text u builtin name ws t | None ↦ elim f [ Some effect ↦ handed_accesses limits text u effect.runs t.memory.status (listed_accesses limits name ws effect t) (device limits (request_of name ws (effect_now t.log effect)) t) | None ↦ [] ] ] ])
+            (elim o [ Some computed ↦ computed_accesses computed | None ↦ elim b [ Some builtin ↦ builtin_accesses limits text' u' builtin name ws t | None ↦ elim f [ Some effect ↦ handed_accesses limits text' u' effect.runs t.memory.status (listed_accesses limits name ws effect t) (device limits (request_of name ws (effect_now t.log effect)) t) | None ↦ [] ] ] ])
         by (Some computed) b f = refl
         by None (Some builtin) f = builtin_same builtin name ws t h
-        by None None (Some effect) = refl
+        by None None (Some effect) =
+            let request : Request = request_of name ws (effect_now t.log effect) in
+            handed_same effect.runs t.memory.status (listed_accesses limits name ws effect t) (device limits request t) t (AtLeast-track limits.device_bound t (device limits request t) (Keeps-device limits request refl t).0) h
         by None None None = refl
 
     simple_call_same : (fs : List Text) (t : State) → limits.step_bound < n + t.steps → simple_call_accesses limits text u fs t ≡ simple_call_accesses limits text' u' fs t

@@ -145,9 +145,9 @@ MovesStayAbove = (limits : Limits) (below : ℕ) (step : Step) (old new : Moment
     ((w : OutcomeWord) → next_shown step new w ≡ place_move limits old.frames (state_at old w)) →
     (w : OutcomeWord) → next_shown step (without_lowest below new) w ≡ place_move limits (above below old.frames) (state_at old w)
 
--- an outcome leaves all frames alone
+-- an outcome leaves all frames alone, and may put the text of a file above them
 abbrev pub OutcomesStayAbove : Type 0
-OutcomesStayAbove = (below : ℕ) (outcome : Outcome) (request : Request) (step : Step) (old new : Moment) →
+OutcomesStayAbove = (below : ℕ) (outcome : Outcome) (request : Request) (step : Step) (old new : Moment) → below ≤ length old.frames →
     ((w : OutcomeWord) → next_shown step new w ≡ place_answered outcome request old.frames (state_at old w)) →
     (w : OutcomeWord) → next_shown step (without_lowest below new) w ≡ place_answered outcome request (above below old.frames) (state_at old w)
 

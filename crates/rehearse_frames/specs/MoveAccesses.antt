@@ -3,9 +3,9 @@
 use Rattle.std.specs.Prelude.{ℕ, nat_lt, nat_eq, Bool, true, false, List, [], ◌∷◌, ◌++◌, length, Option, Some, None}
 use Rattle.hushlang.specs.Tree as tree
 use Rattle.hushlang.specs.Tree.{Script, Command, Arms}
-use Rattle.hushlang_shells.specs.TreesByShell.{TextRead, Runs, Fails, Panics, Unread, started_in}
+use Rattle.hushlang_shells.specs.TreesByShell.{TextRead, Runs, Fails, Panics, Unread, started_in, sourced_in}
 use Rattle.builtins.specs.Builtins.{Builtin, SetEnv, Run, Test, Echo, True, False, Leave, builtin_of}
-use Rattle.device_list.specs.DeviceList.{Effect, effect_of, computed_by}
+use Rattle.device_list.specs.DeviceList.{Effect, effect_of, computed_by, file_in}
 use Rattle.rehearse_terms.specs.State.{Text, get, State}
 use Rattle.rehearse_terms.specs.declared.shell.Shell.{Shell}
 use Rattle.rehearse_terms.specs.declared.shell.Shell.TheVariants.{Profile, Old2023, Old2025, Modern2025}
@@ -13,7 +13,7 @@ use Rattle.rehearse_rules.specs.Parameters.{parameters_in}
 use Rattle.rehearse_rules.specs.ByShell.{reads_again, call_in, leaves_in, asks_in, fields_in, turns_in, follows, follows_turns}
 use Rattle.rehearse_rules.specs.Needs.{effect_now}
 use Rattle.rehearse_rules.specs.Execution.{Limits, goes, holds, outcome_when, Request, told, request_of, test_request, for_begun}
-use Rattle.rehearse_machine.specs.Frames.{Frame, Lists, Linked, IfCondition, LoopCondition, LoopBody, ForBody, RunNames, RunText, CommandEnd}
+use Rattle.rehearse_machine.specs.Frames.{Frame, Lists, Linked, IfCondition, LoopCondition, LoopBody, ForBody, RunNames, RunText, CommandEnd, RunFile, FileText}
 use Rattle.rehearse_reads.specs.Keys.{Access, Reads, Writes, Environment, Status, all_read}
 use Rattle.rehearse_reads.specs.Accesses.{status_written, words_reads, setenv_accesses, computed_accesses, needs_reads, told_reads, outcome_accesses, sized_accesses, assign_accesses, turn_accesses, nothing_accesses, begun_accesses, modern_accesses}
 
@@ -24,8 +24,8 @@ of_leaving_compound Old2023 outwards = outwards
 of_leaving_compound Old2025 outwards = outwards
 of_leaving_compound Modern2025 outwards = Reads Status ∷ status_written
 
--- `exit` passes the frames up to the `run` of its text, which ends with this status if it is not 0. With none it ends the run,
--- whose status is read
+-- `exit` passes the frames up to the `run` of its text, which ends with this status if it is not 0, or up to the text of a file.
+-- With none it ends the run, whose status is read
 abbrev pub of_leaving : Shell → (status : ℕ) → List Frame → List Access
 of_leaving shell status [] = Reads Status ∷ []
 of_leaving shell status (RunNames names ∷ fs) = Reads Status ∷ []
@@ -36,6 +36,8 @@ of_leaving shell status (IfCondition b arms ∷ fs) = of_leaving_compound shell 
 of_leaving shell status (LoopCondition until c b last ∷ fs) = of_leaving_compound shell (of_leaving shell status fs)
 of_leaving shell status (LoopBody until c b ∷ fs) = of_leaving_compound shell (of_leaving shell status fs)
 of_leaving shell status (ForBody name fields body ∷ fs) = of_leaving_compound shell (of_leaving shell status fs)
+of_leaving shell status (RunFile name before ∷ fs) = of_leaving shell status fs
+of_leaving shell status (FileText ∷ fs) = Reads Status ∷ []
 of_leaving shell status (CommandEnd ∷ fs) = of_leaving_compound shell (of_leaving shell status fs)
 
 abbrev pub of_exit : Shell → Option ℕ → List Frame → List Access
@@ -78,6 +80,10 @@ of_beginning_read Unread = []
 abbrev pub of_beginning_text : Shell → Option Text → List Access
 of_beginning_text shell None = status_written
 of_beginning_text shell (Some text) = of_beginning_read (started_in shell text)
+
+abbrev pub of_beginning_file : Shell → Option Text → List Access
+of_beginning_file shell None = status_written
+of_beginning_file shell (Some text) = of_beginning_read (sourced_in shell text)
 
 abbrev pub of_beginning_names : Shell → List Text → State → List Access
 of_beginning_names shell [] s = []
@@ -164,4 +170,10 @@ module _ (limits : Limits) where
   of_move (RunNames names ∷ fs) s = of_beginning_names limits.shell names s
   of_move (RunText names ∷ fs) s =
       Reads Status ∷ elim (nat_eq s.memory.status 0) [ true ↦ of_beginning_names limits.shell names s | false ↦ [] ]
+  of_move (RunFile name before ∷ fs) s =
+      Reads Status ∷ elim (nat_eq s.memory.status 0) [
+        | true ↦ Writes Status ∷ of_beginning_file limits.shell (file_in limits.devices name)
+        | false ↦ []
+      ]
+  of_move (FileText ∷ fs) s = Reads Status ∷ []
   of_move (CommandEnd ∷ fs) s = []

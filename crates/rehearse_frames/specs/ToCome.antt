@@ -4,11 +4,11 @@ use Rattle.hushlang.specs.Tree.{Script, Joined, Command, Arms}
 use Rattle.rehearse_terms.specs.Outcomes.{OutcomeWord}
 use Rattle.rehearse_terms.specs.State.{Text, State}
 use Rattle.rehearse_rules.specs.ByShell.{status_of_loop}
-use Rattle.rehearse_rules.specs.Execution.{Limits, Answer, Normal, Exit, Ended, Dry, holds, take_outcome, block_skipped, go_on, for_each, set_status}
-use Rattle.rehearse_machine.specs.Frames.{Frame, Lists, Linked, IfCondition, LoopCondition, LoopBody, ForBody, RunNames, RunText, Next, Go, Ask, Stop, CommandEnd}
+use Rattle.rehearse_rules.specs.Execution.{Limits, Answer, Normal, Exit, Ended, Dry, holds, take_outcome, block_skipped, go_on, for_each, set_status, sourced}
+use Rattle.rehearse_machine.specs.Frames.{Frame, Lists, Linked, IfCondition, LoopCondition, LoopBody, ForBody, RunNames, RunText, Next, Go, Ask, Stop, CommandEnd, RunFile, FileText, with_file}
 use Rattle.rehearse_machine.specs.Meaning.{with, full, script, resume, arms_of, again}
 use Rattle.rehearse_reads.specs.Keys.{Access, Reads, Environment, Status}
-use Rattle.rehearse_reads.specs.Accesses.{accesses, behind, behind_text, status_written, turns_accesses, each_accesses, run_accesses, taken_accesses, script_accesses, joined_accesses, command_accesses, arms_accesses, modern_accesses, compound_accesses}
+use Rattle.rehearse_reads.specs.Accesses.{accesses, behind, behind_text, status_written, turns_accesses, each_accesses, run_accesses, taken_accesses, script_accesses, joined_accesses, command_accesses, arms_accesses, modern_accesses, compound_accesses, sourced_accesses, follow_accesses}
 
 -- the values of these variables are read
 abbrev pub names_read : List Text → List Access
@@ -61,6 +61,9 @@ module _ (limits : Limits) where
   abbrev pub of_names : List Text → State → List Access
   of_names names = run_accesses limits (full limits) of_full names
 
+  abbrev pub of_file : (name : Text) → (before : ℕ) → State → List Access
+  of_file name before = follow_accesses limits (full limits) of_full name before
+
   -- ---- what compound commands do, behind a part of them
 
   abbrev pub choice : Script → Arms → State → Answer
@@ -94,6 +97,8 @@ module _ (limits : Limits) where
       ++ of_compound (go_on a (turns_left name values body))
   of_frame (RunNames names) a = first_behind a (of_names names)
   of_frame (RunText names) a = behind_text a (of_names names)
+  of_frame (RunFile name before) a = behind a (of_file name before)
+  of_frame FileText a = sourced_accesses limits.shell a ++ behind_text (sourced limits.shell a) (λ t. [])
   of_frame CommandEnd a = of_compound a
 
   -- ---- to the end of the run, where the status and the values of these variables are read
@@ -113,5 +118,6 @@ module _ (limits : Limits) where
     -- what is to come after a move, with this word left
     abbrev pub of_next : OutcomeWord → Next → List Access
     of_next w (Go fs s) = of_frames fs (Normal (with w s))
-    of_next w (Ask request fs s) = taken_accesses request w ++ of_frames fs (take_outcome request w (with w s))
+    of_next w (Ask request fs s) =
+        taken_accesses request w ++ of_frames (with_file s.memory.status request.effect.runs fs) (take_outcome request w (with w s))
     of_next w (Stop ending s) = names_read wanted

@@ -21,7 +21,7 @@ use Rattle.rehearse_rules.specs.ByShell.{reads_again, leaves_in, status_of_exit,
 use Rattle.rehearse_rules.specs.Execution.{Limits, CutDevices, Size, Unsupported, Request, told, told_again, logged, set_environment, set_status, status_when, request_of, test_request}
 use Rattle.rehearse_machine.specs.AskingCommand.{words_in_front, fields_again, found_again}
 use Rattle.rehearse_machine.specs.Machine.{Asking, IsAsking}
-use Rattle.rehearse_machine.specs.Places.{PlaceNext, GoOn, AskOn, StopOn, frames_of, left, place_exit, place_finish, place_tell_or_ask, place_ask, place_called, place_fields, left_compound, left_script, left_by, command_over, place_simple_call}
+use Rattle.rehearse_machine.specs.Places.{PlaceNext, GoOn, AskOn, StopOn, frames_of, left, place_exit, place_finish, place_tell_or_ask, place_ask, place_called, place_fields, left_compound, left_script, left_by, command_over, place_simple_call, above_file, left_file, file_left}
 use Rattle.rehearse_reads.specs.Keys.{AgreeOn, AreAmong, Key}
 use Rattle.rehearse_reads.specs.Accesses.{words_reads}
 use Rattle.rehearse_reads.proofs.KeysRead.{all_itself}
@@ -56,11 +56,22 @@ script_gone : (shell : Shell) (turn : ℕ) (p : RunningFrame) (ps : List Running
 script_gone shell zero p ps outwards s b h = h
 script_gone shell (suc a) p ps outwards s b h = compound_gone shell (command_over p ∷ ps) outwards s b h
 
+file_gone : (shell : Shell) (ps : List RunningFrame) (s : State) (b : PlaceNext) → AskSame (file_left shell ps s) b
+file_gone Profile ps s b = tt
+file_gone Old2023 ps s b = tt
+file_gone Old2025 ps s b = tt
+file_gone Modern2025 ps s b = tt
+
 kind_gone : (shell : Shell) (kind : FrameKind) (p : RunningFrame) (ps : List RunningFrame) (outwards : PlaceNext) (s : State) (b : PlaceNext) → AskSame outwards b → AskSame (left_by shell kind p ps outwards s) b
 kind_gone shell kinds.Text p ps outwards s b h = script_gone shell p.place.turn p ps outwards s b h
 kind_gone shell kinds.Block p ps outwards s b h = script_gone shell p.place.turn p ps outwards s b h
 kind_gone shell kinds.For p ps outwards s b h = compound_gone shell ps outwards s b h
 kind_gone shell kinds.Run p ps outwards s b h = gone_on (nat_eq s.memory.status 0) (p ∷ ps) ps s b
+kind_gone shell kinds.File p ps outwards s b h = by p.place.turn
+  where
+    by : (turn : ℕ) → AskSame (left_file shell turn ps outwards s) b
+    by zero = h
+    by (suc k) = file_gone shell ps s b
 
 left_same : (shell : Shell) (ps : List RunningFrame) (s : State) (b : PlaceNext) → AskSame (left shell ps s) b
 left_same shell [] s b = tt
@@ -85,9 +96,9 @@ none_asked r None name ps s = tt
 
 tell_same : (o p : Option Bool) (r : Request) (ps : List RunningFrame) (s t : State) → AskSame (place_tell_or_ask o r ps s) (place_tell_or_ask p r ps t)
 tell_same None None r ps s t = refl
-tell_same None (Some true) r ps s t = none_asked r r.effect.ends r.name ps (set_environment (sets_in r.words r.effect.sets) (logged Success (told_again r) t))
+tell_same None (Some true) r ps s t = none_asked r r.effect.ends r.name (above_file t.memory.status r.effect.runs ps) (set_environment (sets_in r.words r.effect.sets) (logged Success (told_again r) t))
 tell_same None (Some false) r ps s t = tt
-tell_same (Some true) p r ps s t = finish_same r.effect.ends r.name ps (set_environment (sets_in r.words r.effect.sets) (logged Success (told_again r) s)) (place_tell_or_ask p r ps t)
+tell_same (Some true) p r ps s t = finish_same r.effect.ends r.name (above_file s.memory.status r.effect.runs ps) (set_environment (sets_in r.words r.effect.sets) (logged Success (told_again r) s)) (place_tell_or_ask p r ps t)
 tell_same (Some false) p r ps s t = tt
 
 cut_same : (x : PlaceNext) (t : State) → AskSame x (StopOn CutDevices t)

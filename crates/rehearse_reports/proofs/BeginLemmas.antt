@@ -5,10 +5,10 @@ use Rattle.hushlang.specs.Tree as tree
 use Rattle.hushlang.specs.Tree.{Script, AndOr, Joined, Command, Arms}
 use Rattle.hushlang.specs.Expansion.{size, most_bytes}
 use Rattle.hushlang.specs.declared.tree.Op.{Op}
-use Rattle.hushlang_shells.specs.TreesByShell.{TextRead, Runs, Fails, Panics, Unread, started_in}
+use Rattle.hushlang_shells.specs.TreesByShell.{TextRead, Runs, Fails, Panics, Unread, started_in, sourced_in}
 use Rattle.builtins.specs.Builtins.{Builtin, SetEnv, Run, Test, Echo, True, False, Leave, builtin_of}
 use Rattle.commands.specs.Computed.{Computed}
-use Rattle.device_list.specs.DeviceList.{Effect, effect_of, computed_by}
+use Rattle.device_list.specs.DeviceList.{Effect, effect_of, computed_by, file_in}
 use Rattle.bootstore_state.specs.declared.frame.At.{At}
 use Rattle.rehearse_terms.specs.State.{Text, State, get}
 use Rattle.rehearse_terms.specs.declared.shell.Shell.{Shell}
@@ -16,12 +16,12 @@ use Rattle.rehearse_terms.specs.declared.shell.Shell.TheVariants.{Profile, Old20
 use Rattle.rehearse_rules.specs.ByShell.{leaves_in, asks_in, fields_in, turns_in, follows, reads_again, call_in}
 use Rattle.rehearse_rules.specs.Parameters.{parameters_in}
 use Rattle.rehearse_rules.specs.Execution.{Limits, goes, holds, test_request}
-use Rattle.rehearse_machine.specs.Frames.{Frame, Lists, Linked, IfCondition, LoopCondition, LoopBody, ForBody, RunNames, RunText, CommandEnd}
-use Rattle.rehearse_machine.specs.Places.{drop_joined, joined_at, drop_arms, condition_frame, phase, from_command, for_frame, run_frame}
+use Rattle.rehearse_machine.specs.Frames.{Frame, Lists, Linked, IfCondition, LoopCondition, LoopBody, ForBody, RunNames, RunText, CommandEnd, RunFile, FileText}
+use Rattle.rehearse_machine.specs.Places.{drop_joined, joined_at, drop_arms, condition_frame, phase, from_command, for_frame, run_frame, file_part}
 use Rattle.rehearse_reads.specs.Keys.{Key, Access, Reads, Writes, Environment, Local, Status, all_read, Covers}
 use Rattle.rehearse_reads.specs.Accesses.{status_written, words_reads, setenv_accesses, computed_accesses, sized_accesses, assign_accesses, turn_accesses, nothing_accesses, modern_accesses}
 use Rattle.rehearse_reads.proofs.KeysRead.{covering_joins}
-use Rattle.rehearse_frames.specs.MoveAccesses.{of_leaving, of_exit, of_beginning_for, of_beginning_arms, of_beginning_read, of_beginning_text, of_beginning_names, of_builtin, of_listed, of_call, of_fields, of_command, of_move, of_leaving_compound, of_simple_call}
+use Rattle.rehearse_frames.specs.MoveAccesses.{of_leaving, of_exit, of_beginning_for, of_beginning_arms, of_beginning_read, of_beginning_text, of_beginning_file, of_beginning_names, of_builtin, of_listed, of_call, of_fields, of_command, of_move, of_leaving_compound, of_simple_call}
 use Rattle.rehearse_reports.proofs.ReportLemmas.{covers_itself, covers_through, covers_less, covers_write, reads_cover, reads_alone}
 use Rattle.rehearse_reports.proofs.CoverLemmas.{covers_status, covers_nothing, covers_arms, covers_modern}
 
@@ -53,6 +53,8 @@ leaving_covers shell status (IfCondition b arms ∷ fs) = compound_covers shell 
 leaving_covers shell status (LoopCondition until c b last ∷ fs) = compound_covers shell (of_leaving shell status fs) (leaving_covers shell status fs)
 leaving_covers shell status (LoopBody until c b ∷ fs) = compound_covers shell (of_leaving shell status fs) (leaving_covers shell status fs)
 leaving_covers shell status (ForBody name fields body ∷ fs) = compound_covers shell (of_leaving shell status fs) (leaving_covers shell status fs)
+leaving_covers shell status (RunFile name before ∷ fs) = leaving_covers shell status fs
+leaving_covers shell status (FileText ∷ fs) = covers_itself status_read
 leaving_covers shell status (CommandEnd ∷ fs) = compound_covers shell (of_leaving shell status fs) (leaving_covers shell status fs)
 
 exit_over : (shell : Shell) (o : Option ℕ) (fs : List Frame) → Covers (of_exit shell o []) (of_exit shell o fs)
@@ -207,6 +209,10 @@ module _ (limits : Limits) (s : State) where
   text_covers shell None = covers_status
   text_covers shell (Some text) = read_covers (started_in shell text)
 
+  file_covers : (shell : Shell) (o : Option Text) → Covers [] (of_beginning_file shell o)
+  file_covers shell None = covers_status
+  file_covers shell (Some text) = read_covers (sourced_in shell text)
+
   names_cover : (names : List Text) (j : ℕ) (name : Text) → slice_get names j ≡ Some name → Covers (Reads (Environment name) ∷ []) (of_beginning_names limits.shell (drop j names) s)
   names_cover [] j name e = absurd (let f = e in cc)
   names_cover (x ∷ names) zero name e =
@@ -241,3 +247,17 @@ module _ (limits : Limits) (s : State) where
   -- a text that has failed ends its `run`
   pub run_fails : (names : List Text) (k : ℕ) (fs : List Frame) → nat_eq s.memory.status 0 ≡ false → Covers status_read (of_move limits (run_frame (suc k) names ∷ fs) s)
   run_fails names k fs e = subst (λ (b : Bool). Covers status_read (Reads Status ∷ (elim b [ true ↦ of_beginning_names limits.shell (drop (suc k) names) s | false ↦ [] ]))) (sym e) (covers_itself status_read)
+
+  -- ---- the text of a file
+
+  pub file_moves : (turn last : ℕ) (names : List Text) (fs : List Frame) → Covers status_read (of_move limits (file_part turn last names ∷ fs) s)
+  file_moves zero last [] fs = nothing_read
+  file_moves zero last (name ∷ more) fs = by (nat_eq s.memory.status 0)
+    where
+      found : List Access
+      found = Writes Status ∷ of_beginning_file limits.shell (file_in limits.devices name)
+
+      by : (x : Bool) → Covers status_read (Reads Status ∷ (elim x [ true ↦ found | false ↦ [] ]))
+      by true = covers_less status_read found (covers_write Status (of_beginning_file limits.shell (file_in limits.devices name)) (file_covers limits.shell (file_in limits.devices name)))
+      by false = covers_itself status_read
+  file_moves (suc k) last names fs = covers_itself status_read

@@ -1,5 +1,5 @@
 -- Reports of calls.
-use Rattle.std.proofs.Common.{◌≡◌, ◌∙◌, refl, sym, ap, subst, ℕ, Bool, true, false, List, [], ◌∷◌, ◌++◌, cond, map, length, drop, get_or, Vec, Global, Some, ◌<◌, ◌≤◌, arith}
+use Rattle.std.proofs.Common.{◌≡◌, ◌∙◌, refl, sym, ap, subst, ℕ, Bool, true, false, List, [], ◌∷◌, ◌++◌, cond, map, length, drop, get_or, Vec, Global, Option, Some, None, ◌<◌, ◌≤◌, arith}
 use Rattle.std.proofs.Math.Dec.{eqb, eqb-suc-zero}
 use Rattle.std.specs.List.{flat_map}
 use Rattle.std.specs.Prelude.{if◌then◌else◌}
@@ -16,11 +16,11 @@ use Rattle.rehearse_terms.specs.State.{Text, State, LoggedCommand}
 use Rattle.rehearse_rules.specs.Needs.{is_met, effect_now}
 use Rattle.rehearse_rules.specs.Execution.{Limits, Request}
 use Rattle.rehearse_reads.specs.Keys.{Key, Access, Reads, Writes, Environment, AnswerTo, Succeeded, Status, all_read, Covers}
-use Rattle.rehearse_reads.specs.Accesses.{status_written, setenv_accesses, deletion_accesses, computed_accesses, needs_reads, told_reads}
+use Rattle.rehearse_reads.specs.Accesses.{status_written, setenv_accesses, deletion_accesses, computed_accesses, needs_reads, told_reads, handing_reads}
 use Rattle.rehearse_reads.proofs.KeysRead.{covering_joins}
 use Rattle.rehearse_frames.specs.MoveAccesses.{of_asking}
 use Rattle.rehearse_reports.specs.Reports.{Reports, Adds}
-use Rattle.rehearse_reports.proofs.ReportLemmas.{covers_itself, covers_less, covers_through, reads_cover, reports_nothing, reports_as, reports_then}
+use Rattle.rehearse_reports.proofs.ReportLemmas.{covers_itself, covers_less, covers_through, reads_cover, reads_alone, reports_nothing, reports_as, reports_then}
 use Rattle.rehearse_reports.proofs.CoverLemmas.{covers_status, covers_asking}
 
 -- an access, and then the status is written
@@ -85,22 +85,32 @@ not_steady false stays e f = refl
 abbrev told_if : Request → Bool → List Key
 told_if request stays = if stays then AnswerTo (request.name ∷ request.words) ∷ [] else []
 
-pub asks_unsteady : (old : List Access) (limits : Limits) (request : Request) (s : State) (stays : Bool) → (request.effect.stays ≡ true → stays ≡ true) → stays ≡ false → Reports old old (of_asking limits request s)
-asks_unsteady old limits request s stays e f =
+pub asks_unsteady : (old : List Access) (request : Request) (stays : Bool) → (request.effect.stays ≡ true → stays ≡ true) → stays ≡ false → Reports old old (all_read (told_reads request))
+asks_unsteady old request stays e f =
     let none : told_reads request ≡ [] = ap (told_if request) (not_steady request.effect.stays stays e f) in
-    reports_as old old [] (of_asking limits request s) (reports_nothing old) (subst (λ (keys : List Key). Covers (all_read keys) (of_asking limits request s)) none (covers_asking limits request s))
+    subst (λ (keys : List Key). Reports old old (all_read keys)) (sym none) (reports_nothing old)
 
-pub asks_steady : (old new : List Access) (limits : Limits) (request : Request) (s : State) (call : List Text) → call ≡ request.name ∷ request.words → Reports old new (Reads (AnswerTo call) ∷ []) → Reports old new (of_asking limits request s)
-asks_steady old new limits request s call is h = by request.effect.stays refl
+pub asks_steady : (old new : List Access) (request : Request) (call : List Text) → call ≡ request.name ∷ request.words → Reports old new (Reads (AnswerTo call) ∷ []) → Reports old new (all_read (told_reads request))
+asks_steady old new request call is h = by request.effect.stays refl
   where
-    by : (stays : Bool) → request.effect.stays ≡ stays → Reports old new (of_asking limits request s)
+    by : (stays : Bool) → request.effect.stays ≡ stays → Reports old new (all_read (told_reads request))
     by true e =
         let one : told_reads request ≡ AnswerTo call ∷ [] = ap (told_if request) e ∙ ap (λ (ws : List Text). AnswerTo ws ∷ []) (sym is) in
-        reports_as old new (Reads (AnswerTo call) ∷ []) (of_asking limits request s) h (subst (λ (keys : List Key). Covers (all_read keys) (of_asking limits request s)) one (covers_asking limits request s))
+        subst (λ (keys : List Key). Reports old new (all_read keys)) (sym one) h
     by false e =
         let none : told_reads request ≡ [] = ap (told_if request) e in
-        let nothing : Covers [] (of_asking limits request s) = subst (λ (keys : List Key). Covers (all_read keys) (of_asking limits request s)) none (covers_asking limits request s) in
-        reports_as old new (Reads (AnswerTo call) ∷ []) (of_asking limits request s) h (reads_cover (AnswerTo call ∷ []) [] (of_asking limits request s) nothing)
+        subst (λ (keys : List Key). Reports old new (all_read keys)) (sym none) (reports_as old new (Reads (AnswerTo call) ∷ []) [] h (reads_alone (AnswerTo call ∷ [])))
+
+-- the answer, and then the status that is kept for the text of a file
+pub asks_all : (old mid new : List Access) (limits : Limits) (request : Request) (s : State) → Reports old mid (all_read (told_reads request)) → Reports mid new (handing_reads request.effect.runs) → Reports old new (of_asking limits request s)
+asks_all old mid new limits request s h k =
+    reports_as old new (all_read (told_reads request) ++ handing_reads request.effect.runs) (of_asking limits request s)
+    (reports_then old mid new (all_read (told_reads request)) (handing_reads request.effect.runs) h k) (covers_asking limits request s)
+
+-- a command that hands nothing over reads its answer alone
+pub asks_alone : (old new : List Access) (limits : Limits) (request : Request) (s : State) → request.effect.runs ≡ None → Reports old new (all_read (told_reads request)) → Reports old new (of_asking limits request s)
+asks_alone old new limits request s none h =
+    asks_all old new new limits request s h (subst (λ (runs : Option Text). Reports new new (handing_reads runs)) (sym none) (reports_nothing new))
 
 -- ---- the call that a command needs
 

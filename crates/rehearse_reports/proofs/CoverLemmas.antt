@@ -6,7 +6,7 @@ use Rattle.hushlang.specs.Tree.{Arms}
 use Rattle.hushlang.specs.Expansion.{size, most_bytes}
 use Rattle.hushlang_old.specs.Defaults.{variable_of, has_more}
 use Rattle.device_list.specs.Called.{sets_in}
-use Rattle.rehearse_terms.specs.Outcomes.{Success, Failure}
+use Rattle.rehearse_terms.specs.Outcomes.{Outcome, Success, Failure}
 use Rattle.rehearse_terms.specs.State.{Text, Memory, State, get}
 use Rattle.rehearse_terms.specs.declared.shell.Shell.{Shell}
 use Rattle.rehearse_terms.specs.declared.shell.Shell.TheVariants.{Profile, Old2023, Old2025, Modern2025}
@@ -14,7 +14,7 @@ use Rattle.rehearse_rules.specs.ByShell.{fields_in, turns_in, assigned_in, is_re
 use Rattle.rehearse_rules.specs.Parameters.{parameters_in}
 use Rattle.rehearse_rules.specs.Execution.{Limits, Request, told, outcome_when, assign_local, for_begun}
 use Rattle.rehearse_reads.specs.Keys.{Key, Access, Reads, Writes, Environment, Local, Status, all_read, Covers}
-use Rattle.rehearse_reads.specs.Accesses.{status_written, variable_reads, inside_reads, piece_reads, word_reads, words_reads, names_written, told_reads, outcome_accesses, sized_accesses, local_accesses, assign_accesses, nothing_accesses, begun_accesses, modern_accesses}
+use Rattle.rehearse_reads.specs.Accesses.{status_written, variable_reads, inside_reads, piece_reads, word_reads, words_reads, names_written, told_reads, handing_reads, outcome_writes, outcome_accesses, sized_accesses, local_accesses, assign_accesses, nothing_accesses, begun_accesses, modern_accesses}
 use Rattle.rehearse_reads.proofs.KeysRead.{covering_joins}
 use Rattle.rehearse_frames.specs.MoveAccesses.{of_asking, of_telling, of_beginning_for, of_beginning_arms, of_fields, of_command, of_beginning_turns, of_beginning_words}
 use Rattle.rehearse_reports.proofs.ReportLemmas.{covers_itself, covers_through, covers_less, covers_write, covers_written, reads_cover, reads_alone, nothing_after}
@@ -41,18 +41,32 @@ pub covers_names : (names : List Text) → Covers [] (names_written names)
 covers_names [] = covers_itself []
 covers_names (name ∷ names) = covers_write (Environment name) (names_written names) (covers_names names)
 
-covers_told : (o : Option Bool) (request : Request) → Covers [] (of_telling o request)
-covers_told None request = covers_itself []
-covers_told (Some true) request = covers_write Status (names_written (map (λ e. e.0) (sets_in request.words request.effect.sets))) (covers_names (map (λ e. e.0) (sets_in request.words request.effect.sets)))
-covers_told (Some false) request = covers_status
+covers_writes : (outcome : Outcome) (request : Request) → Covers [] (outcome_writes outcome request)
+covers_writes Success request = covers_write Status (names_written (map (λ e. e.0) (sets_in request.words request.effect.sets))) (covers_names (map (λ e. e.0) (sets_in request.words request.effect.sets)))
+covers_writes Failure request = covers_status
 
--- the answer is read, if a device command is left
-pub covers_asking : (limits : Limits) (request : Request) (s : State) → Covers (all_read (told_reads request)) (of_asking limits request s)
+handing_alone : (runs : Option Text) → Covers (handing_reads runs) []
+handing_alone None = covers_itself []
+handing_alone (Some name) = reads_alone (Status ∷ [])
+
+covers_told : (o : Option Bool) (request : Request) → Covers (handing_reads request.effect.runs) (of_telling o request)
+covers_told None request = handing_alone request.effect.runs
+covers_told (Some success) request =
+    covers_less (handing_reads request.effect.runs) (outcome_writes (outcome_when success) request) (covers_writes (outcome_when success) request)
+
+-- the answer is read, if a device command is left, and the status, if it is kept for the text of a file
+pub covers_asking : (limits : Limits) (request : Request) (s : State) → Covers (all_read (told_reads request) ++ handing_reads request.effect.runs) (of_asking limits request s)
 covers_asking limits request s = by (nat_lt (length s.log) limits.device_bound)
   where
-    by : (b : Bool) → Covers (all_read (told_reads request)) (elim b [ true ↦ all_read (told_reads request) ++ of_telling (told request s.log) request | false ↦ [] ])
-    by true = covers_less (all_read (told_reads request)) (of_telling (told request s.log) request) (covers_told (told request s.log) request)
-    by false = reads_alone (told_reads request)
+    keys : List Access
+    keys = all_read (told_reads request)
+
+    handing : List Access
+    handing = handing_reads request.effect.runs
+
+    by : (b : Bool) → Covers (keys ++ handing) (elim b [ true ↦ keys ++ of_telling (told request s.log) request | false ↦ [] ])
+    by true = covering_joins keys (of_telling (told request s.log) request) keys handing (covers_itself keys) (covers_told (told request s.log) request)
+    by false = reads_cover (told_reads request) handing [] (handing_alone request.effect.runs)
 
 -- ---- commands that begin
 

@@ -60,12 +60,14 @@ no_run_is_block kinds.Text e = refl
 no_run_is_block kinds.Block e = refl
 no_run_is_block kinds.For e = refl
 no_run_is_block kinds.Run e = absurd (let f = e in cc)
+no_run_is_block kinds.File e = refl
 
 no_run_is_text : (kind : FrameKind) → is_text kind ≡ true → is_run kind ≡ false
 no_run_is_text kinds.Text e = refl
 no_run_is_text kinds.Block e = refl
 no_run_is_text kinds.For e = refl
 no_run_is_text kinds.Run e = absurd (let f = e in cc)
+no_run_is_text kinds.File e = refl
 
 past : (f : RunningFrame) (fs : List RunningFrame) → is_run f.kind ≡ false → below_run (f ∷ fs) ≡ below_run fs
 past f fs e = ap (λ (b : Bool). choose b fs (below_run fs)) e

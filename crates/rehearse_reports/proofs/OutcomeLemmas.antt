@@ -25,7 +25,7 @@ use Rattle.rehearse_machine.specs.declared.rehearsal.Stop.{Stop}
 use Rattle.rehearse_machine.specs.declared.rehearsal.Stop.TheVariants as stops
 use Rattle.rehearse_rules.specs.declared.halt.Halt.{Halt}
 use Rattle.rehearse_reads.specs.Keys.{Access, Writes, Environment, Status}
-use Rattle.rehearse_reads.specs.Accesses.{names_written, outcome_accesses}
+use Rattle.rehearse_reads.specs.Accesses.{handing_reads, names_written, outcome_accesses, outcome_writes}
 use Rattle.rehearse_frames.specs.Above.{without_lowest}
 use Rattle.rehearse_frames.specs.KeysToCome.{AreEnoughFrom}
 use Rattle.rehearse_frames.proofs.LowestFrames.{again_above, asking_above, asks_in_frames, outcomes_stay_above}
@@ -71,14 +71,19 @@ settings_so words (set ∷ sets) =
 pub settings_done : (old new : List Access) (words : List Text) (sets : List Setting) → Reports old new (flat_map (of_setting words) sets) → Reports old new (names_of (sets_in words (map setting_shown sets)))
 settings_done old new words sets h = subst (Reports old new) (settings_so words sets) h
 
-pub failed_so : (old new : List Access) (request : Request) (success : Bool) → success ≡ false → Reports old new (Writes Status ∷ []) → Reports old new (outcome_accesses (outcome_when success) request)
-failed_so old new request success e h = subst (λ (b : Bool). Reports old new (outcome_accesses (outcome_when b) request)) (sym e) h
+pub failed_so : (old new : List Access) (request : Request) (success : Bool) → success ≡ false → Reports old new (Writes Status ∷ []) → Reports old new (outcome_writes (outcome_when success) request)
+failed_so old new request success e h = subst (λ (b : Bool). Reports old new (outcome_writes (outcome_when b) request)) (sym e) h
 
-pub won_so : {E : Type 0} (r : Result (Unit {0}) E) (old mid new : List Access) (request : Request) (success : Bool) (words : List Text) → success ≡ true → words ≡ request.words → Reports old mid (Writes Status ∷ []) → OnOk r (Reports mid new (names_of (sets_in words request.effect.sets))) → OnOk r (Reports old new (outcome_accesses (outcome_when success) request))
+pub won_so : {E : Type 0} (r : Result (Unit {0}) E) (old mid new : List Access) (request : Request) (success : Bool) (words : List Text) → success ≡ true → words ≡ request.words → Reports old mid (Writes Status ∷ []) → OnOk r (Reports mid new (names_of (sets_in words request.effect.sets))) → OnOk r (Reports old new (outcome_writes (outcome_when success) request))
 won_so (Ok x) old mid new request success words e w h k =
-    subst (λ (b : Bool). Reports old new (outcome_accesses (outcome_when b) request)) (sym e)
+    subst (λ (b : Bool). Reports old new (outcome_writes (outcome_when b) request)) (sym e)
     (reports_then old mid new (Writes Status ∷ []) (names_of (sets_in request.words request.effect.sets)) h (subst (λ (ws : List Text). Reports mid new (names_of (sets_in ws request.effect.sets))) w k))
 won_so (Err x) old mid new request success words e w h k = k
+
+-- the status that is kept, and then what the outcome writes
+pub handing_then : {E : Type 0} (r : Result (Unit {0}) E) (old mid new : List Access) (outcome : Outcome) (request : Request) → Reports old mid (handing_reads request.effect.runs) → OnOk r (Reports mid new (outcome_writes outcome request)) → OnOk r (Reports old new (outcome_accesses outcome request))
+handing_then (Ok x) old mid new outcome request h k = reports_then old mid new (handing_reads request.effect.runs) (outcome_writes outcome request) h k
+handing_then (Err x) old mid new outcome request h k = k
 
 -- ---- a device command takes its outcome
 
@@ -100,7 +105,7 @@ module _ (limits : Limits) (old mid new : Record) (step : Step) (ask : Ask) (out
   given next does below within =
       let some = asks_in_frames limits old.present asks in
       follows_outcome limits outcome (without_lowest below old.present) (asking_above limits below old.present asks (omega arith)) next (without_lowest below new.present) before after
-      (outcomes_stay_above below outcome asks.request next old.present new.present
+      (outcomes_stay_above below outcome asks.request next old.present new.present (omega arith)
       (λ w. does.0 w
       ∙ ap (λ (r : Request). place_answered outcome r mid.present.frames (state_at mid.present w)) same_request
       ∙ ap (λ (ps : List RunningFrame). place_answered outcome asks.request ps (state_at mid.present w)) same_frames

@@ -118,5 +118,6 @@ pub(crate) fn begins_in(frame: &Frame, status: u8) -> Begins<'_>
         FrameKind::Block => begins_in_script(frame, status),
         FrameKind::For => begins_in_for(frame),
         FrameKind::Run => begins_in_run(frame, status),
+        FrameKind::File => Begins::Nothing,
     }
 }

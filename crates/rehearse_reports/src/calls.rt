@@ -9,12 +9,13 @@ ghost use Rattle.text.specs.TextsShown.{bytes_of_words};
 ghost use Rattle.rehearse_terms.specs.State.{State};
 ghost use Rattle.rehearse_rules.specs.Execution.{Limits, Request};
 ghost use Rattle.rehearse_machine.specs.MovesShown.{limits_of};
-ghost use Rattle.rehearse_reads.specs.Accesses.{computed_accesses, deletion_accesses, needs_reads, setenv_accesses};
-ghost use Rattle.rehearse_frames.specs.MoveAccesses.{of_asking, of_builtin, of_call, of_fields, of_listed};
+ghost use Rattle.rehearse_reads.specs.Accesses.{computed_accesses, deletion_accesses, needs_reads, setenv_accesses, told_reads};
+ghost use Rattle.rehearse_frames.specs.MoveAccesses.{of_builtin, of_call, of_fields, of_listed};
 ghost use Rattle.rehearse_reports.specs.Reports.{Reports, of_test};
 ghost use Rattle.rehearse_reports.specs.ReportsShown.{accesses_shown};
 
 use crate::key::Key;
+use crate::outcomes::report_handing;
 use crate::reported::Reported;
 use bootstore_state::StoreError;
 use builtins::{Builtin, builtin_of};
@@ -87,17 +88,17 @@ fn report_computed(
 
 /// Reports that a device command reads the answer that stays for it, if its answers may stay. Errors:
 /// `Memory`.
-fn report_asking(
+fn report_told(
     alloc: Global,
     reported: &mut Reported,
     name: &[u8],
     words: &[Vec<u8>],
     stays: bool,
 ) -> Result<(), StoreError>
-    ensures { (limits : Limits) (request : Request) (s : State) → request.name ≡ name.now
-        → request.words ≡ bytes_of_words words.now → (request.effect.stays ≡ true → stays ≡ true)
+    ensures { (request : Request) → request.name ≡ name.now → request.words ≡ bytes_of_words words.now
+        → (request.effect.stays ≡ true → stays ≡ true)
         → OnOk result (Reports (accesses_shown reported.old) (accesses_shown reported.new)
-        (of_asking limits request s)) }
+        (all_read (told_reads request))) }
 {
     if !stays {
         return Ok(());
@@ -135,7 +136,8 @@ fn report_listed(
         (lent_effect effect.entry) s)) }
 {
     report_needs(alloc, reported, effect.needs)?;
-    report_asking(alloc, reported, name, words, effect.stays)
+    report_told(alloc, reported, name, words, effect.stays)?;
+    report_handing(reported, effect.runs)
 }
 
 /// Reports what `test` reads: the answer about the file that it asks for, if the answers stay. Errors:
@@ -156,7 +158,7 @@ fn report_test(
         return Ok(());
     }
     let question = question_in(alloc, bounds.shell(), words)?;
-    report_asking(alloc, reported, name, &question, devices.test_stays())
+    report_told(alloc, reported, name, &question, devices.test_stays())
 }
 
 /// Reports what a call of a built-in command reads and writes. Errors: `Memory`.

@@ -126,7 +126,7 @@ fn is_run(kind: FrameKind) -> bool
 {
     match kind {
         FrameKind::Run => true,
-        FrameKind::Text | FrameKind::Block | FrameKind::For => false,
+        FrameKind::Text | FrameKind::Block | FrameKind::For | FrameKind::File => false,
     }
 }
 

@@ -1,11 +1,11 @@
-//! What the outcome of a device command writes.
+//! What the outcome of a device command reads and writes.
 ghost use Rattle.std.specs.Prelude.{◌∷◌, [], OnOk, map};
-ghost use Rattle.text.specs.TextsShown.{bytes_of_words};
+ghost use Rattle.text.specs.TextsShown.{bytes_of_words, option_bytes};
 ghost use Rattle.device_list.specs.Called.{sets_in};
 ghost use Rattle.device_list.specs.DevicesShown.{setting_shown};
 ghost use Rattle.rehearse_machine.specs.Machine.{outcome_when};
 ghost use Rattle.rehearse_machine.specs.MovesShown.{request_shown};
-ghost use Rattle.rehearse_reads.specs.Accesses.{names_written, outcome_accesses};
+ghost use Rattle.rehearse_reads.specs.Accesses.{handing_reads, names_written, outcome_accesses, outcome_writes};
 ghost use Rattle.rehearse_reports.specs.Reports.{Reports};
 ghost use Rattle.rehearse_reports.specs.ReportsShown.{accesses_shown};
 
@@ -54,8 +54,37 @@ fn report_settings(
     Ok(())
 }
 
+/// Reports that the status is read that is kept for the text of a file, if the command names one. Errors: `Memory`.
+pub(crate) fn report_handing(reported: &mut Reported, runs: Option<&[u8]>) -> Result<(), StoreError>
+    ensures { OnOk result (Reports (accesses_shown reported.old) (accesses_shown reported.new)
+        (handing_reads (option_bytes runs.entry))) }
+{
+    let Some(_name) = runs else {
+        return Ok(());
+    };
+    reported.reads(Key::Status)?;
+    Ok(())
+}
+
 /// Reports what an outcome of a device command writes: the status, and on success what the settings of
 /// the command say. Errors: `Memory`.
+fn report_writes(
+    alloc: Global,
+    reported: &mut Reported,
+    ask: &Ask<'_>,
+    success: bool,
+) -> Result<(), StoreError>
+    ensures { OnOk result (Reports (accesses_shown reported.old) (accesses_shown reported.new)
+        (outcome_writes (outcome_when success) (request_shown ask.now))) }
+{
+    reported.writes(Key::Status)?;
+    if !success {
+        return Ok(());
+    }
+    report_settings(alloc, reported, &ask.words, ask.effect.sets)
+}
+
+/// Reports what an outcome of a device command reads and writes. Errors: `Memory`.
 pub(crate) fn report_outcome(
     alloc: Global,
     reported: &mut Reported,
@@ -65,9 +94,6 @@ pub(crate) fn report_outcome(
     ensures { OnOk result (Reports (accesses_shown reported.old) (accesses_shown reported.new)
         (outcome_accesses (outcome_when success) (request_shown ask.now))) }
 {
-    reported.writes(Key::Status)?;
-    if !success {
-        return Ok(());
-    }
-    report_settings(alloc, reported, &ask.words, ask.effect.sets)
+    report_handing(reported, ask.effect.runs)?;
+    report_writes(alloc, reported, ask, success)
 }

@@ -102,7 +102,7 @@ fn give_outcome<'a, S: Store>(
         unreachable!();
     };
     report_outcome(rehearsal.alloc, reported, &ask, success)?;
-    answer(store, ask, success)
+    answer(rehearsal.alloc, store, ask, success)
 }
 
 /// Does what `resume` of the machine does, and reports what is read and written from the outcome up to

@@ -5,7 +5,8 @@ use Rattle.rehearse_rules.specs.ByShell.{question_in}
 use Rattle.rehearse_rules.specs.Execution.{test_request}
 use Rattle.rehearse_machine.specs.MovesShown.{limits_of}
 use Rattle.rehearse_reports.specs.ReportsShown.{accesses_shown}
-use Rattle.rehearse_reports.proofs.NamedLemmas.{test_quiet, test_asks}
+use Rattle.rehearse_reports.proofs.NamedLemmas.{test_quiet, test_asks, ok_as}
+use Rattle.rehearse_reports.proofs.CallLemmas.{asks_alone}
 use Rattle.rehearse_reports.proofs.calls.report_test.Goals as goal
 
 pub returns-then-not-asks_in : goal.returns-then-not-asks_in
@@ -16,7 +17,11 @@ pub returns : goal.returns
 returns c s =
     let limits = limits_of c.args.devices.now c.args.bounds in
     let words = bytes_of_words c.args.words.now in
-    test_asks limits c.args.name.now words s c.report_asking.result (accesses_shown c.args.reported.now) (accesses_shown c.report_asking.new.reported) c.shell.result c.shell.ensures c.if-not-asks_in.ensures
-    (c.report_asking.ensures limits (test_request limits c.args.name.now words) s refl
+    let before = accesses_shown c.args.reported.now in
+    let after = accesses_shown c.report_told.new.reported in
+    let request = test_request limits c.args.name.now words in
+    test_asks limits c.args.name.now words s c.report_told.result before after c.shell.result c.shell.ensures c.if-not-asks_in.ensures
+    (ok_as c.report_told.result (asks_alone before after limits request s refl)
+    (c.report_told.ensures request refl
     (sym (ap bytes_of_words c.deref.ensures.value ∙ c.in_ok-question.ensures ∙ ap (λ (x : Shell). question_in x words) c.shell-2.ensures))
-    (λ e. c.test_stays.ensures ∙ e))
+    (λ e. c.test_stays.ensures ∙ e)))

@@ -13,4 +13,4 @@ invariant-moves g l =
     × (l.fewest ≤ l.initial.fewest)
 
 abbrev pub decreases-moves : goal.decreases-moves
-decreases-moves g l = moves_left l.bounds.shell (g.S.Store.record_of l.store).present
+decreases-moves g l = moves_left (limits_of l.devices l.bounds) (g.S.Store.record_of l.store).present
