@@ -35,9 +35,9 @@ _ubtool_options() {
     case $1 in
         printenv) options='-c --config -i --image --second --text --big-endian -l --lock --one-copy -n --noheader -0 --null --escaped -h --help -V --version' ;;
         setenv) options='-c --config -i --image --second --big-endian -l --lock --one-copy -s --script -h --help -V --version' ;;
-        rehearse) options='-c --config -i --image --second --text --big-endian -d --device-list --steady --given -b --variable --script --devices --steps --shell --word --failures --after --limit -h --help -V --version' ;;
-        endings) options='-c --config -i --image --second --text --big-endian -d --device-list --steady --given -b --variable --script --devices --steps --shell --states --work --memory --flow -h --help -V --version' ;;
-        causes) options='-c --config -i --image --second --text --big-endian -d --device-list --steady --given -b --variable --script --devices --steps --shell --failures --check -h --help -V --version' ;;
+        rehearse) options='-c --config -i --image --second --text --big-endian -d --device-list --files --steady --given -b --variable --script --devices --steps --shell --word --failures --after --limit -h --help -V --version' ;;
+        endings) options='-c --config -i --image --second --text --big-endian -d --device-list --files --steady --given -b --variable --script --devices --steps --shell --states --work --memory --flow -h --help -V --version' ;;
+        causes) options='-c --config -i --image --second --text --big-endian -d --device-list --files --steady --given -b --variable --script --devices --steps --shell --failures --check -h --help -V --version' ;;
         image) options='--size --redundant --big-endian --fill -o --output -h --help -V --version' ;;
         inspect) options='-c --config -i --image --second --big-endian -h --help -V --version' ;;
         *) options='' ;;
@@ -50,7 +50,7 @@ _ubtool_value() {
         -c | --config | -i | --image | --second | --text | -s | --script | -d | --device-list | -o | --output) value='file' ;;
         -l | --lock) value='folder' ;;
         -b | --variable) value='name' ;;
-        --given | --devices | --steps | --word | --failures | --after | --limit | --states | --work | --memory | --size | --fill) value='other' ;;
+        --files | --given | --devices | --steps | --word | --failures | --after | --limit | --states | --work | --memory | --size | --fill) value='other' ;;
         --shell) value='listed profile old-2023.01 old-2025.01 old modern-2025.01 modern' ;;
         *) value='' ;;
     esac

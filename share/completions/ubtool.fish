@@ -56,7 +56,7 @@ complete -c ubtool -n __ubtool_after_help -a 'printenv setenv rehearse endings c
 # options: completions
 # Whether the word is an option whose value comes after it.
 function __ubtool_takes_value
-    contains -- $argv[1] -c --config -i --image --second --text -l --lock -s --script -d --device-list --given -b --variable --devices --steps --shell --word --failures --after --limit --states --work --memory --size --fill -o --output
+    contains -- $argv[1] -c --config -i --image --second --text -l --lock -s --script -d --device-list --files --given -b --variable --devices --steps --shell --word --failures --after --limit --states --work --memory --size --fill -o --output
 end
 
 complete -c ubtool -s h -l help -d 'Print help'
@@ -75,6 +75,7 @@ complete -c ubtool -n '__fish_seen_subcommand_from printenv' -l escaped -d 'Prin
 complete -c ubtool -n '__fish_seen_subcommand_from setenv' -s s -l script -r -F -d 'Script of changes, at most 1048576 bytes'
 complete -c ubtool -n '__fish_seen_subcommand_from rehearse endings causes' -l script -r -F -d 'Script or script image, at most 1048576 bytes, in place of NAME'
 complete -c ubtool -n '__fish_seen_subcommand_from rehearse endings causes' -s d -l device-list -r -F -d 'Device list, or a folder of them, at most 1048576 bytes: a command that may fail a line'
+complete -c ubtool -n '__fish_seen_subcommand_from rehearse endings causes' -l files -x -d 'Folder of the files that the list names, at most 1048576 bytes each'
 complete -c ubtool -n '__fish_seen_subcommand_from rehearse endings causes' -l steady -d 'Each question has one answer in a run, as if each line said steady'
 complete -c ubtool -n '__fish_seen_subcommand_from rehearse endings causes' -l given -x -d 'The Kth alternative of the list\'s given lines, 1 to 64'
 complete -c ubtool -n '__fish_seen_subcommand_from rehearse endings causes' -s b -l variable -x -a '(__ubtool_names)' -d 'Variable whose text is run'

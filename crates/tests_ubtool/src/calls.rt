@@ -1,6 +1,8 @@
 //! Calls of the product. None of these functions promises anything, so that the proof of a caller has little to look
 //! at.
 
+use indexmap::IndexMap;
+use keyed_hash::KeyedHash;
 use rehearse_runs::{Ask as RehearseAsk, Finish};
 use rehearse_terms::{Bounds, Page, Wanted};
 use std::alloc::Global;
@@ -31,8 +33,10 @@ pub(crate) fn rehearse(
         names: &[b"z"],
     };
     let second = case.second.as_ref().map(|bytes| bytes.as_slice());
+    let files = IndexMap::with_hasher(case.alloc, KeyedHash::new());
     let list = DeviceText {
         text: b"load",
+        files: &files,
         taking: Taking {
             steady: false,
             alternative: None,

@@ -27,7 +27,7 @@ as_listed = record { steady = false; alternative = None }
 
 -- these files are read, and no script
 abbrev pub read_from : OriginShown → (device_list : Text) → InputsShown
-read_from origin device_list = record { origin = origin; device_list = device_list; taking = as_listed; script = None }
+read_from origin device_list = record { origin = origin; device_list = device_list; taking = as_listed; script = None; files = None }
 
 -- what a call reads that names the device list d alone
 abbrev pub usual_list : InputsShown

@@ -11,7 +11,7 @@ use Rattle.tool_words.specs.declared.ask.OriginError.TheVariants.{ScriptAndVaria
 
 -- the device list d and the script f are read
 abbrev runs_script : OriginShown → InputsShown
-runs_script origin = record { origin = origin; device_list = codes "d"; taking = as_listed; script = Some (codes "f") }
+runs_script origin = record { origin = origin; device_list = codes "d"; taking = as_listed; script = Some (codes "f"); files = None }
 
 -- rehearse --script f -d d: the environment is empty
 script_alone : AsksFor (codes "rehearse" ∷ codes "--script" ∷ codes "f" ∷ codes "-d" ∷ codes "d" ∷ [])

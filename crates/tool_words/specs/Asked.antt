@@ -33,12 +33,14 @@ pub data OriginShown : Type 0 where
   texts : (path : Text) → (order : ByteOrder) → OriginShown
   no_images : (order : ByteOrder) → OriginShown
 
--- what a rehearsal reads: the images, a device list and how it is taken, and a script that runs in place of a variable
+-- what a rehearsal reads: the images, a device list and how it is taken, a script that runs in place of a variable, and the folder
+-- of the files that the list names
 pub record InputsShown : Type 0 where
   pub origin : OriginShown
   pub device_list : Text
   pub taking : Taking
   pub script : Option Text
+  pub files : Option Text
 
 -- what `endings` is asked for
 pub record Endings : Type 0 where
@@ -225,16 +227,16 @@ abbrev pub variable_of : List Row → Text
 variable_of rows = unwrap_or (first_of (codes "script") rows) (variable_named rows)
 
 -- what a rehearsal reads: a script takes no variable beside it
-abbrev pub inputs_with : (device_list : Text) → Taking → (script : Option Text) →
+abbrev pub inputs_with : (device_list : Text) → Taking → (script files : Option Text) →
     Result OriginShown OriginError → Result InputsShown OriginError
-inputs_with device_list taking script (Err error) = Err error
-inputs_with device_list taking script (Ok origin) =
-    Ok (record { origin = origin; device_list = device_list; taking = taking; script = script })
+inputs_with device_list taking script files (Err error) = Err error
+inputs_with device_list taking script files (Ok origin) =
+    Ok (record { origin = origin; device_list = device_list; taking = taking; script = script; files = files })
 
 abbrev pub inputs_asked : (device_list : Text) → Taking → List Row → Result InputsShown OriginError
 inputs_asked device_list taking rows =
     if is_some (first_of (codes "script") rows) && is_some (first_of (codes "variable") rows) then Err ScriptAndVariable
-    else inputs_with device_list taking (first_of (codes "script") rows) (origin_beside rows)
+    else inputs_with device_list taking (first_of (codes "script") rows) (first_of (codes "files") rows) (origin_beside rows)
 
 -- how the device list is taken: all of it steady, and one of its alternatives
 abbrev pub taken_so : List Row → (alternative : Option ℕ) → Taking

@@ -65,6 +65,7 @@ inputs_shown inputs = record {
   device_list = string_bytes inputs.device_list;
   taking = inputs.taking;
   script = option_map string_bytes inputs.script;
+  files = option_map string_bytes inputs.files;
 }
 
 abbrev pub change_of : OriginShown → Change → ByteOrder → (one_copy : Bool) → Asked

@@ -42,6 +42,10 @@ text_file = long_option (codes "text")
 abbrev pub script_file : Rule
 script_file = long_option (codes "script")
 
+-- `--files FOLDER`, of the files that the device list names
+abbrev pub files : Rule
+files = long_option (codes "files")
+
 abbrev pub big_endian : Rule
 big_endian = long_flag (codes "big-endian")
 
@@ -131,7 +135,7 @@ limit = number_option (codes "limit") 1 most_records
 
 abbrev pub rehearse : App
 rehearse = command (codes "rehearse")
-    (config ∷ image ∷ second ∷ text_file ∷ big_endian ∷ device_list ∷ steady ∷ given ∷ variable ∷ script_file ∷ devices ∷ steps ∷ shell ∷ word ∷ failures ∷ after ∷ limit ∷ names ∷ [])
+    (config ∷ image ∷ second ∷ text_file ∷ big_endian ∷ device_list ∷ files ∷ steady ∷ given ∷ variable ∷ script_file ∷ devices ∷ steps ∷ shell ∷ word ∷ failures ∷ after ∷ limit ∷ names ∷ [])
 
 -- how many states may be searched, and the greatest number of them that can be allowed
 abbrev pub most_states : ℕ
@@ -160,7 +164,7 @@ flow = long_flag (codes "flow")
 
 abbrev pub endings : App
 endings = command (codes "endings")
-    (config ∷ image ∷ second ∷ text_file ∷ big_endian ∷ device_list ∷ steady ∷ given ∷ variable ∷ script_file ∷ devices ∷ steps ∷ shell ∷ states ∷ work ∷ memory ∷ flow ∷ names ∷ [])
+    (config ∷ image ∷ second ∷ text_file ∷ big_endian ∷ device_list ∷ files ∷ steady ∷ given ∷ variable ∷ script_file ∷ devices ∷ steps ∷ shell ∷ states ∷ work ∷ memory ∷ flow ∷ names ∷ [])
 
 -- how many device commands may fail in a run that `causes` looks at, and the greatest number of them that can be allowed
 abbrev pub most_cause_failures : ℕ
@@ -175,7 +179,7 @@ check = long_flag (codes "check")
 
 abbrev pub causes : App
 causes = command (codes "causes")
-    (config ∷ image ∷ second ∷ text_file ∷ big_endian ∷ device_list ∷ steady ∷ given ∷ variable ∷ script_file ∷ devices ∷ steps ∷ shell ∷ cause_failures ∷ check ∷ [])
+    (config ∷ image ∷ second ∷ text_file ∷ big_endian ∷ device_list ∷ files ∷ steady ∷ given ∷ variable ∷ script_file ∷ devices ∷ steps ∷ shell ∷ cause_failures ∷ check ∷ [])
 
 -- `--size N` and `-o FILE`, which each call of `image` needs, and `TEXT`
 abbrev pub size : Rule

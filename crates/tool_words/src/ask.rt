@@ -172,6 +172,8 @@ pub struct Inputs {
     pub taking: Taking,
     /// The path of the script that runs in place of a variable, if one is given.
     pub script: Option<String>,
+    /// The path of the folder of the files that the device list names, if one is given.
+    pub files: Option<String>,
 }
 
 /// Why the words that name what is read are refused.

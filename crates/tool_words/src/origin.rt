@@ -154,5 +154,6 @@ pub(crate) fn inputs_of(
         device_list,
         taking,
         script,
+        files: text_of(alloc, matches, "files")?,
     })
 }

@@ -57,6 +57,17 @@ pub const SCRIPT_FILE: Argument<'static> = Argument {
     help: "Script or script image, at most 1048576 bytes, in place of NAME [default: none]",
 };
 
+/// The option that names the folder of the files which the device list names.
+pub const FILES: Argument<'static> = Argument {
+    id: "files",
+    form: Form::Value,
+    letter: None,
+    alias: None,
+    required: false,
+    value: "FOLDER",
+    help: "Folder of the files that the list names, at most 1048576 bytes each [default: none]",
+};
+
 /// The flag for a checksum that is stored big-endian.
 pub const BIG_ENDIAN: Argument<'static> = Argument {
     id: "big-endian",

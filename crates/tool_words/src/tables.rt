@@ -5,7 +5,9 @@ use crate::notes::{
     CAUSES_NOTES, ENDINGS_NOTES, FW_PRINTENV_NOTES, FW_SETENV_NOTES, IMAGE_NOTES, INSPECT_NOTES,
     PRINTENV_NOTES, REHEARSE_NOTES, SETENV_NOTES,
 };
-use crate::shared::{BIG_ENDIAN, CONFIG, DEVICE_LIST, IMAGE, NAMES, SCRIPT_FILE, SECOND, TEXT};
+use crate::shared::{
+    BIG_ENDIAN, CONFIG, DEVICE_LIST, FILES, IMAGE, NAMES, SCRIPT_FILE, SECOND, TEXT,
+};
 use crate::subcommand::{Subcommand, Tool};
 use rehearse_terms::{RUN_DEVICES_MAX, STEPS_MAX};
 
@@ -239,13 +241,14 @@ const LIMIT: Argument<'static> = Argument {
     help: "At most N records, 1 to 4294967295 [default: all]",
 };
 
-const REHEARSE: [Argument<'static>; 18] = [
+const REHEARSE: [Argument<'static>; 19] = [
     CONFIG,
     IMAGE,
     SECOND,
     TEXT,
     BIG_ENDIAN,
     DEVICE_LIST,
+    FILES,
     STEADY,
     GIVEN,
     VARIABLE,
@@ -303,13 +306,14 @@ const FLOW: Argument<'static> = Argument {
     help: "Write the states as a graph, a line each",
 };
 
-const ENDINGS: [Argument<'static>; 18] = [
+const ENDINGS: [Argument<'static>; 19] = [
     CONFIG,
     IMAGE,
     SECOND,
     TEXT,
     BIG_ENDIAN,
     DEVICE_LIST,
+    FILES,
     STEADY,
     GIVEN,
     VARIABLE,
@@ -343,13 +347,14 @@ const CHECK: Argument<'static> = Argument {
     help: "Only what does not boot; status 1 if there is any",
 };
 
-const CAUSES: [Argument<'static>; 15] = [
+const CAUSES: [Argument<'static>; 16] = [
     CONFIG,
     IMAGE,
     SECOND,
     TEXT,
     BIG_ENDIAN,
     DEVICE_LIST,
+    FILES,
     STEADY,
     GIVEN,
     VARIABLE,

@@ -4,7 +4,7 @@ use Rattle.std.specs.Prelude.{Result}
 use Rattle.envimage.specs.Data.{Pair}
 use Rattle.envimage.specs.declared.image.ImageError.{ImageError}
 use Rattle.envimage.specs.declared.image.ImageError.TheVariants.{BadCrc}
-use Rattle.board_start.specs.Boards.{OfDevices, OfStart, board_of}
+use Rattle.board_start.specs.Boards.{OfDevices, OfStart, board_of, text_alone}
 use Rattle.board_start.specs.declared.start_error.StartError.TheVariants.{Alternatives, Name, NoAlternative, TooMany}
 use Rattle.device_list.specs.DeviceList.{Devices, all_steady, only}
 use Rattle.device_list.specs.DeviceLaws.{quiet}
@@ -25,7 +25,7 @@ stored = (codes "bootcmd", codes "load") ∷ (codes "p", codes "pro\\be") ∷ (c
 -- on a board of this shell, with this list, of which this alternative is named
 abbrev begins : Shell → (list : Text) → Option ℕ → (variable : Text) → Result Beginning NoBeginning
 begins shell list alternative variable =
-    with_image (Ok stored) shell (board_of list) (taking false alternative) variable None
+    with_image (Ok stored) shell (board_of (text_alone list)) (taking false alternative) variable None
 
 -- ---- refusals
 
@@ -40,7 +40,7 @@ abbrev too_many : Text
 too_many = codes "load x\ngiven a=1\ngiven a=2\ngiven a=3\ngiven a=4\ngiven a=5\ngiven a=6\ngiven a=7\ngiven a=8\ngiven b=1\ngiven b=2\ngiven b=3\ngiven b=4\ngiven b=5\ngiven b=6\ngiven b=7\ngiven b=8\ngiven b=9"
 
 -- the image is refused before the list
-image_first : with_image (Err BadCrc) Profile (board_of bad_line) (taking false None) (codes "bootcmd") None ≡ Err (OfImage BadCrc)
+image_first : with_image (Err BadCrc) Profile (board_of (text_alone bad_line)) (taking false None) (codes "bootcmd") None ≡ Err (OfImage BadCrc)
 image_first = refl
 
 -- a list with too many alternatives is refused before its first fault
@@ -95,11 +95,11 @@ given_as_it_is : begins Old2023 (codes "given a=1\\2") None (codes "bootcmd") �
 given_as_it_is = refl
 
 -- all of the list is steady if that is asked
-steady_if_asked : with_image (Ok stored) Profile (board_of (codes "load")) (taking true None) (codes "bootcmd") None ≡ Ok (record { environment = stored; devices = all_steady loads; text = None })
+steady_if_asked : with_image (Ok stored) Profile (board_of (text_alone (codes "load"))) (taking true None) (codes "bootcmd") None ≡ Ok (record { environment = stored; devices = all_steady loads; text = None })
 steady_if_asked = refl
 
 -- a text that is given goes behind those that run first
-given_text : with_image (Ok stored) Profile (board_of (codes "load\nbefore p")) (taking false None) (codes "boot.scr") (Some (codes "load")) ≡ Ok (record { environment = stored; devices = loads; text = Some (codes "run p\nload") })
+given_text : with_image (Ok stored) Profile (board_of (text_alone (codes "load\nbefore p"))) (taking false None) (codes "boot.scr") (Some (codes "load")) ≡ Ok (record { environment = stored; devices = loads; text = Some (codes "run p\nload") })
 given_text = refl
 
 -- ---- answers

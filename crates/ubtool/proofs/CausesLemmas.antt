@@ -13,41 +13,41 @@ use Rattle.ubtool.specs.declared.rehearsal_error.RehearsalError.TheVariants as r
 use Rattle.ubtool.proofs.CausesTurnLemmas.{broken-counted, image-untouched, never, rehearsal-untouched, start-untouched, untouched}
 use Rattle.ubtool.specs.RehearsingFiles.{LeavesOutput}
 use Rattle.tool_files.specs.Told.{Told}
-use Rattle.tool_steps.proofs.SourceLemmas.{only-read, so-of-sources}
+use Rattle.board_files.proofs.BoardLemmas.{only-read, so-of-board}
 use Rattle.ubtool.specs.CausesOfFiles.{TellsCausesFrom, TellsCausesOfCopies, causes_refusal, runs_asked}
 use Rattle.tool_steps.specs.Images.{copies}
 use Rattle.tool_images.specs.declared.fault.Fault.{Fault}
 use Rattle.tool_images.specs.declared.fault.Fault.TheVariants as fault
 use Rattle.tool_steps.specs.Faults.{IsScriptReadFault}
-use Rattle.tool_steps.specs.Sources.{IsUnread, ReadsSources}
+use Rattle.board_files.specs.BoardFiles.{IsNotRead, ReadsBoard, list_of}
 use Rattle.ubtool.specs.declared.fault.ProgramFault.TheVariants.{Shared}
-use Rattle.tool_steps.specs.declared.sources.Sources.{Sources}
+use Rattle.board_files.specs.declared.board_files.BoardFiles.{BoardFiles}
 
 -- ---- the causes of what was read
 
-module _ (order : ByteOrder) (inputs : InputsShown) (what : CausesAsk) (out out' : Sink) (sources : Sources) (x z : Told) (read : ReadsSources inputs x z (Ok sources)) where
-  from-files : (IsSo : Given → Type 0) → IsSo (given_by order (copies sources.images) sources.device_list.items inputs.taking (script_of sources) (runs_asked what)) → FromFiles order inputs (runs_asked what) x z IsSo
-  from-files IsSo so = so-of-sources inputs sources x z (λ copies bytes script. IsSo (given_by order copies bytes inputs.taking script (runs_asked what))) read so
+module _ (order : ByteOrder) (inputs : InputsShown) (what : CausesAsk) (out out' : Sink) (board : BoardFiles) (x z : Told) (read : ReadsBoard inputs x z (Ok board)) where
+  from-files : (IsSo : Given → Type 0) → IsSo (given_by order (copies board.images) (list_of board) inputs.taking (script_of board) (runs_asked what)) → FromFiles order inputs (runs_asked what) x z IsSo
+  from-files IsSo so = so-of-board inputs board x z (λ copies list script. IsSo (given_by order copies list inputs.taking script (runs_asked what))) read so
 
-  pub causes-found : (fine : Bool) → TellsCausesOfCopies (given_by order (copies sources.images) sources.device_list.items inputs.taking (script_of sources) (runs_asked what)) what.check out out' (Ok fine)
+  pub causes-found : (fine : Bool) → TellsCausesOfCopies (given_by order (copies board.images) (list_of board) inputs.taking (script_of board) (runs_asked what)) what.check out out' (Ok fine)
       → TellsCausesFrom order inputs what out out' x z (Ok fine)
   causes-found fine h = from-files (λ g. TellsCauses g what.check out out' fine) h
 
-  pub causes-refused : (error : RehearsalError) → TellsCausesOfCopies (given_by order (copies sources.images) sources.device_list.items inputs.taking (script_of sources) (runs_asked what)) what.check out out' (Err error)
+  pub causes-refused : (error : RehearsalError) → TellsCausesOfCopies (given_by order (copies board.images) (list_of board) inputs.taking (script_of board) (runs_asked what)) what.check out out' (Err error)
       → TellsCausesFrom order inputs what out out' x z (Err (causes_refusal what error))
   causes-refused (refused.Image error) h = from-files (λ g. RefusesCauses g what.check out out' (refused.Image error)) h
   causes-refused (refused.Rehearsal (rehearsal.DeviceList error)) h = from-files (λ g. RefusesCauses g what.check out out' (refused.Rehearsal (rehearsal.DeviceList error))) h
   causes-refused (refused.Rehearsal rehearsal.NoSuchVariable) h = (refl, from-files (λ g. RefusesCauses g what.check out out' (refused.Rehearsal rehearsal.NoSuchVariable)) h)
-  causes-refused (refused.Rehearsal rehearsal.NotARun) h = absurd (never (given_by order (copies sources.images) sources.device_list.items inputs.taking (script_of sources) (runs_asked what)) what.check out out' rehearsal.NotARun (λ g no. no) h)
-  causes-refused (refused.Rehearsal rehearsal.Write) h = absurd (never (given_by order (copies sources.images) sources.device_list.items inputs.taking (script_of sources) (runs_asked what)) what.check out out' rehearsal.Write (λ g no. no) h)
-  causes-refused (refused.Rehearsal rehearsal.Memory) h = absurd (never (given_by order (copies sources.images) sources.device_list.items inputs.taking (script_of sources) (runs_asked what)) what.check out out' rehearsal.Memory (λ g no. no) h)
-  causes-refused (refused.Rehearsal rehearsal.Failed) h = absurd (never (given_by order (copies sources.images) sources.device_list.items inputs.taking (script_of sources) (runs_asked what)) what.check out out' rehearsal.Failed (λ g no. no) h)
-  causes-refused (refused.Rehearsal rehearsal.States) h = absurd (never (given_by order (copies sources.images) sources.device_list.items inputs.taking (script_of sources) (runs_asked what)) what.check out out' rehearsal.States (λ g no. no) h)
-  causes-refused (refused.Rehearsal (rehearsal.Steps count)) h = absurd (never (given_by order (copies sources.images) sources.device_list.items inputs.taking (script_of sources) (runs_asked what)) what.check out out' (rehearsal.Steps count) (λ g no. no) h)
-  causes-refused (refused.Rehearsal (rehearsal.Bytes count)) h = absurd (never (given_by order (copies sources.images) sources.device_list.items inputs.taking (script_of sources) (runs_asked what)) what.check out out' (rehearsal.Bytes count) (λ g no. no) h)
+  causes-refused (refused.Rehearsal rehearsal.NotARun) h = absurd (never (given_by order (copies board.images) (list_of board) inputs.taking (script_of board) (runs_asked what)) what.check out out' rehearsal.NotARun (λ g no. no) h)
+  causes-refused (refused.Rehearsal rehearsal.Write) h = absurd (never (given_by order (copies board.images) (list_of board) inputs.taking (script_of board) (runs_asked what)) what.check out out' rehearsal.Write (λ g no. no) h)
+  causes-refused (refused.Rehearsal rehearsal.Memory) h = absurd (never (given_by order (copies board.images) (list_of board) inputs.taking (script_of board) (runs_asked what)) what.check out out' rehearsal.Memory (λ g no. no) h)
+  causes-refused (refused.Rehearsal rehearsal.Failed) h = absurd (never (given_by order (copies board.images) (list_of board) inputs.taking (script_of board) (runs_asked what)) what.check out out' rehearsal.Failed (λ g no. no) h)
+  causes-refused (refused.Rehearsal rehearsal.States) h = absurd (never (given_by order (copies board.images) (list_of board) inputs.taking (script_of board) (runs_asked what)) what.check out out' rehearsal.States (λ g no. no) h)
+  causes-refused (refused.Rehearsal (rehearsal.Steps count)) h = absurd (never (given_by order (copies board.images) (list_of board) inputs.taking (script_of board) (runs_asked what)) what.check out out' (rehearsal.Steps count) (λ g no. no) h)
+  causes-refused (refused.Rehearsal (rehearsal.Bytes count)) h = absurd (never (given_by order (copies board.images) (list_of board) inputs.taking (script_of board) (runs_asked what)) what.check out out' (rehearsal.Bytes count) (λ g no. no) h)
   causes-refused (refused.Start error) h = from-files (λ g. RefusesCauses g what.check out out' (refused.Start error)) h
   causes-refused refused.Write h = from-files (λ g. RefusesCauses g what.check out out' refused.Write) h
-  causes-refused refused.Memory h = (only-read inputs sources x z read, h)
+  causes-refused refused.Memory h = (only-read inputs board x z read, h)
 
 -- ---- an answer, by its clauses
 
@@ -77,7 +77,7 @@ leaves-refused g what out out' refused.Memory h = ap (λ (s : Sink). s.failures)
 
 -- ---- a read is refused
 
-pub unread : (order : ByteOrder) (inputs : InputsShown) (what : CausesAsk) (out : Sink) (old new : Told) (f : Fault) → IsScriptReadFault f → IsUnread inputs old new f → TellsCausesFrom order inputs what out out old new (Err (Shared f))
+pub unread : (order : ByteOrder) (inputs : InputsShown) (what : CausesAsk) (out : Sink) (old new : Told) (f : Fault) → IsScriptReadFault f → IsNotRead inputs old new f → TellsCausesFrom order inputs what out out old new (Err (Shared f))
 unread order inputs what out old new fault.Memory r h = (h.0, refl)
 unread order inputs what out old new (fault.Tool error) r h = absurd r
 unread order inputs what out old new f r h = h

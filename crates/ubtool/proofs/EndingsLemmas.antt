@@ -1,5 +1,5 @@
 -- Reporting how the runs of what was read end.
-use Rattle.std.proofs.Common.{◌≡◌, ℕ, Bool, refl, ap, List, IfOk, IfErr, Ok, Err}
+use Rattle.std.proofs.Common.{◌≡◌, ℕ, Bool, true, refl, ap, List, IfOk, IfErr, Ok, Err}
 use Rattle.std.specs.Prelude.{Result}
 use Rattle.output.specs.Sink.{Sink}
 use Rattle.envimage.specs.declared.image.ByteOrder.{ByteOrder}
@@ -14,37 +14,41 @@ use Rattle.ubtool.specs.declared.rehearsal_error.RehearsalError.TheVariants as r
 use Rattle.ubtool.proofs.EndingsTurnLemmas.{broken-counted, image-untouched, never, rehearsal-untouched, start-untouched, untouched}
 use Rattle.ubtool.specs.RehearsingFiles.{LeavesOutput}
 use Rattle.tool_files.specs.Told.{Told}
-use Rattle.tool_steps.proofs.SourceLemmas.{only-read, so-of-sources}
+use Rattle.board_files.proofs.BoardLemmas.{only-read, so-of-board}
 use Rattle.ubtool.specs.EndingsOfFiles.{TellsCopies, TellsFrom, all_asked, bytes_allowed, endings_refusal}
 use Rattle.tool_steps.specs.Images.{copies}
 use Rattle.tool_images.specs.declared.fault.Fault.{Fault}
 use Rattle.tool_images.specs.declared.fault.Fault.TheVariants as fault
 use Rattle.tool_steps.specs.Faults.{IsScriptReadFault}
-use Rattle.tool_steps.specs.Sources.{IsUnread, ReadsSources}
+use Rattle.board_files.specs.BoardFiles.{IsNotRead, ReadsBoard, list_of}
 use Rattle.ubtool.specs.declared.fault.ProgramFault.TheVariants.{Shared}
-use Rattle.tool_steps.specs.declared.sources.Sources.{Sources}
+use Rattle.board_files.specs.declared.board_files.BoardFiles.{BoardFiles}
 
 -- ---- the endings of what was read
 
-module _ (order : ByteOrder) (inputs : InputsShown) (what : EndingsAsk) (out out' : Sink) (sources : Sources) (x z : Told) (read : ReadsSources inputs x z (Ok sources)) where
-  from-files : (IsSo : Given → Type 0) → IsSo (given_by order (copies sources.images) sources.device_list.items inputs.taking (script_of sources) (all_asked what)) → FromFiles order inputs (all_asked what) x z IsSo
-  from-files IsSo so = so-of-sources inputs sources x z (λ copies bytes script. IsSo (given_by order copies bytes inputs.taking script (all_asked what))) read so
+module _ (order : ByteOrder) (inputs : InputsShown) (what : EndingsAsk) (out out' : Sink) (board : BoardFiles) (x z : Told) (read : ReadsBoard inputs x z (Ok board)) where
+  from-files : (IsSo : Given → Type 0) → IsSo (given_by order (copies board.images) (list_of board) inputs.taking (script_of board) (all_asked what)) → FromFiles order inputs (all_asked what) x z IsSo
+  from-files IsSo so = so-of-board inputs board x z (λ copies list script. IsSo (given_by order copies list inputs.taking script (all_asked what))) read so
 
-  pub tells-refused : (error : RehearsalError) → TellsCopies (given_by order (copies sources.images) sources.device_list.items inputs.taking (script_of sources) (all_asked what)) what.flow what.states what.work (bytes_allowed what) out out' (Err error)
+  pub tells-found : TellsCopies (given_by order (copies board.images) (list_of board) inputs.taking (script_of board) (all_asked what)) what.flow what.states what.work (bytes_allowed what) out out' (Ok tt)
+      → TellsFrom order inputs what out out' x z (Ok true)
+  tells-found h = (refl, from-files (λ g. TellsEndings g what.flow what.states (bytes_allowed what) out out') h)
+
+  pub tells-refused : (error : RehearsalError) → TellsCopies (given_by order (copies board.images) (list_of board) inputs.taking (script_of board) (all_asked what)) what.flow what.states what.work (bytes_allowed what) out out' (Err error)
       → TellsFrom order inputs what out out' x z (Err (endings_refusal what error))
   tells-refused (refused.Image error) h = from-files (λ g. RefusesEndings g what.flow what.states what.work (bytes_allowed what) out out' (refused.Image error)) h
   tells-refused (refused.Rehearsal (rehearsal.DeviceList error)) h = from-files (λ g. RefusesEndings g what.flow what.states what.work (bytes_allowed what) out out' (refused.Rehearsal (rehearsal.DeviceList error))) h
   tells-refused (refused.Rehearsal rehearsal.NoSuchVariable) h = (refl, from-files (λ g. RefusesEndings g what.flow what.states what.work (bytes_allowed what) out out' (refused.Rehearsal rehearsal.NoSuchVariable)) h)
-  tells-refused (refused.Rehearsal rehearsal.NotARun) h = absurd (never (given_by order (copies sources.images) sources.device_list.items inputs.taking (script_of sources) (all_asked what)) what.flow what.states what.work (bytes_allowed what) out out' rehearsal.NotARun (λ g no. no) h)
-  tells-refused (refused.Rehearsal rehearsal.Write) h = absurd (never (given_by order (copies sources.images) sources.device_list.items inputs.taking (script_of sources) (all_asked what)) what.flow what.states what.work (bytes_allowed what) out out' rehearsal.Write (λ g no. no) h)
-  tells-refused (refused.Rehearsal rehearsal.Memory) h = absurd (never (given_by order (copies sources.images) sources.device_list.items inputs.taking (script_of sources) (all_asked what)) what.flow what.states what.work (bytes_allowed what) out out' rehearsal.Memory (λ g no. no) h)
-  tells-refused (refused.Rehearsal rehearsal.Failed) h = absurd (never (given_by order (copies sources.images) sources.device_list.items inputs.taking (script_of sources) (all_asked what)) what.flow what.states what.work (bytes_allowed what) out out' rehearsal.Failed (λ g no. no) h)
+  tells-refused (refused.Rehearsal rehearsal.NotARun) h = absurd (never (given_by order (copies board.images) (list_of board) inputs.taking (script_of board) (all_asked what)) what.flow what.states what.work (bytes_allowed what) out out' rehearsal.NotARun (λ g no. no) h)
+  tells-refused (refused.Rehearsal rehearsal.Write) h = absurd (never (given_by order (copies board.images) (list_of board) inputs.taking (script_of board) (all_asked what)) what.flow what.states what.work (bytes_allowed what) out out' rehearsal.Write (λ g no. no) h)
+  tells-refused (refused.Rehearsal rehearsal.Memory) h = absurd (never (given_by order (copies board.images) (list_of board) inputs.taking (script_of board) (all_asked what)) what.flow what.states what.work (bytes_allowed what) out out' rehearsal.Memory (λ g no. no) h)
+  tells-refused (refused.Rehearsal rehearsal.Failed) h = absurd (never (given_by order (copies board.images) (list_of board) inputs.taking (script_of board) (all_asked what)) what.flow what.states what.work (bytes_allowed what) out out' rehearsal.Failed (λ g no. no) h)
   tells-refused (refused.Rehearsal rehearsal.States) h = from-files (λ g. RefusesEndings g what.flow what.states what.work (bytes_allowed what) out out' (refused.Rehearsal rehearsal.States)) h
   tells-refused (refused.Rehearsal (rehearsal.Steps count)) h = from-files (λ g. RefusesEndings g what.flow what.states what.work (bytes_allowed what) out out' (refused.Rehearsal (rehearsal.Steps count))) h
   tells-refused (refused.Rehearsal (rehearsal.Bytes count)) h = from-files (λ g. RefusesEndings g what.flow what.states what.work (bytes_allowed what) out out' (refused.Rehearsal (rehearsal.Bytes count))) h
   tells-refused (refused.Start error) h = from-files (λ g. RefusesEndings g what.flow what.states what.work (bytes_allowed what) out out' (refused.Start error)) h
   tells-refused refused.Write h = from-files (λ g. RefusesEndings g what.flow what.states what.work (bytes_allowed what) out out' refused.Write) h
-  tells-refused refused.Memory h = (only-read inputs sources x z read, h)
+  tells-refused refused.Memory h = (only-read inputs board x z read, h)
 
 -- ---- an answer, by its clauses
 
@@ -78,7 +82,7 @@ same-runs variable variable' bounds names names' v n = rw (v, n) refl
 
 -- ---- a read is refused
 
-pub unread : (order : ByteOrder) (inputs : InputsShown) (what : EndingsAsk) (out : Sink) (old new : Told) (f : Fault) → IsScriptReadFault f → IsUnread inputs old new f → TellsFrom order inputs what out out old new (Err (Shared f))
+pub unread : (order : ByteOrder) (inputs : InputsShown) (what : EndingsAsk) (out : Sink) (old new : Told) (f : Fault) → IsScriptReadFault f → IsNotRead inputs old new f → TellsFrom order inputs what out out old new (Err (Shared f))
 unread order inputs what out old new fault.Memory r h = (h.0, refl)
 unread order inputs what out old new (fault.Tool error) r h = absurd r
 unread order inputs what out old new f r h = h

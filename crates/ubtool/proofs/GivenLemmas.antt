@@ -7,6 +7,7 @@ use Rattle.tool_steps.specs.PrintingFiles.{first_bytes}
 use Rattle.tool_steps.specs.declared.images.Images.{Images}
 use Rattle.tool_steps.specs.declared.read.StoredCopy.{StoredCopy}
 use Rattle.tool_words.specs.declared.ask.Taking.{Taking}
+use Rattle.board_start.specs.Boards.{ListRead}
 use Rattle.ubtool.specs.Given.{given}
 
 pub first-bytes : (images : Images) → images.first.bytes.items ≡ first_bytes (copies images)
@@ -16,6 +17,6 @@ first-bytes images = by images.first images.second
     by x None = refl
     by x (Some y) = refl
 
-pub given-same : (order : ByteOrder) (first first' : List ℕ) (second second' : Option (List ℕ)) (list list' : List ℕ) (taking : Taking) (text text' : Option (List ℕ)) (asking asking' : Asking) → first ≡ first' → second ≡ second' → list ≡ list' → text ≡ text' → asking ≡ asking'
+pub given-same : (order : ByteOrder) (first first' : List ℕ) (second second' : Option (List ℕ)) (list list' : ListRead) (taking : Taking) (text text' : Option (List ℕ)) (asking asking' : Asking) → first ≡ first' → second ≡ second' → list ≡ list' → text ≡ text' → asking ≡ asking'
     → given order first second list taking text asking ≡ given order first' second' list' taking text' asking'
 given-same order first first' second second' list list' taking text text' asking asking' f s l t a = rw (f, s, l, t, a) refl

@@ -18,14 +18,14 @@ use Rattle.tool_files.specs.Told.{Told}
 use Rattle.ubtool.specs.declared.rehearsal_error.RehearsalError.{RehearsalError}
 use Rattle.rehearse_rules.specs.declared.rehearse_error.RehearseError.TheVariants as rehearsal
 use Rattle.ubtool.specs.declared.rehearsal_error.RehearsalError.TheVariants as refused
-use Rattle.tool_steps.proofs.SourceLemmas.{so-of-sources}
+use Rattle.board_files.proofs.BoardLemmas.{so-of-board}
 use Rattle.tool_steps.specs.Images.{copies}
-use Rattle.tool_steps.specs.declared.sources.Sources.{Sources}
+use Rattle.board_files.specs.declared.board_files.BoardFiles.{BoardFiles}
 use Rattle.ubtool.specs.RehearsingFiles.{RehearsesCopies, RehearsesFrom, RunsOut, no_run_of, refusal_of}
 use Rattle.tool_images.specs.declared.fault.Fault.{Fault}
 use Rattle.tool_images.specs.declared.fault.Fault.TheVariants as fault
 use Rattle.tool_steps.specs.Faults.{IsScriptReadFault}
-use Rattle.tool_steps.specs.Sources.{IsUnread, ReadsSources}
+use Rattle.board_files.specs.BoardFiles.{IsNotRead, ReadsBoard, list_of}
 use Rattle.ubtool.specs.declared.fault.ProgramFault.TheVariants.{Shared}
 use Rattle.rehearse_terms.specs.WantedShown.{wanted_word}
 
@@ -34,11 +34,11 @@ asking_made variable bounds wanted names = record { variable = variable; bounds 
 
 -- ---- the rehearsal of what was read
 
-module _ (order : ByteOrder) (inputs : InputsShown) (what : RehearseAsk) (out out' : Sink) (sources : Sources) (x z : Told) (read : ReadsSources inputs x z (Ok sources)) where
-  from-files : (IsSo : Given → Type 0) → IsSo (given_by order (copies sources.images) sources.device_list.items inputs.taking (script_of sources) (asking_of what)) → FromFiles order inputs (asking_of what) x z IsSo
-  from-files IsSo so = so-of-sources inputs sources x z (λ copies bytes script. IsSo (given_by order copies bytes inputs.taking script (asking_of what))) read so
+module _ (order : ByteOrder) (inputs : InputsShown) (what : RehearseAsk) (out out' : Sink) (board : BoardFiles) (x z : Told) (read : ReadsBoard inputs x z (Ok board)) where
+  from-files : (IsSo : Given → Type 0) → IsSo (given_by order (copies board.images) (list_of board) inputs.taking (script_of board) (asking_of what)) → FromFiles order inputs (asking_of what) x z IsSo
+  from-files IsSo so = so-of-board inputs board x z (λ copies list script. IsSo (given_by order copies list inputs.taking script (asking_of what))) read so
 
-  pub rehearses-found : (finish : Finish) → RehearsesCopies (given_by order (copies sources.images) sources.device_list.items inputs.taking (script_of sources) (asking_of what)) out out' (Ok finish) → RehearsesFrom order inputs what out out' x z (Ok true)
+  pub rehearses-found : (finish : Finish) → RehearsesCopies (given_by order (copies board.images) (list_of board) inputs.taking (script_of board) (asking_of what)) out out' (Ok finish) → RehearsesFrom order inputs what out out' x z (Ok true)
   rehearses-found finish h = (refl, from-files (λ g. (f : Finish) × Rehearses g out out' f) (finish, h))
 
   no-run : (given : Option (String Global)) → wanted_word what.wanted ≡ given
@@ -46,7 +46,7 @@ module _ (order : ByteOrder) (inputs : InputsShown) (what : RehearseAsk) (out ou
   no-run None is h = h
   no-run (Some word) is h = (ap (option_map path_form) (sym is), h)
 
-  pub rehearses-refused : (error : RehearsalError) → RehearsesCopies (given_by order (copies sources.images) sources.device_list.items inputs.taking (script_of sources) (asking_of what)) out out' (Err error)
+  pub rehearses-refused : (error : RehearsalError) → RehearsesCopies (given_by order (copies board.images) (list_of board) inputs.taking (script_of board) (asking_of what)) out out' (Err error)
       → RehearsesFrom order inputs what out out' x z (Err (refusal_of what error))
   rehearses-refused (refused.Image error) h = from-files (λ g. Refuses g out out' (refused.Image error)) h
   rehearses-refused (refused.Rehearsal (rehearsal.DeviceList error)) h = from-files (λ g. Refuses g out out' (refused.Rehearsal (rehearsal.DeviceList error))) h
@@ -80,7 +80,7 @@ copies-rehearsed g out out' (Err refused.Memory) ok (inr h) = inr h
 
 -- ---- a read is refused
 
-pub unread : (order : ByteOrder) (inputs : InputsShown) (what : RehearseAsk) (out : Sink) (old new : Told) (f : Fault) → IsScriptReadFault f → IsUnread inputs old new f → RehearsesFrom order inputs what out out old new (Err (Shared f))
+pub unread : (order : ByteOrder) (inputs : InputsShown) (what : RehearseAsk) (out : Sink) (old new : Told) (f : Fault) → IsScriptReadFault f → IsNotRead inputs old new f → RehearsesFrom order inputs what out out old new (Err (Shared f))
 unread order inputs what out old new fault.Memory r h = inl (h.0, refl)
 unread order inputs what out old new (fault.Tool error) r h = absurd r
 unread order inputs what out old new f r h = h

@@ -2,7 +2,7 @@
 use Rattle.std.proofs.Common.{◌≡◌, ℕ, [], ◌∷◌, ◌++◌, length, true, Option, Some, None, Ok, Err, codes, refl}
 use Rattle.envimage.specs.declared.image.ByteOrder.TheVariants.{Little}
 use Rattle.envimage.specs.declared.image.ImageError.{ImageError}
-use Rattle.board_start.specs.Boards.{OfDevices, OfStart}
+use Rattle.board_start.specs.Boards.{OfDevices, OfStart, text_alone}
 use Rattle.board_start.specs.Start.{Start, no_start}
 use Rattle.board_start.specs.declared.start_error.StartError.TheVariants.{Alternatives, Name, NoAlternative, TooMany}
 use Rattle.device_list.specs.declared.devices_error.DevicesError.{DevicesError}
@@ -63,7 +63,7 @@ abbrev steadily : Option ℕ → Taking
 steadily alternative = record { steady = true; alternative = alternative }
 
 abbrev by_list : (list : Text) → Option ℕ → Asking → Given
-by_list list alternative asking = given Little [] None list (steadily alternative) None asking
+by_list list alternative asking = given Little [] None (text_alone list) (steadily alternative) None asking
 
 -- its number is named, and all else is as it was given
 named_second : (asking : Asking) → named (by_list (codes "load") None asking) 2 ≡ by_list (codes "load") (Some 2) asking

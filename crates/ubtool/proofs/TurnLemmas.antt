@@ -20,7 +20,7 @@ all-and-one P (y ∷ xs) x all one = (all.0, all-and-one P xs x all.1 one)
 
 module _ {A : Type 0} (IsPart : Given → A → Type 0) (lines_in : A → Text) (g : Given) where
   -- none yet
-  pub none_yet : (start : Start) → start_of g.device_list ≡ Ok start → AreInTurn IsPart lines_in g 0 [] []
+  pub none_yet : (start : Start) → start_of g.device_list.text ≡ Ok start → AreInTurn IsPart lines_in g 0 [] []
   none_yet start is = record { start = start; start_is = is; each = refl; so = tt; whole = refl }
 
   -- and one more

@@ -8,6 +8,7 @@ use Rattle.tool_words.specs.Asked.{InputsShown}
 use Rattle.tool_words.specs.declared.ask.CausesAsk.{CausesAsk}
 use Rattle.ubtool.specs.CausesOfImages.{RefusesCauses, TellsCauses}
 use Rattle.tool_images.specs.FileFaults.{path_form}
+use Rattle.board_files.specs.BoardFiles.{IsNotRead}
 use Rattle.ubtool.specs.Given.{FromFiles, Given, all_runs}
 use Rattle.rehearse_rules.specs.declared.rehearse_error.RehearseError.TheVariants as rehearsal
 use Rattle.tool_images.specs.declared.error.ToolError.TheVariants as tool
@@ -20,7 +21,6 @@ use Rattle.ubtool.specs.declared.rehearsal_error.RehearsalError.TheVariants as r
 use Rattle.tool_images.specs.declared.fault.Fault.TheVariants.{Memory, Tool}
 use Rattle.tool_files.specs.CallOrder.{OnlyReads}
 use Rattle.tool_files.specs.Told.{Told}
-use Rattle.tool_steps.specs.Sources.{IsUnread}
 
 -- what is asked for: the runs of the variable within its bounds
 abbrev pub runs_asked : CausesAsk → Asking
@@ -53,7 +53,7 @@ TellsCausesFrom order inputs what out out' old new (Err (Shared (Tool tool.Write
     RefusesCauses g what.check out out' refused.Write)
 TellsCausesFrom order inputs what out out' old new (Err (Shared (Tool error))) = ⊥
 TellsCausesFrom order inputs what out out' old new (Err (Shared fault)) =
-    IsUnread inputs old new fault
+    IsNotRead inputs old new fault
 TellsCausesFrom order inputs what out out' old new (Err (NoSuchVariable name)) =
     (name ≡ path_form what.name) × FromFiles order inputs (runs_asked what) old new (λ g.
     RefusesCauses g what.check out out' (refused.Rehearsal rehearsal.NoSuchVariable))

@@ -9,6 +9,7 @@ use Rattle.envimage.specs.declared.image.ByteOrder.{ByteOrder}
 use Rattle.board_start.specs.Boards.{OfDevices, OfStart}
 use Rattle.ubtool.specs.Beginning.{OfBoard, OfImage, beginning_of}
 use Rattle.rehearse_terms.specs.Asking.{Asking}
+use Rattle.board_start.specs.Boards.{ListRead}
 use Rattle.rehearse_terms.specs.State.{Text}
 use Rattle.rehearse_causes.specs.CauseLines.{causes_text, is_fine}
 use Rattle.rehearse_causes.specs.TellingCauses.{WithCauses, source_of}
@@ -26,7 +27,7 @@ use Rattle.ubtool.specs.declared.rehearsal_error.RehearsalError.TheVariants.{Ima
 abbrev pub runs_by : CausesAsk → Asking
 runs_by ask = all_runs ask.name.now ask.bounds []
 
-abbrev pub causes_given : ByteOrder → List ℕ → Option (List ℕ) → Text → (taking : Taking) → CausesAsk → Given
+abbrev pub causes_given : ByteOrder → List ℕ → Option (List ℕ) → ListRead → (taking : Taking) → CausesAsk → Given
 causes_given order first second device_list taking ask =
     given order first second device_list taking (source_of ask).given (runs_by ask)
 

@@ -8,6 +8,7 @@ use Rattle.tool_words.specs.Asked.{InputsShown}
 use Rattle.tool_words.specs.declared.ask.EndingsAsk.{EndingsAsk}
 use Rattle.ubtool.specs.EndingsOfImages.{RefusesEndings, TellsEndings}
 use Rattle.tool_images.specs.FileFaults.{path_form}
+use Rattle.board_files.specs.BoardFiles.{IsNotRead}
 use Rattle.ubtool.specs.Given.{FromFiles, Given, all_runs}
 use Rattle.rehearse_rules.specs.declared.rehearse_error.RehearseError.TheVariants as rehearsal
 use Rattle.tool_images.specs.declared.error.ToolError.TheVariants as tool
@@ -20,7 +21,6 @@ use Rattle.ubtool.specs.declared.rehearsal_error.RehearsalError.TheVariants as r
 use Rattle.tool_images.specs.declared.fault.Fault.TheVariants.{Memory, Tool}
 use Rattle.tool_files.specs.CallOrder.{OnlyReads}
 use Rattle.tool_files.specs.Told.{Told}
-use Rattle.tool_steps.specs.Sources.{IsUnread}
 
 -- what is asked for: all runs of the variable, within its bounds, and the values of variables
 abbrev pub all_asked : EndingsAsk → Asking
@@ -56,7 +56,7 @@ TellsFrom order inputs what out out' old new (Err (Shared (Tool tool.Write))) =
     FromFiles order inputs (all_asked what) old new (λ g.
     RefusesEndings g what.flow what.states what.work (bytes_allowed what) out out' refused.Write)
 TellsFrom order inputs what out out' old new (Err (Shared (Tool error))) = ⊥
-TellsFrom order inputs what out out' old new (Err (Shared fault)) = IsUnread inputs old new fault
+TellsFrom order inputs what out out' old new (Err (Shared fault)) = IsNotRead inputs old new fault
 TellsFrom order inputs what out out' old new (Err (NoSuchVariable name)) =
     (name ≡ path_form what.name) × FromFiles order inputs (all_asked what) old new (λ g.
     RefusesEndings g what.flow what.states what.work (bytes_allowed what) out out' (refused.Rehearsal rehearsal.NoSuchVariable))

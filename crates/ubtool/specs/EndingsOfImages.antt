@@ -8,6 +8,7 @@ use Rattle.envimage.specs.declared.image.ByteOrder.{ByteOrder}
 use Rattle.board_start.specs.Boards.{OfDevices, OfStart}
 use Rattle.ubtool.specs.Beginning.{OfBoard, OfImage, beginning_of}
 use Rattle.rehearse_terms.specs.Asking.{Asking}
+use Rattle.board_start.specs.Boards.{ListRead}
 use Rattle.rehearse_terms.specs.State.{Text}
 use Rattle.rehearse_endings.specs.TellingEndings.{AreLines, HasMoreBytes, HasMoreStates, HasMoreSteps, names_of, source_of}
 use Rattle.rehearse_endings.specs.declared.telling.EndingsAsk.{EndingsAsk}
@@ -25,7 +26,7 @@ use Rattle.ubtool.specs.declared.rehearsal_error.RehearsalError.TheVariants.{Ima
 abbrev pub runs_by : EndingsAsk → Asking
 runs_by ask = all_runs ask.name.now ask.bounds (names_of ask)
 
-abbrev pub endings_given : ByteOrder → List ℕ → Option (List ℕ) → Text → (taking : Taking) → EndingsAsk → Given
+abbrev pub endings_given : ByteOrder → List ℕ → Option (List ℕ) → ListRead → (taking : Taking) → EndingsAsk → Given
 endings_given order first second device_list taking ask =
     given order first second device_list taking (source_of ask).given (runs_by ask)
 

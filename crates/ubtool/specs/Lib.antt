@@ -1,5 +1,6 @@
 pub mod Faults
 pub mod Given
+pub mod ListsShown
 pub mod BoardEnvironment
 pub mod Beginning
 pub mod Headline

@@ -9,6 +9,7 @@ use Rattle.tool_words.specs.Asked.{InputsShown}
 use Rattle.tool_words.specs.declared.ask.RehearseAsk.{RehearseAsk}
 use Rattle.rehearse_terms.specs.WantedShown.{wanted_word}
 use Rattle.tool_images.specs.FileFaults.{path_form}
+use Rattle.board_files.specs.BoardFiles.{IsNotRead}
 use Rattle.ubtool.specs.Given.{FromFiles, Given}
 use Rattle.ubtool.specs.Headline.{LeavesRecords, Rehearses}
 use Rattle.tool_files.specs.CallOrder.{OnlyReads}
@@ -23,7 +24,6 @@ use Rattle.ubtool.specs.declared.fault.ProgramFault.TheVariants.{NoSuchVariable,
 use Rattle.ubtool.specs.declared.rehearsal_error.RehearsalError.{RehearsalError}
 use Rattle.ubtool.specs.declared.rehearsal_error.RehearsalError.TheVariants as refused
 use Rattle.tool_images.specs.declared.fault.Fault.TheVariants.{Memory, Tool}
-use Rattle.tool_steps.specs.Sources.{IsUnread}
 
 -- how a refusal is reported: a variable that is not set by its name, and a word that spells no run as it was given
 abbrev pub no_run_of : Option (String Global) → ProgramFault
@@ -62,7 +62,7 @@ RehearsesFrom order inputs what out out' old new (Err (Shared (Tool tool.Write))
     FromFiles order inputs (asking_of what) old new (λ g. Refuses g out out' refused.Write)
 RehearsesFrom order inputs what out out' old new (Err (Shared (Tool error))) = ⊥
 RehearsesFrom order inputs what out out' old new (Err (Shared fault)) =
-    IsUnread inputs old new fault
+    IsNotRead inputs old new fault
 RehearsesFrom order inputs what out out' old new (Err (NoSuchVariable name)) =
     (name ≡ path_form what.name)
     × FromFiles order inputs (asking_of what) old new (λ g.

@@ -30,7 +30,7 @@ headed start place (b ∷ lines) = given_line start place ++ b ∷ lines
 pub record AreInTurn {A : Type 0} (IsPart : Given → A → Type 0) (lines_in : A → Text) (g : Given) (count : ℕ)
     (parts : List A) (text : Text) : Type 0 where
   pub start : Start
-  pub start_is : start_of g.device_list ≡ Ok start
+  pub start_is : start_of g.device_list.text ≡ Ok start
   pub each : length parts ≡ count
   pub so : AllByRecursion (λ p. IsPart (named g (p.0 + 1)) p.1) (enumerate_from 0 parts)
   pub whole : text ≡ flat_map (λ p. headed start p.0 (lines_in p.1)) (enumerate_from 0 parts)

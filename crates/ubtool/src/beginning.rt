@@ -3,26 +3,31 @@ ghost use Rattle.std.specs.Prelude.{◌≡◌, Ok};
 ghost use Rattle.std.specs.Option.{option_copied};
 ghost use Rattle.board_start.specs.Boards.{board_of};
 ghost use Rattle.board_start.specs.BoardShown.{board_shown};
+ghost use Rattle.board_start.specs.StartAnswers.{IsBoard};
 ghost use Rattle.device_list.specs.DeviceList.{steady_if};
 ghost use Rattle.text.specs.TextsShown.{option_bytes};
 ghost use Rattle.tool_images.specs.PrintingImages.{environment_in};
 ghost use Rattle.ubtool.specs.Beginning.{Begins, with_board, with_image};
+ghost use Rattle.ubtool.specs.ListsShown.{list_shown};
 
 use crate::board_environment::env_of_board;
 use crate::rehearsal_error::RehearsalError;
-use board_start::{Begun, Board};
-use device_list::Devices;
+use board_files::copied_texts;
+use board_start::{Begun, Board, BoardError};
+use device_list::{Devices, FileTexts};
 use envimage::ByteOrder;
 use envtools::Env;
 use rehearse_terms::Shell;
 use std::alloc::Global;
 use tool_words::Taking;
 
-/// The text of a device list, and how it is taken.
+/// A device list, and how it is taken.
 #[derive(Clone, Copy)]
 pub struct DeviceText<'a> {
     /// The text.
     pub text: &'a [u8],
+    /// The texts of the files that it names.
+    pub files: &'a FileTexts,
     /// How it is taken.
     pub taking: Taking,
 }
@@ -73,6 +78,16 @@ fn begin_on(
     }
 }
 
+/// The board of a device list, whose lines may name its files. Errors: those of `Board::parse`.
+fn board_of(alloc: Global, list: &DeviceText<'_>) -> Result<Board, BoardError>
+    ensures { IsBoard (board_of (list_shown list.now)) result }
+{
+    let Ok(files) = copied_texts(list.files) else {
+        return Err(BoardError::Memory);
+    };
+    Board::parse(alloc, list.text, files)
+}
+
 /// What a rehearsal begins with on the board of this list, in this environment. Errors in order: `Start` with
 /// `TooMany`; `Rehearsal` with the first fault of the device list; `Start` for another reason; `Memory`
 /// wherever a growth is made.
@@ -84,9 +99,9 @@ fn begin_in(
     text: Option<&[u8]>,
 ) -> Result<Beginning, RehearsalError>
     ensures { Begins (Ok env)
-        (with_board (board_of list.entry.text.now) list.entry.taking env name.now (option_bytes text.entry)) result }
+        (with_board (board_of (list_shown list.entry)) list.entry.taking env name.now (option_bytes text.entry)) result }
 {
-    match Board::parse(alloc, list.text) {
+    match board_of(alloc, &list) {
         Ok(board) => begin_on(board, env, list.taking, name, text),
         Err(error) => Err(error.into()),
     }
@@ -107,7 +122,7 @@ pub(crate) fn begin(
 ) -> Result<Beginning, RehearsalError>
     ensures { Begins (environment_in order first.now (option_copied second.entry))
         (with_image (environment_in order first.now (option_copied second.entry)) shell
-        (board_of list.entry.text.now) list.entry.taking name.now (option_bytes text.entry)) result }
+        (board_of (list_shown list.entry)) list.entry.taking name.now (option_bytes text.entry)) result }
 {
     match env_of_board(alloc, first, second, order, shell) {
         Ok(env) => begin_in(alloc, env, list, name, text),

@@ -1,6 +1,7 @@
 //! `causes`, from files to the lines.
 ghost use Rattle.std.specs.Prelude.{◌≡◌};
 ghost use Rattle.tool_files.specs.Told.{IfTold};
+ghost use Rattle.board_files.specs.BoardFiles.{list_of};
 ghost use Rattle.ubtool.specs.CausesOfFiles.{TellsCausesFrom, TellsCausesOfCopies, causes_refusal, runs_asked};
 ghost use Rattle.ubtool.specs.Given.{given_by, script_of};
 ghost use Rattle.ubtool.specs.Faults.{CountsShared};
@@ -13,13 +14,13 @@ use crate::fault::ProgramFault;
 use crate::image_causes::causes_bytes;
 use crate::rehearsal_error::RehearsalError;
 use crate::source_bytes::bytes_of;
+use board_files::{BoardFiles, read_board};
 use envimage::ByteOrder;
 use output::Out;
 use rehearse_rules::RehearseError;
 use std::alloc::Global;
 use tool_files::Files;
 use tool_images::WordForm;
-use tool_steps::{Sources, read_sources};
 use tool_words::{CausesAsk, Inputs, Taking};
 
 /// How a refusal of the causes is reported.
@@ -37,19 +38,20 @@ fn refusal_of(error: RehearsalError, what: CausesAsk) -> ProgramFault
 /// Reports what has to fail for each ending of what was read.
 fn causes_of_sources<O: Out>(
     alloc: Global,
-    sources: &Sources,
+    board: &BoardFiles,
     taking: Taking,
     order: ByteOrder,
     what: &CausesAsk,
     out: &mut O,
 ) -> Result<bool, RehearsalError>
-    ensures { TellsCausesOfCopies (given_by order (copies sources.now.images)
-        sources.now.device_list.items taking (script_of sources.now) (runs_asked what.now)) what.now.check
+    ensures { TellsCausesOfCopies (given_by order (copies board.now.images)
+        (list_of board.now) taking (script_of board.now) (runs_asked what.now)) what.now.check
         (O.sink out.old) (O.sink out.new) result }
 {
-    let bytes = bytes_of(sources);
+    let bytes = bytes_of(board);
     let list = DeviceText {
         text: bytes.device_list,
+        files: bytes.files,
         taking,
     };
     let ask = rehearse_causes::CausesAsk {
@@ -79,8 +81,8 @@ pub fn causes<F: Files, O: Out>(
     ensures output { LeavesOutput result (O.sink out.old) (O.sink out.new) }
 {
     let taking = inputs.taking;
-    let sources = read_sources(alloc, files, inputs)?;
-    match causes_of_sources(alloc, &sources, taking, order, &what, out) {
+    let board = read_board(alloc, files, inputs)?;
+    match causes_of_sources(alloc, &board, taking, order, &what, out) {
         Ok(fine) => Ok(fine),
         Err(error) => Err(refusal_of(error, what)),
     }

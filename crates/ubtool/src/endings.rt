@@ -1,6 +1,7 @@
 //! `endings`, from files to the lines.
 ghost use Rattle.std.specs.Prelude.{◌≡◌};
 ghost use Rattle.tool_files.specs.Told.{IfTold};
+ghost use Rattle.board_files.specs.BoardFiles.{list_of};
 ghost use Rattle.ubtool.specs.EndingsOfFiles.{TellsCopies, TellsFrom, all_asked, bytes_allowed, endings_refusal};
 ghost use Rattle.ubtool.specs.Given.{given_by, script_of};
 ghost use Rattle.ubtool.specs.Faults.{CountsShared};
@@ -13,13 +14,14 @@ use crate::fault::ProgramFault;
 use crate::image_endings::endings_bytes;
 use crate::rehearsal_error::RehearsalError;
 use crate::source_bytes::bytes_of;
+use board_files::{BoardFiles, read_board};
 use envimage::ByteOrder;
 use output::Out;
 use rehearse_rules::RehearseError;
 use std::alloc::Global;
 use tool_files::Files;
 use tool_images::WordForm;
-use tool_steps::{Sources, read_sources, slices_of};
+use tool_steps::slices_of;
 use tool_words::{EndingsAsk, Inputs, Taking};
 
 /// How many bytes the states may count together.
@@ -44,22 +46,23 @@ fn refusal_of(error: RehearsalError, what: EndingsAsk) -> ProgramFault
 /// Reports how the runs of what was read end.
 fn endings_of_sources<O: Out>(
     alloc: Global,
-    sources: &Sources,
+    board: &BoardFiles,
     taking: Taking,
     order: ByteOrder,
     what: &EndingsAsk,
     out: &mut O,
 ) -> Result<(), RehearsalError>
-    ensures { TellsCopies (given_by order (copies sources.now.images)
-        sources.now.device_list.items taking (script_of sources.now) (all_asked what.now)) what.now.flow what.now.states what.now.work (bytes_allowed what.now)
+    ensures { TellsCopies (given_by order (copies board.now.images)
+        (list_of board.now) taking (script_of board.now) (all_asked what.now)) what.now.flow what.now.states what.now.work (bytes_allowed what.now)
         (O.sink out.old) (O.sink out.new) result }
 {
     let Ok(names) = slices_of(alloc, &what.names) else {
         return Err(RehearsalError::Memory);
     };
-    let bytes = bytes_of(sources);
+    let bytes = bytes_of(board);
     let list = DeviceText {
         text: bytes.device_list,
+        files: bytes.files,
         taking,
     };
     let ask = rehearse_endings::EndingsAsk {
@@ -93,8 +96,8 @@ pub fn endings<F: Files, O: Out>(
     ensures output { LeavesOutput result (O.sink out.old) (O.sink out.new) }
 {
     let taking = inputs.taking;
-    let sources = read_sources(alloc, files, inputs)?;
-    match endings_of_sources(alloc, &sources, taking, order, &what, out) {
+    let board = read_board(alloc, files, inputs)?;
+    match endings_of_sources(alloc, &board, taking, order, &what, out) {
         Ok(()) => Ok(true),
         Err(error) => Err(refusal_of(error, what)),
     }

@@ -2,6 +2,7 @@
 ghost use Rattle.std.specs.Prelude.{◌≡◌, ◌&&◌, IfOk, IfErr, Ok};
 ghost use Rattle.std.specs.Option.{option_copied};
 ghost use Rattle.board_start.specs.Start.{start_of};
+ghost use Rattle.ubtool.specs.ListsShown.{list_shown};
 ghost use Rattle.ubtool.specs.Beginning.{StartsWith};
 ghost use Rattle.ubtool.specs.Given.{Given};
 ghost use Rattle.ubtool.specs.CausesOfImages.{AreAllCauses, AreCausesOf, LacksCauses, RefusesCauses, RefusesOne, RefusesTurn, TellsCauses, TellsOne, causes_given, runs_by};
@@ -71,11 +72,11 @@ fn causes_of_one<O: Out>(
     out: &mut O,
 ) -> Result<bool, RehearsalError>
     ensures ok { IfOk result (λ fine. TellsOne
-        (causes_given order first.now (option_copied second.entry) list.entry.text.now list.entry.taking ask.now)
+        (causes_given order first.now (option_copied second.entry) (list_shown list.entry) list.entry.taking ask.now)
         ask.now.check (O.sink out.old) (O.sink out.new) fine) }
     ensures err { IfErr result
         (λ e. RefusesOne (causes_given order first.now (option_copied second.entry)
-        list.entry.text.now list.entry.taking ask.now) ask.now.check (O.sink out.old) (O.sink out.new) e) }
+        (list_shown list.entry) list.entry.taking ask.now) ask.now.check (O.sink out.old) (O.sink out.new) e) }
 {
     let shell = ask.bounds.shell();
     match begin(alloc, first, second, order, shell, list, ask.name, ask.text) {
@@ -99,10 +100,10 @@ fn lines_of_one(
     ask: &CausesAsk<'_>,
 ) -> Result<(Vec<u8>, bool), RehearsalError>
     ensures ok { IfOk result (λ part. AreCausesOf ask.now.check
-        (causes_given order first.now (option_copied second.entry) list.entry.text.now list.entry.taking ask.now)
+        (causes_given order first.now (option_copied second.entry) (list_shown list.entry) list.entry.taking ask.now)
         (part.0.items, part.1)) }
     ensures err { IfErr result (λ e. LacksCauses
-        (causes_given order first.now (option_copied second.entry) list.entry.text.now list.entry.taking ask.now) e) }
+        (causes_given order first.now (option_copied second.entry) (list_shown list.entry) list.entry.taking ask.now) e) }
 {
     let mut lines = Over::new(Vec::new(alloc));
     match causes_of_one(alloc, first, second, order, list, ask, &mut lines) {
@@ -133,10 +134,10 @@ fn lines_by_start(
 ) -> Result<(Vec<u8>, bool), RehearsalError>
     requires { start_of list.text.now ≡ Ok start.now }
     ensures ok { IfOk result (λ all. AreAllCauses
-        (causes_given order first.now (option_copied second.entry) list.entry.text.now list.entry.taking ask.now)
+        (causes_given order first.now (option_copied second.entry) (list_shown list.entry) list.entry.taking ask.now)
         ask.now.check count (all.0.items, all.1)) }
     ensures err { IfErr result (λ e. RefusesTurn
-        (causes_given order first.now (option_copied second.entry) list.entry.text.now list.entry.taking ask.now)
+        (causes_given order first.now (option_copied second.entry) (list_shown list.entry) list.entry.taking ask.now)
         ask.now.check count e) }
 {
     let mut text = Vec::new(alloc);
@@ -165,10 +166,10 @@ fn lines_in_turn(
     count: u32,
 ) -> Result<(Vec<u8>, bool), RehearsalError>
     ensures ok { IfOk result (λ all. AreAllCauses
-        (causes_given order first.now (option_copied second.entry) list.entry.text.now list.entry.taking ask.now)
+        (causes_given order first.now (option_copied second.entry) (list_shown list.entry) list.entry.taking ask.now)
         ask.now.check count (all.0.items, all.1)) }
     ensures err { IfErr result (λ e. RefusesTurn
-        (causes_given order first.now (option_copied second.entry) list.entry.text.now list.entry.taking ask.now)
+        (causes_given order first.now (option_copied second.entry) (list_shown list.entry) list.entry.taking ask.now)
         ask.now.check count e) }
 {
     let start = start_of(alloc, list)?;
@@ -198,11 +199,11 @@ pub fn causes_bytes<O: Out>(
     out: &mut O,
 ) -> Result<bool, RehearsalError>
     ensures ok { IfOk result (λ fine. TellsCauses
-        (causes_given order first.now (option_copied second.entry) list.entry.text.now list.entry.taking ask.now)
+        (causes_given order first.now (option_copied second.entry) (list_shown list.entry) list.entry.taking ask.now)
         ask.now.check (O.sink out.old) (O.sink out.new) fine) }
     ensures err { IfErr result
         (λ e. RefusesCauses (causes_given order first.now (option_copied second.entry)
-        list.entry.text.now list.entry.taking ask.now) ask.now.check (O.sink out.old) (O.sink out.new) e) }
+        (list_shown list.entry) list.entry.taking ask.now) ask.now.check (O.sink out.old) (O.sink out.new) e) }
 {
     let error = match causes_of_one(alloc, first, second, order, list, ask, out) {
         Ok(fine) => return Ok(fine),

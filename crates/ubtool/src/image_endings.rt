@@ -1,6 +1,7 @@
 //! How all runs of an image's variable or of a given text end, from the bytes of the image to the lines.
 ghost use Rattle.std.specs.Prelude.{◌≡◌, IfOk, IfErr, Ok};
 ghost use Rattle.std.specs.Option.{option_copied};
+ghost use Rattle.ubtool.specs.ListsShown.{list_shown};
 ghost use Rattle.ubtool.specs.EndingsOfImages.{AreAllLines, AreLinesOf, LacksLines, RefusesEndings, RefusesOne, RefusesTurn, TellsEndings, TellsOne, endings_given, runs_by};
 ghost use Rattle.board_start.specs.Start.{start_of};
 ghost use Rattle.ubtool.specs.Beginning.{StartsWith};
@@ -77,11 +78,11 @@ fn endings_of_one<O: Out>(
     out: &mut O,
 ) -> Result<(), RehearsalError>
     ensures ok { IfOk result (λ _. TellsOne
-        (endings_given order first.now (option_copied second.entry) list.entry.text.now list.entry.taking ask.now)
+        (endings_given order first.now (option_copied second.entry) (list_shown list.entry) list.entry.taking ask.now)
         ask.now.flow ask.now.states ask.now.memory (O.sink out.old) (O.sink out.new)) }
     ensures err { IfErr result
         (λ e. RefusesOne (endings_given order first.now (option_copied second.entry)
-        list.entry.text.now list.entry.taking ask.now) ask.now.flow ask.now.states ask.now.work ask.now.memory (O.sink out.old) (O.sink out.new) e) }
+        (list_shown list.entry) list.entry.taking ask.now) ask.now.flow ask.now.states ask.now.work ask.now.memory (O.sink out.old) (O.sink out.new) e) }
 {
     let shell = ask.bounds.shell();
     match begin(alloc, first, second, order, shell, list, ask.name, ask.text) {
@@ -104,9 +105,9 @@ fn lines_of_one(
     ask: &EndingsAsk<'_>,
 ) -> Result<Vec<u8>, RehearsalError>
     ensures ok { IfOk result (λ v. AreLinesOf ask.now.flow ask.now.states ask.now.memory
-        (endings_given order first.now (option_copied second.entry) list.entry.text.now list.entry.taking ask.now) v.items) }
+        (endings_given order first.now (option_copied second.entry) (list_shown list.entry) list.entry.taking ask.now) v.items) }
     ensures err { IfErr result (λ e. LacksLines ask.now.states ask.now.work ask.now.memory
-        (endings_given order first.now (option_copied second.entry) list.entry.text.now list.entry.taking ask.now) e) }
+        (endings_given order first.now (option_copied second.entry) (list_shown list.entry) list.entry.taking ask.now) e) }
 {
     let mut lines = Over::new(Vec::new(alloc));
     match endings_of_one(alloc, first, second, order, list, ask, &mut lines) {
@@ -130,10 +131,10 @@ fn lines_by_start(
 ) -> Result<Vec<u8>, RehearsalError>
     requires { start_of list.text.now ≡ Ok start.now }
     ensures ok { IfOk result (λ v. AreAllLines
-        (endings_given order first.now (option_copied second.entry) list.entry.text.now list.entry.taking ask.now)
+        (endings_given order first.now (option_copied second.entry) (list_shown list.entry) list.entry.taking ask.now)
         ask.now.flow ask.now.states ask.now.memory count v.items) }
     ensures err { IfErr result (λ e. RefusesTurn
-        (endings_given order first.now (option_copied second.entry) list.entry.text.now list.entry.taking ask.now)
+        (endings_given order first.now (option_copied second.entry) (list_shown list.entry) list.entry.taking ask.now)
         ask.now.flow ask.now.states ask.now.work ask.now.memory count e) }
 {
     let mut text = Vec::new(alloc);
@@ -159,10 +160,10 @@ fn lines_in_turn(
     count: u32,
 ) -> Result<Vec<u8>, RehearsalError>
     ensures ok { IfOk result (λ v. AreAllLines
-        (endings_given order first.now (option_copied second.entry) list.entry.text.now list.entry.taking ask.now)
+        (endings_given order first.now (option_copied second.entry) (list_shown list.entry) list.entry.taking ask.now)
         ask.now.flow ask.now.states ask.now.memory count v.items) }
     ensures err { IfErr result (λ e. RefusesTurn
-        (endings_given order first.now (option_copied second.entry) list.entry.text.now list.entry.taking ask.now)
+        (endings_given order first.now (option_copied second.entry) (list_shown list.entry) list.entry.taking ask.now)
         ask.now.flow ask.now.states ask.now.work ask.now.memory count e) }
 {
     let start = start_of(alloc, list)?;
@@ -193,11 +194,11 @@ pub fn endings_bytes<O: Out>(
     out: &mut O,
 ) -> Result<(), RehearsalError>
     ensures ok { IfOk result (λ _. TellsEndings
-        (endings_given order first.now (option_copied second.entry) list.entry.text.now list.entry.taking ask.now)
+        (endings_given order first.now (option_copied second.entry) (list_shown list.entry) list.entry.taking ask.now)
         ask.now.flow ask.now.states ask.now.memory (O.sink out.old) (O.sink out.new)) }
     ensures err { IfErr result
         (λ e. RefusesEndings (endings_given order first.now (option_copied second.entry)
-        list.entry.text.now list.entry.taking ask.now) ask.now.flow ask.now.states ask.now.work ask.now.memory (O.sink out.old) (O.sink out.new) e) }
+        (list_shown list.entry) list.entry.taking ask.now) ask.now.flow ask.now.states ask.now.work ask.now.memory (O.sink out.old) (O.sink out.new) e) }
 {
     let error = match endings_of_one(alloc, first, second, order, list, ask, out) {
         Ok(()) => return Ok(()),

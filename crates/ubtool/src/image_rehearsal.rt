@@ -7,6 +7,7 @@ ghost use Rattle.rehearse_terms.specs.WantedShown.{wanted_slices};
 ghost use Rattle.rehearse_runs.specs.RehearsedEnvironment as below;
 ghost use Rattle.rehearse_runs.specs.AskShown.{asking_of, text_given};
 ghost use Rattle.text.specs.TextsShown.{option_items};
+ghost use Rattle.ubtool.specs.ListsShown.{list_shown};
 ghost use Rattle.ubtool.specs.Beginning.{StartsWith};
 ghost use Rattle.ubtool.specs.Given.{Given, given};
 ghost use Rattle.ubtool.specs.Headline.{Rehearses};
@@ -43,10 +44,10 @@ pub fn rehearse_bytes<O: Out>(
 ) -> Result<Finish, RehearsalError>
     requires { HasRoom (page_of (wanted_slices ask.now.wanted)) }
     ensures ok { IfOk result (λ finish. Rehearses
-        (given order first.now (option_copied second.entry) list.entry.text.now list.entry.taking (text_given ask.now)
+        (given order first.now (option_copied second.entry) (list_shown list.entry) list.entry.taking (text_given ask.now)
         (asking_of ask.now)) (O.sink out.old) (O.sink out.new) finish) }
     ensures err { IfErr result
-        (λ e. Refuses (given order first.now (option_copied second.entry) list.entry.text.now list.entry.taking
+        (λ e. Refuses (given order first.now (option_copied second.entry) (list_shown list.entry) list.entry.taking
         (text_given ask.now) (asking_of ask.now)) (O.sink out.old) (O.sink out.new) e) }
 {
     let shell = match ask.wanted {
@@ -129,10 +130,10 @@ fn rehearse_in<O: Out>(
     requires room { HasRoom (page_of (wanted_slices ask.now.wanted)) }
     requires shell { shell ≡ (asking_of ask.now).bounds.shell }
     ensures ok { IfOk result (λ finish. Rehearses
-        (given order first.now (option_copied second.entry) list.entry.text.now list.entry.taking (text_given ask.now)
+        (given order first.now (option_copied second.entry) (list_shown list.entry) list.entry.taking (text_given ask.now)
         (asking_of ask.now)) (O.sink out.old) (O.sink out.new) finish) }
     ensures err { IfErr result
-        (λ e. Refuses (given order first.now (option_copied second.entry) list.entry.text.now list.entry.taking
+        (λ e. Refuses (given order first.now (option_copied second.entry) (list_shown list.entry) list.entry.taking
         (text_given ask.now) (asking_of ask.now)) (O.sink out.old) (O.sink out.new) e) }
 {
     match begin(alloc, first, second, order, shell, list, ask.name, ask.text) {

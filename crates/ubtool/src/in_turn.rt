@@ -1,6 +1,7 @@
 //! The alternatives of a device list, in turn.
 ghost use Rattle.std.specs.Prelude.{◌≡◌, ◌++◌, IfErr, OnOk};
 ghost use Rattle.ubtool.specs.declared.rehearsal_error.RehearsalError.TheVariants.{Memory};
+ghost use Rattle.ubtool.specs.ListsShown.{list_shown};
 ghost use Rattle.ubtool.specs.Turns.{IsStart, headed, taken_by, turns_told};
 
 use crate::beginning::DeviceText;
@@ -21,11 +22,12 @@ pub(crate) fn start_of(alloc: Global, list: DeviceText<'_>) -> Result<Start, Reh
 
 /// The list, with the alternative of this number named.
 pub(crate) fn named(list: DeviceText<'_>, number: u32) -> DeviceText<'_>
-    ensures text { result.text.now ≡ list.entry.text.now }
+    ensures list { list_shown result ≡ list_shown list.entry }
     ensures taking { result.taking ≡ taken_by list.entry.taking number }
 {
     DeviceText {
         text: list.text,
+        files: list.files,
         taking: Taking {
             steady: list.taking.steady,
             alternative: Some(number),

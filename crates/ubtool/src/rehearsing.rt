@@ -1,6 +1,7 @@
 //! `rehearse`, from files to the listing.
 ghost use Rattle.std.specs.Prelude.{◌≡◌};
 ghost use Rattle.tool_files.specs.Told.{IfTold};
+ghost use Rattle.board_files.specs.BoardFiles.{list_of};
 ghost use Rattle.ubtool.specs.Faults.{CountsShared};
 ghost use Rattle.tool_steps.specs.Images.{copies};
 ghost use Rattle.ubtool.specs.RehearsingFiles.{LeavesOutput, RehearsesCopies, RehearsesFrom, refusal_of};
@@ -12,6 +13,7 @@ use crate::fault::ProgramFault;
 use crate::image_rehearsal::rehearse_bytes;
 use crate::rehearsal_error::RehearsalError;
 use crate::source_bytes::bytes_of;
+use board_files::{BoardFiles, read_board};
 use envimage::ByteOrder;
 use output::Out;
 use rehearse_rules::RehearseError;
@@ -19,7 +21,7 @@ use rehearse_runs::Finish;
 use std::alloc::Global;
 use tool_files::Files;
 use tool_images::WordForm;
-use tool_steps::{Sources, read_sources, slices_of};
+use tool_steps::slices_of;
 use tool_words::{Inputs, RehearseAsk, Taking};
 
 /// How a refusal of a rehearsal is reported.
@@ -40,22 +42,23 @@ fn refusal_of(error: RehearsalError, what: RehearseAsk) -> ProgramFault
 /// Rehearses what was read.
 fn rehearse_sources<O: Out>(
     alloc: Global,
-    sources: &Sources,
+    board: &BoardFiles,
     taking: Taking,
     order: ByteOrder,
     what: &RehearseAsk,
     out: &mut O,
 ) -> Result<Finish, RehearsalError>
-    ensures { RehearsesCopies (given_by order (copies sources.now.images)
-        sources.now.device_list.items taking (script_of sources.now) (asking_of what.now)) (O.sink out.old) (O.sink out.new)
+    ensures { RehearsesCopies (given_by order (copies board.now.images)
+        (list_of board.now) taking (script_of board.now) (asking_of what.now)) (O.sink out.old) (O.sink out.new)
         result }
 {
     let Ok(names) = slices_of(alloc, &what.names) else {
         return Err(RehearsalError::Memory);
     };
-    let bytes = bytes_of(sources);
+    let bytes = bytes_of(board);
     let list = DeviceText {
         text: bytes.device_list,
+        files: bytes.files,
         taking,
     };
     let ask = rehearse_runs::Ask {
@@ -85,8 +88,8 @@ pub fn rehearse<F: Files, O: Out>(
     ensures output { LeavesOutput result (O.sink out.old) (O.sink out.new) }
 {
     let taking = inputs.taking;
-    let sources = read_sources(alloc, files, inputs)?;
-    match rehearse_sources(alloc, &sources, taking, order, &what, out) {
+    let board = read_board(alloc, files, inputs)?;
+    match rehearse_sources(alloc, &board, taking, order, &what, out) {
         Ok(_) => Ok(true),
         Err(error) => Err(refusal_of(error, what)),
     }

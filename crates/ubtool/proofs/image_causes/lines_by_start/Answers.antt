@@ -8,31 +8,33 @@ use Rattle.tool_words.specs.declared.ask.Taking.{Taking}
 use Rattle.ubtool.specs.CausesOfImages.{AreCausesOf, AreInOrder, LacksCauses, Part, causes_given}
 use Rattle.ubtool.specs.Given.{Given}
 use Rattle.ubtool.specs.Turns.{headed, named}
+use Rattle.board_start.specs.Boards.{ListRead}
+use Rattle.ubtool.specs.ListsShown.{list_shown}
 use Rattle.ubtool.proofs.TurnLemmas.{none_yet, one_more, one-start}
 use Rattle.ubtool.proofs.CausesTurnLemmas.{turn-refused}
 use Rattle.ubtool.proofs.image_causes.lines_by_start.Goals as goal
 
 pub loop-place-init : goal.loop-place-init
 loop-place-init c =
-    let g : Given = causes_given c.args.order c.args.first.now (option_copied c.args.second) c.args.list.text.now c.args.list.taking c.args.ask.now in
+    let g : Given = causes_given c.args.order c.args.first.now (option_copied c.args.second) (list_shown c.args.list) c.args.list.taking c.args.ask.now in
     let none : AreInOrder g c.args.ask.now.check 0 [] [] = none_yet (AreCausesOf c.args.ask.now.check) (λ (part : Part). part.0) g c.args.start.now c.requires in
     ([], subst (λ (t : Text). AreInOrder g c.args.ask.now.check 0 [] t) (sym c.new-text.ensures.items) none, refl)
 
 pub returns-in-Err-clause-err : goal.returns-in-Err-clause-err
 returns-in-Err-clause-err c =
-    let g : Given = causes_given c.args.order c.args.first.now (option_copied c.args.second) c.args.list.text.now c.args.list.taking c.args.ask.now in
-    let same : causes_given c.args.order c.args.first.now (option_copied c.args.second) c.named-list.result.text.now c.named-list.result.taking c.args.ask.now ≡ named g (c.loop-place.place + 1) =
-    ap (λ (t : Text). causes_given c.args.order c.args.first.now (option_copied c.args.second) t c.named-list.result.taking c.args.ask.now) c.named-list.ensures.text
-    ∙ ap (λ (k : Taking). causes_given c.args.order c.args.first.now (option_copied c.args.second) c.args.list.text.now k c.args.ask.now) c.named-list.ensures.taking in
+    let g : Given = causes_given c.args.order c.args.first.now (option_copied c.args.second) (list_shown c.args.list) c.args.list.taking c.args.ask.now in
+    let same : causes_given c.args.order c.args.first.now (option_copied c.args.second) (list_shown c.named-list.result) c.named-list.result.taking c.args.ask.now ≡ named g (c.loop-place.place + 1) =
+    ap (λ (t : ListRead). causes_given c.args.order c.args.first.now (option_copied c.args.second) t c.named-list.result.taking c.args.ask.now) c.named-list.ensures.list
+    ∙ ap (λ (k : Taking). causes_given c.args.order c.args.first.now (option_copied c.args.second) (list_shown c.args.list) k c.args.ask.now) c.named-list.ensures.taking in
     turn-refused g c.args.ask.now.check c.args.count c.loop-place.place c.loop-place.invariant.0 c.loop-place.text.items c.loop-place.invariant.1 c.loop-place-test.true c.in-Err.error
     (subst (λ (h : Given). LacksCauses h c.in-Err.error) same c.in-Err.ensures.err)
 
 pub loop-place-preserved : goal.loop-place-preserved
 loop-place-preserved c =
-    let g : Given = causes_given c.args.order c.args.first.now (option_copied c.args.second) c.args.list.text.now c.args.list.taking c.args.ask.now in
-    let same : causes_given c.args.order c.args.first.now (option_copied c.args.second) c.named-list.result.text.now c.named-list.result.taking c.args.ask.now ≡ named g (c.loop-place.place + 1) =
-    ap (λ (t : Text). causes_given c.args.order c.args.first.now (option_copied c.args.second) t c.named-list.result.taking c.args.ask.now) c.named-list.ensures.text
-    ∙ ap (λ (k : Taking). causes_given c.args.order c.args.first.now (option_copied c.args.second) c.args.list.text.now k c.args.ask.now) c.named-list.ensures.taking in
+    let g : Given = causes_given c.args.order c.args.first.now (option_copied c.args.second) (list_shown c.args.list) c.args.list.taking c.args.ask.now in
+    let same : causes_given c.args.order c.args.first.now (option_copied c.args.second) (list_shown c.named-list.result) c.named-list.result.taking c.args.ask.now ≡ named g (c.loop-place.place + 1) =
+    ap (λ (t : ListRead). causes_given c.args.order c.args.first.now (option_copied c.args.second) t c.named-list.result.taking c.args.ask.now) c.named-list.ensures.list
+    ∙ ap (λ (k : Taking). causes_given c.args.order c.args.first.now (option_copied c.args.second) (list_shown c.args.list) k c.args.ask.now) c.named-list.ensures.taking in
     let parts = c.loop-place.invariant.0 in
     let part : Part = (c.in-Ok.part.0.items, c.in-Ok.part.1) in
     let so_far : AreInOrder g c.args.ask.now.check c.loop-place.place parts c.loop-place.text.items = c.loop-place.invariant.1 in
@@ -49,6 +51,6 @@ loop-place-preserved c =
 
 pub returns-clause-ok : goal.returns-clause-ok
 returns-clause-ok c =
-    let g : Given = causes_given c.args.order c.args.first.now (option_copied c.args.second) c.args.list.text.now c.args.list.taking c.args.ask.now in
+    let g : Given = causes_given c.args.order c.args.first.now (option_copied c.args.second) (list_shown c.args.list) c.args.list.taking c.args.ask.now in
     let all : c.loop-place.place ≡ c.args.count = omega (arith, c.loop-place-test.false, c.loop-place.auto.place-end) in
     (c.loop-place.invariant.0, subst (λ (n : ℕ). AreInOrder g c.args.ask.now.check n c.loop-place.invariant.0 c.loop-place.text.items) all c.loop-place.invariant.1, c.loop-place.invariant.2)

@@ -9,36 +9,36 @@ use Rattle.ubtool.proofs.RehearseLemmas.{rehearses-found, rehearses-refused, unr
 use Rattle.tool_steps.proofs.SourceLemmas.{IfTold-weaker}
 use Rattle.ubtool.proofs.rehearsing.rehearse.Goals as goal
 
-pub returns-in_err-sources-clause-told : goal.returns-in_err-sources-clause-told
-returns-in_err-sources-clause-told g c =
+pub returns-in_err-board-clause-told : goal.returns-in_err-board-clause-told
+returns-in_err-board-clause-told g c =
     let a = g.F.Files.told c.args.files.now in
-    let b = g.F.Files.told c.read_sources.new.files in
+    let b = g.F.Files.told c.read_board.new.files in
     let out = g.O.Out.sink c.args.out.now in
     let inputs = inputs_shown c.args.inputs in
-    let fault = c.in_err-sources.field-0.0 in
+    let fault = c.in_err-board.field-0.0 in
     let p = err_from_is_err_and c.from_residual.result c.from_residual.ensures.1 in
     let answer : c.from_residual.result ≡ Err (Shared fault) = p.1 ∙ ap Err p.2 in
     let P : Result Bool ProgramFault → Type 0 = λ r. IfTold a b (λ old new. RehearsesFrom c.args.order inputs c.args.what out out old new r) in
     subst P (sym answer)
-    (IfTold-weaker a b (λ x y h. unread c.args.order inputs c.args.what out x y fault c.in_err-sources.ensures.fault h) c.in_err-sources.ensures.told)
+    (IfTold-weaker a b (λ x y h. unread c.args.order inputs c.args.what out x y fault c.in_err-board.ensures.fault h) c.in_err-board.ensures.told)
 
 pub returns-in-Err-clause-told : goal.returns-in-Err-clause-told
 returns-in-Err-clause-told g c =
     let a = g.F.Files.told c.args.files.now in
-    let b = g.F.Files.told c.read_sources.new.files in
+    let b = g.F.Files.told c.read_board.new.files in
     let out = g.O.Out.sink c.args.out.now in
     let out' = g.O.Out.sink c.rehearse_sources.new.out in
     let inputs = inputs_shown c.args.inputs in
-    let sources = c.in_ok-sources.sources in
+    let board = c.in_ok-board.board in
     let P : ProgramFault → Type 0 = λ f. IfTold a b (λ old new. RehearsesFrom c.args.order inputs c.args.what out out' old new (Err f)) in
     subst P (sym c.refusal_of.ensures)
-    (IfTold-weaker a b (λ x z read. rehearses-refused c.args.order inputs c.args.what out out' sources x z read c.in-Err.error c.in-Err.ensures) c.in_ok-sources.ensures.told)
+    (IfTold-weaker a b (λ x z read. rehearses-refused c.args.order inputs c.args.what out out' board x z read c.in-Err.error c.in-Err.ensures) c.in_ok-board.ensures.told)
 
 pub returns-in-Ok-clause-told : goal.returns-in-Ok-clause-told
 returns-in-Ok-clause-told g c =
     let a = g.F.Files.told c.args.files.now in
-    let b = g.F.Files.told c.read_sources.new.files in
+    let b = g.F.Files.told c.read_board.new.files in
     let out = g.O.Out.sink c.args.out.now in
     let out' = g.O.Out.sink c.rehearse_sources.new.out in
-    let sources = c.in_ok-sources.sources in
-    IfTold-weaker a b (λ x z read. rehearses-found c.args.order (inputs_shown c.args.inputs) c.args.what out out' sources x z read c.in-Ok.field-0 c.in-Ok.ensures) c.in_ok-sources.ensures.told
+    let board = c.in_ok-board.board in
+    IfTold-weaker a b (λ x z read. rehearses-found c.args.order (inputs_shown c.args.inputs) c.args.what out out' board x z read c.in-Ok.field-0 c.in-Ok.ensures) c.in_ok-board.ensures.told

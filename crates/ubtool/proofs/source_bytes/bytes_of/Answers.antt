@@ -4,7 +4,7 @@ use Rattle.ubtool.proofs.GivenLemmas.{first-bytes}
 use Rattle.ubtool.proofs.source_bytes.bytes_of.Goals as goal
 
 pub returns-clause-first : goal.returns-clause-first
-returns-clause-first c = c.deref.ensures.value ∙ first-bytes c.args.sources.now.images
+returns-clause-first c = c.deref.ensures.value ∙ first-bytes c.args.board.now.images
 
 pub returns-clause-second : goal.returns-clause-second
-returns-clause-second c = c.second_bytes.ensures ∙ sym (image-bytes c.args.sources.now.images)
+returns-clause-second c = c.second_bytes.ensures ∙ sym (image-bytes c.args.board.now.images)
