@@ -33,7 +33,7 @@ _hushcheck_names() {
 # _hushcheck_options COMMAND: the options of the command, in `options`.
 _hushcheck_options() {
     case $1 in
-        hushcheck) options='-c --config -i --image --second --text --big-endian -d --device-list --script --all --shell --strict -h --help -V --version' ;;
+        hushcheck) options='-c --config -i --image --second --text --big-endian -d --device-list --files --script --all --shell --strict -h --help -V --version' ;;
         *) options='' ;;
     esac
 }
@@ -42,6 +42,7 @@ _hushcheck_options() {
 _hushcheck_value() {
     case $1 in
         -c | --config | -i | --image | --second | --text | -d | --device-list | --script) value='file' ;;
+        --files) value='other' ;;
         --shell) value='listed profile old-2023.01 old-2025.01 old modern-2025.01 modern' ;;
         *) value='' ;;
     esac

@@ -21,7 +21,7 @@ complete -c hushcheck -f
 # options: completions
 # Whether the word is an option whose value comes after it.
 function __hushcheck_takes_value
-    contains -- $argv[1] -c --config -i --image --second --text -d --device-list --script --shell
+    contains -- $argv[1] -c --config -i --image --second --text -d --device-list --files --script --shell
 end
 
 complete -c hushcheck -s h -l help -d 'Print help'
@@ -32,6 +32,7 @@ complete -c hushcheck -l second -r -F -d 'Second copy of a redundant pair, besid
 complete -c hushcheck -l text -r -F -d 'Text for mkenvimage, at most 1048576 bytes, in place of -c'
 complete -c hushcheck -l big-endian -d 'The CRC is stored big-endian'
 complete -c hushcheck -s d -l device-list -r -F -d 'Device list, at most 1048576 bytes, that the commands are looked up in'
+complete -c hushcheck -l files -x -d 'Folder of the files that the list names, at most 1048576 bytes each'
 complete -c hushcheck -l script -r -F -d 'Script or script image, at most 1048576 bytes, in place of NAME'
 complete -c hushcheck -l all -d 'Check every variable of the image, after the NAMEs'
 complete -c hushcheck -l shell -x -a 'profile old-2023.01 old-2025.01 old modern-2025.01 modern' -d 'Name what a rehearsal by this shell does not follow: profile, old-2023.01, old-2025.01, old, modern-2025.01 or modern'

@@ -25,6 +25,7 @@ _hushcheck_options() {
                 '--text[Text for mkenvimage, at most 1048576 bytes, in place of -c]:file:_files'
                 '--big-endian[The CRC is stored big-endian]'
                 '(-d --device-list)'{-d,--device-list}'[Device list, at most 1048576 bytes, that the commands are looked up in]:file:_files'
+                '--files[Folder of the files that the list names, at most 1048576 bytes each]:folder: '
                 '--script[Script or script image, at most 1048576 bytes, in place of NAME]:file:_files'
                 '--all[Check every variable of the image, after the NAMEs]'
                 '--shell[Name what a rehearsal by this shell does not follow\: profile, old-2023.01, old-2025.01, old, modern-2025.01 or modern]:name:(profile old-2023.01 old-2025.01 old modern-2025.01 modern)'

@@ -20,6 +20,7 @@ the examples of the help
   hushcheck --text env.txt
   hushcheck --script boot.cmd
   hushcheck --script boot.scr --text env.txt -d devices
+  hushcheck --text env.txt -d devices --files card
 
 in the manual: hushcheck
   $ grep -m1 -oFx -- 'hushcheck' manual
@@ -56,3 +57,7 @@ in the manual: hushcheck --script boot.cmd
 in the manual: hushcheck --script boot.scr --text env.txt -d devices
   $ grep -m1 -oFx -- 'hushcheck --script boot.scr --text env.txt -d devices' manual
   hushcheck --script boot.scr --text env.txt -d devices
+
+in the manual: hushcheck --text env.txt -d devices --files card
+  $ grep -m1 -oFx -- 'hushcheck --text env.txt -d devices --files card' manual
+  hushcheck --text env.txt -d devices --files card

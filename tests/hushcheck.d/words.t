@@ -148,6 +148,20 @@ an option without its file
   ! For more information, try '--help'.
   [2]
 
+  $ hushcheck -d load.list --files
+  ! error: a value is required for '--files <FOLDER>' but none was supplied
+  !
+  ! For more information, try '--help'.
+  [2]
+
+  $ hushcheck --files a --files b
+  ! error: the argument '--files <FOLDER>' cannot be used multiple times
+  !
+  ! Usage: hushcheck [OPTIONS] [NAME]...
+  !
+  ! For more information, try '--help'.
+  [2]
+
 an option that ubtool alone has
   $ hushcheck -i run --one-copy
   ! error: unexpected argument '--one-copy' found

@@ -11,6 +11,7 @@ pub mod AskedLemmas
 pub mod TellingLemmas
 pub mod ByShellLemmas
 pub mod ScriptLemmas
+pub mod PlainOrders
 pub mod CheckExamples
 pub mod CallsExamples
 pub mod WarningsExamples

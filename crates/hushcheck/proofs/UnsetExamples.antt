@@ -19,10 +19,10 @@ use Rattle.hushcheck.specs.Unset.{used_by_text}
 -- ---- calls
 
 abbrev known : List Text → Sets
-known names = record { names = names; more = false }
+known names = record { names = names; more = false; runs = None }
 
 abbrev unknown : Sets
-unknown = record { names = []; more = true }
+unknown = record { names = []; more = true; runs = None }
 
 abbrev word : Text → Word
 word bytes = Bytes bytes ∷ []
@@ -59,7 +59,7 @@ held_command = refl
 -- ---- a device list: a variable, the second word of a call, and its last one
 
 abbrev effect : List Setting → Effect
-effect sets = record { ends = None; stays = false; always = None; needs = []; normal = false; sets = sets }
+effect sets = record { ends = None; stays = false; always = None; needs = []; normal = false; runs = None; sets = sets }
 
 abbrev list : Devices
 list = record {
@@ -68,6 +68,7 @@ list = record {
   calls = [];
   known = [];
   test_stays = false;
+  files = [];
 }
 
 listed : set_by_call (Some list) (Some (codes "load")) (held ∷ []) ≡ known (codes "filesize" ∷ [])
@@ -77,7 +78,7 @@ by_words : set_by_call (Some list) (Some (codes "part")) (word (codes "uuid") �
 by_words = refl
 
 -- a word that holds a variable, and a word that is not there
-by_held : set_by_call (Some list) (Some (codes "part")) (word (codes "uuid") ∷ word (codes "a") ∷ held ∷ []) ≡ record { names = codes "a" ∷ []; more = true }
+by_held : set_by_call (Some list) (Some (codes "part")) (word (codes "uuid") ∷ word (codes "a") ∷ held ∷ []) ≡ record { names = codes "a" ∷ []; more = true; runs = None }
 by_held = refl
 
 by_none : set_by_call (Some list) (Some (codes "part")) (word (codes "uuid") ∷ []) ≡ known (codes "uuid" ∷ [])

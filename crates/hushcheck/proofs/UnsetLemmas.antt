@@ -18,8 +18,8 @@ use Rattle.hushcheck.specs.declared.unset.Used as code
 use Rattle.hushcheck.proofs.SetsLemmas.{drop_item}
 use Rattle.hushcheck.proofs.TellingLemmas.{stops-after, stops-as, stops-before, wrote-as}
 
-module _ (rules : Rules) (env : List Pair) (before : List Used) (asked : List Text) (so_far : Bool) where
-  lines_are : (told : Text) (sound : Bool) (used : List Used) (t : TakesTurns rules env before asked so_far told sound used) → AreLines rules env before asked t.order (told ++ last_lines env used)
+module _ (rules : Rules) (env : List Pair) (before : List Used) (asked called : List Text) (so_far : Bool) where
+  lines_are : (told : Text) (sound : Bool) (used : List Used) (t : TakesTurns rules env before asked called so_far told sound used) → AreLines rules env before asked called t.order (told ++ last_lines env used)
   lines_are told sound used t = record {
     is_order = t.is_order;
     told_is =
@@ -28,18 +28,18 @@ module _ (rules : Rules) (env : List Pair) (before : List Used) (asked : List Te
   }
 
   -- within the lines of the names
-  pub turns-broke : (used : List Used) (error : CheckError) (old new : Sink) → WritesTurns rules env before asked so_far used (Err error) old new → WritesNames rules env before asked so_far (Err error) old new
+  pub turns-broke : (used : List Used) (error : CheckError) (old new : Sink) → WritesTurns rules env before asked called so_far used (Err error) old new → WritesNames rules env before asked called so_far (Err error) old new
   turns-broke used error old new h = (h.0, inl h.1, h.2)
 
   -- within the lines after them
-  pub last-broke : (used : List Used) (sound : Bool) (error : CheckError) (old mid new : Sink) → WritesTurns rules env before asked so_far used (Ok sound) old mid → Stops error mid new (last_lines env used)
-      → WritesNames rules env before asked so_far (Err error) old new
+  pub last-broke : (used : List Used) (sound : Bool) (error : CheckError) (old mid new : Sink) → WritesTurns rules env before asked called so_far used (Ok sound) old mid → Stops error mid new (last_lines env used)
+      → WritesNames rules env before asked called so_far (Err error) old new
   last-broke used sound error old mid new h stops =
       (h.0 ++ last_lines env used, inr (h.1.order, lines_are h.0 sound used h.1), stops-after old mid new h.0 (last_lines env used) error h.2 stops)
 
   -- all lines
-  pub last-wrote : (used : List Used) (sound sound' : Bool) (old mid new : Sink) → WritesTurns rules env before asked so_far used (Ok sound) old mid → Wrote mid new (last_lines env used)
-      → sound' ≡ (sound && not (rules.strict && lacks_set env used)) → WritesNames rules env before asked so_far (Ok sound') old new
+  pub last-wrote : (used : List Used) (sound sound' : Bool) (old mid new : Sink) → WritesTurns rules env before asked called so_far used (Ok sound) old mid → Wrote mid new (last_lines env used)
+      → sound' ≡ (sound && not (rules.strict && lacks_set env used)) → WritesNames rules env before asked called so_far (Ok sound') old new
   last-wrote used sound sound' old mid new h wrote e = (
     h.0 ++ last_lines env used,
     record {

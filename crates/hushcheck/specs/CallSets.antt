@@ -1,6 +1,6 @@
--- What a call sets, as far as its words say it. That `setenv`, `setexpr` and `env` set variables, and how their words name
--- these, is U-Boot's (doc/usage/cmd/env, doc/usage/cmd/setexpr). What other commands set is what the device list says. That
--- a word with a variable names nothing that is known is ours.
+-- What a call sets, and which file's text runs after it, as far as its words say it. That `setenv`, `setexpr` and `env` set
+-- variables, and how their words name these, is U-Boot's (doc/usage/cmd/env, doc/usage/cmd/setexpr). What other commands set,
+-- and what runs after them, is what the device list says. That a word with a variable names nothing that is known is ours.
 use Rattle.std.specs.Prelude.{◌-◌, ◌||◌, ◌++◌, ◌∷◌, Bool, true, false, List, [], length, map, slice_get, Option, Some, None, codes, if◌then◌else◌}
 use Rattle.std.specs.List.{fold}
 use Rattle.text.specs.Bytes as ascii
@@ -10,13 +10,14 @@ use Rattle.device_list.specs.DeviceList.{Devices, Effect, LeftSide, Variable, Wo
 use Rattle.hushcheck.specs.Names.{Text, written_out}
 use Rattle.hushcheck.specs.Seats.{starts_with}
 
--- the names that are set, and whether there are others that are not known
+-- the names that are set, and whether there are others that are not known; and the file whose text runs, if there is one
 pub record Sets : Type 0 where
   pub names : List Text
   pub more : Bool
+  pub runs : Option Text
 
 abbrev pub none : Sets
-none = record { names = []; more = false }
+none = record { names = []; more = false; runs = None }
 
 abbrev pub with_more : Sets → Sets
 with_more s = record s { more = true }
@@ -86,7 +87,8 @@ set_by_side words s LastWord = with_word s (slice_get words (length words - 1))
 
 abbrev pub set_by_effect : Sets → List (Option Text) → Option Effect → Sets
 set_by_effect s words None = s
-set_by_effect s words (Some effect) = fold (λ t setting. set_by_side words t setting.0) s effect.sets
+set_by_effect s words (Some effect) =
+    record (fold (λ t setting. set_by_side words t setting.0) s effect.sets) { runs = effect.runs }
 
 -- The list is asked for the call with what is written out of its words.
 abbrev pub set_by_list : Sets → Option Devices → (command : Text) → List Word → Sets

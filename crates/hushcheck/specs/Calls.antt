@@ -1,18 +1,21 @@
 -- What is found in the calls of a text: a command that the device list lacks, a name of `run` that is not followed, and a
--- call that may set variables whose names are not known; and which variables the text reads and sets. Ours.
-use Rattle.std.specs.Prelude.{◌||◌, ◌++◌, ℕ, Bool, true, false, not, List, [], ◌∷◌, map, filter, drop, Option, Some, None, codes, is_some, if◌then◌else◌}
+-- call that may set variables whose names are not known; which variables the text reads and sets; and which files run after
+-- its calls. Ours.
+use Rattle.std.specs.Prelude.{◌||◌, ◌++◌, ℕ, Bool, true, false, not, List, [], ◌∷◌, map, filter, drop, Option, Some, None, Result, Ok, Err, codes, is_some, if◌then◌else◌}
 use Rattle.std.specs.List.{flat_map, fold, list_any}
 use Rattle.std.specs.Str.{bytes_eq}
 use Rattle.hushlang.specs.CursorShown.{input_in}
 use Rattle.hushlang.specs.Grammar.{is_word}
 use Rattle.hushlang.specs.Token.{Token}
+use Rattle.hushlang.specs.declared.token.SyntaxError.{SyntaxError}
 use Rattle.hushlang.specs.Tree.{Script, Empty, Runs, AndOr, Starts, Joined, Alone, Joins, Command, Simple, Assign, If, Loop, For, Arms, NoElse, Else, Arm, Word, Bytes, Mark, Var, Status}
 use Rattle.builtins.specs.Builtins.{is_built_in}
 use Rattle.device_list.specs.DeviceList.{Devices, is_listed}
 use Rattle.text.specs.Escapes.{word_form}
 use Rattle.hushcheck.specs.CallSets.{Sets, set_by_call}
-use Rattle.hushcheck.specs.Names.{Text, is_run, written_out}
+use Rattle.hushcheck.specs.Names.{Text, is_run, read_by, written_out}
 use Rattle.hushcheck.specs.Places.{lines_at}
+use Rattle.hushcheck.specs.Rules.{Rules}
 use Rattle.hushcheck.specs.WarningTexts.{warning_text}
 use Rattle.hushcheck.specs.declared.warning.Warning.{Warning}
 
@@ -51,7 +54,7 @@ abbrev pub Read : Type 0
 Read = ℕ × Text
 
 -- the device list, the places of the words that are left, what was found at which places, whether a command is lacking,
--- and the variables that are read and those that are set
+-- and the variables that are read and those that are set, and the files whose texts run
 pub record Reading : Type 0 where
   pub devices : Option Devices
   pub left : List ℕ
@@ -59,6 +62,7 @@ pub record Reading : Type 0 where
   pub lacks : Bool
   pub reads : List Read
   pub sets : List Text
+  pub files : List Text
 
 -- the place of the next word
 abbrev pub first_place : List ℕ → ℕ
@@ -104,9 +108,14 @@ abbrev pub after_name : Reading → Option Text → Reading
 after_name r None = r
 after_name r (Some name) = if is_lacking r.devices name then find_lacking name r else r
 
--- what the call sets
+-- the file whose text runs after the call, if there is one
+abbrev pub after_file : Option Text → Reading → Reading
+after_file None r = r
+after_file (Some name) r = record r { files = r.files ++ name ∷ [] }
+
+-- what the call sets, and that file
 abbrev pub after_sets : Sets → Reading → Reading
-after_sets s r = record (if s.more then find SetsMore r else r) { sets = r.sets ++ s.names }
+after_sets s r = after_file s.runs (record (if s.more then find SetsMore r else r) { sets = r.sets ++ s.names })
 
 -- a call that is not of `run`
 abbrev pub after_call : Reading → Word → List Word → Reading
@@ -167,11 +176,26 @@ begun devices text = record {
   lacks = false;
   reads = [];
   sets = [];
+  files = [];
 }
 
 -- what is read of the script that a text is
 abbrev pub calls_of : Option Devices → (text : Text) → Script → Reading
 calls_of devices text script = after_script (begun devices text) script
+
+-- ---- the files whose texts run after calls, in the order of the text
+
+-- A text that is refused is not run. The list is asked for a call with what is written out of its words.
+abbrev pub files_by_read : Option Devices → (text : Text) → Result Script SyntaxError → List Text
+files_by_read devices text (Ok script) = (calls_of devices text script).files
+files_by_read devices text (Err error) = []
+
+abbrev pub files_by_text : Rules → (text : Text) → List Text
+files_by_text rules text = files_by_read rules.devices text (read_by rules.shell text)
+
+abbrev pub files_by_value : Rules → Option Text → List Text
+files_by_value rules None = []
+files_by_value rules (Some text) = files_by_text rules text
 
 -- ---- the lines
 

@@ -2,12 +2,13 @@ pub mod Place
 pub mod Shown
 pub mod Names
 pub mod Rules
-pub mod Order
 pub mod Places
 pub mod WarningTexts
 pub mod CallSets
 pub mod CallSetsShown
 pub mod Calls
+pub mod Order
+pub mod Queue
 pub mod Sights
 pub mod Seats
 pub mod Warnings

@@ -3,8 +3,7 @@
 use Rattle.std.specs.Prelude.{◌++◌, ◌∷◌, Bool, false, List, [], Option, Some, None, Result, Ok, Err, codes, if◌then◌else◌}
 use Rattle.std.specs.List.{filter_map}
 pub use Rattle.text.specs.Lines.{Text}
-use Rattle.envimage.specs.Data.{Pair}
-use Rattle.envtools.specs.Environment.{same, value_of}
+use Rattle.envtools.specs.Environment.{same}
 use Rattle.hushlang.specs.CursorShown.{input_in}
 use Rattle.hushlang.specs.Grammar.{max_nesting}
 use Rattle.hushlang.specs.Parsing.{whole}
@@ -102,13 +101,10 @@ read_by shell text = or_uboot (uboot_script shell text) (read_in text)
 abbrev pub run_by_text : Option Shell → Text → List Text
 run_by_text shell text = run_by_read (read_by shell text)
 
--- the names that the text of a variable runs; a variable that is not set runs nothing
+-- the names that the text of a variable or of a file runs; a variable that is not set runs nothing
 abbrev pub run_by_value : Option Shell → Option Text → List Text
 run_by_value shell None = []
 run_by_value shell (Some text) = run_by_text shell text
-
-abbrev pub run_by_name : Option Shell → List Pair → Text → List Text
-run_by_name shell env name = run_by_value shell (value_of env name)
 
 -- the names that a script runs, if one was found
 abbrev pub run_by_found : Option code_script.Script → List Text

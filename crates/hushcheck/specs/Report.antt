@@ -1,16 +1,15 @@
 -- What is reported of each text. Ours; the faults are those of the language.
-use Rattle.std.specs.Prelude.{◌≡◌, ◌⊎◌, ◌==◌, ◌&&◌, ◌++◌, ℕ, [], Bool, true, false, not, List, length, map, Option, Some, None, Result, Ok, Err, Contains, codes, if◌then◌else◌}
+use Rattle.std.specs.Prelude.{◌≡◌, ◌⊎◌, ◌==◌, ◌&&◌, ◌++◌, ℕ, [], Bool, true, false, not, List, length, map, Option, Some, None, Result, Ok, Err, codes, if◌then◌else◌}
 use Rattle.std.specs.List.{flat_map, list_all, list_any}
 use Rattle.envimage.specs.Data.{Pair}
-use Rattle.envtools.specs.Environment.{value_of}
 use Rattle.envtools.specs.Printing.{all_found}
 use Rattle.hushlang.specs.Tree.{Script}
 use Rattle.hushlang.specs.declared.token.SyntaxError.{SyntaxError}
 use Rattle.hushlang.specs.declared.token.SyntaxError.TheVariants.{OpenQuote, LoneBackslash, OpenBrace, BadVariable, SingleAmp, SinglePipe, Unexpected, MissingWord, AssignmentBeforeCommand, TooDeep, Memory}
-use Rattle.hushcheck.specs.Names.{Text, read_by, run_by_name, run_by_text}
-use Rattle.hushcheck.specs.Order.{IsOrder, IsReached, once}
+use Rattle.hushcheck.specs.Names.{Text, read_by, run_by_text}
+use Rattle.hushcheck.specs.Order.{AreTurns, IsOrder, Turn, name_of, text_of}
 use Rattle.hushcheck.specs.Places.{lines_at}
-use Rattle.hushcheck.specs.Calls.{calls_of, found_lines}
+use Rattle.hushcheck.specs.Calls.{calls_of, files_by_text, found_lines}
 use Rattle.hushcheck.specs.Unset.{Used, has_unset, set_names, unset_lines, used_by, used_by_text}
 use Rattle.hushcheck.specs.Warnings.{blocks_of}
 use Rattle.hushcheck.specs.WarningsByShell.{warnings_by}
@@ -67,13 +66,13 @@ lines_read rules name text (Err error) = fault_lines name text error ++ warning_
 abbrev pub lines_of_text : Rules → (name text : Text) → Text
 lines_of_text rules name text = lines_read rules name text (read_by rules.shell text)
 
--- the lines of a variable
+-- the lines of a turn: those of a variable, or of a file
 abbrev pub lines_of_value : Rules → Text → Option Text → Text
 lines_of_value rules name None = word_form name ++ codes ": not set\n"
 lines_of_value rules name (Some text) = lines_of_text rules name text
 
-abbrev pub lines_of : Rules → List Pair → Text → Text
-lines_of rules env name = lines_of_value rules name (value_of env name)
+abbrev pub lines_of : Rules → List Pair → Turn → Text
+lines_of rules env turn = lines_of_value rules (name_of turn) (text_of rules env turn)
 
 -- there is a warning of the text
 abbrev pub is_warned : Rules → (text : Text) → Bool
@@ -93,15 +92,15 @@ abbrev pub is_fine_value : Rules → Option Text → Bool
 is_fine_value rules None = true
 is_fine_value rules (Some text) = is_fine_text rules text
 
-abbrev pub is_fine : Rules → List Pair → Text → Bool
-is_fine rules env name = is_fine_value rules (value_of env name)
+abbrev pub is_fine : Rules → List Pair → Turn → Bool
+is_fine rules env turn = is_fine_value rules (text_of rules env turn)
 
--- the lines of the names that are reached, in their order; whether all is well: it was so far, and each text that is
+-- the lines of what is reached, in its order; whether all is well: it was so far, and each text that is
 -- reached is fine; and what the texts use, after what was used before
-pub record TakesTurns (rules : Rules) (env : List Pair) (before : List Used) (asked : List Text) (so_far : Bool) (told : Text)
-    (sound : Bool) (used : List Used) : Type 0 where
-  pub order : List Text
-  pub is_order : IsOrder rules.shell env asked order
+pub record TakesTurns (rules : Rules) (env : List Pair) (before : List Used) (asked called : List Text) (so_far : Bool)
+    (told : Text) (sound : Bool) (used : List Used) : Type 0 where
+  pub order : List Turn
+  pub is_order : IsOrder rules env asked called order
   pub told_is : told ≡ flat_map (lines_of rules env) order
   pub sound_is : sound ≡ (so_far && list_all (is_fine rules env) order)
   pub used_is : used ≡ before ++ flat_map (used_by rules env) order
@@ -113,42 +112,39 @@ last_lines env used = unset_lines (set_names env used) used
 abbrev pub lacks_set : List Pair → List Used → Bool
 lacks_set env used = has_unset (set_names env used) used
 
--- The lines of the names that are reached, in their order, and after them what nothing sets.
-pub record AreLines (rules : Rules) (env : List Pair) (before : List Used) (asked order : List Text) (told : Text) :
-    Type 0 where
-  pub is_order : IsOrder rules.shell env asked order
+-- The lines of what is reached, in its order, and after them what nothing sets.
+pub record AreLines (rules : Rules) (env : List Pair) (before : List Used) (asked called : List Text) (order : List Turn)
+    (told : Text) : Type 0 where
+  pub is_order : IsOrder rules env asked called order
   pub told_is : told ≡ flat_map (lines_of rules env) order
       ++ last_lines env (before ++ flat_map (used_by rules env) order)
 
 -- These lines, and whether all is well: it was so far, each text that is reached is fine, and if a warning is a fault,
 -- something sets each variable that is read.
-pub record ChecksNames (rules : Rules) (env : List Pair) (before : List Used) (asked : List Text) (so_far : Bool)
+pub record ChecksNames (rules : Rules) (env : List Pair) (before : List Used) (asked called : List Text) (so_far : Bool)
     (told : Text) (sound : Bool) : Type 0 where
-  pub order : List Text
-  pub lines : AreLines rules env before asked order told
+  pub order : List Turn
+  pub lines : AreLines rules env before asked called order told
   pub sound_is : sound ≡ ((so_far && list_all (is_fine rules env) order)
       && not (rules.strict && lacks_set env (before ++ flat_map (used_by rules env) order)))
 
 -- the same where each name that is asked for has to be set
 abbrev pub Checks : Rules → List Pair → (asked : List Text) → (told : Text) → (sound : Bool) → Type 0
-Checks rules env asked told sound = ChecksNames rules env [] asked (all_found env asked) told sound
+Checks rules env asked told sound = ChecksNames rules env [] asked [] (all_found env asked) told sound
 
--- What is told of a check that does not come to its end: the lines of the names whose turn has come, which are the first
--- of those that are asked for and that the texts of these run.
-pub record BeginsTurns (rules : Rules) (env : List Pair) (asked : List Text) (told : Text) : Type 0 where
-  pub turns : List Text
-  pub behind : List Text
-  pub in_turn : once (asked ++ flat_map (run_by_name rules.shell env) turns) ≡ turns ++ behind
-  pub reached : (name : Text) → Contains turns name → IsReached rules.shell env asked name
+-- What is told of a check that does not come to its end: the lines of the variables and files whose turn has come.
+pub record BeginsTurns (rules : Rules) (env : List Pair) (asked called : List Text) (told : Text) : Type 0 where
+  pub turns : List Turn
+  pub are_turns : AreTurns rules env asked called turns
   pub told_is : told ≡ flat_map (lines_of rules env) turns
 
 -- Or all lines, if it ends within those of what nothing sets.
-abbrev pub BeginsNames : Rules → List Pair → (before : List Used) → (asked : List Text) → (told : Text) → Type 0
-BeginsNames rules env before asked told =
-    BeginsTurns rules env asked told ⊎ ((order : List Text) × AreLines rules env before asked order told)
+abbrev pub BeginsNames : Rules → List Pair → (before : List Used) → (asked called : List Text) → (told : Text) → Type 0
+BeginsNames rules env before asked called told =
+    BeginsTurns rules env asked called told ⊎ ((order : List Turn) × AreLines rules env before asked called order told)
 
 abbrev pub BeginsCheck : Rules → List Pair → (asked : List Text) → (told : Text) → Type 0
-BeginsCheck rules env asked told = BeginsNames rules env [] asked told
+BeginsCheck rules env asked told = BeginsNames rules env [] asked [] told
 
 -- ---- a script that is no variable's text
 
@@ -156,20 +152,21 @@ BeginsCheck rules env asked told = BeginsNames rules env [] asked told
 abbrev pub behind_script : Rules → (text : Text) → (asked : List Text) → List Text
 behind_script rules text asked = asked ++ run_by_text rules.shell text
 
--- The lines of the script under its name, then those of the names behind it; and whether all is well: each name that is
--- asked for is set, and each text is fine, that of the script too.
+-- The lines of the script under its name, then those of the names behind it and of the files that it leads to; and whether all
+-- is well: each name that is asked for is set, and each text is fine, that of the script too.
 pub record ChecksScript (rules : Rules) (env : List Pair) (name text : Text) (asked : List Text) (told : Text) (sound : Bool) :
     Type 0 where
   pub rest : Text
   pub told_is : told ≡ lines_of_text rules name text ++ rest
   pub checks : ChecksNames rules env (used_by_text rules name text) (behind_script rules text asked)
-      (all_found env asked && is_fine_text rules text) rest sound
+      (files_by_text rules text) (all_found env asked && is_fine_text rules text) rest sound
 
 -- what is told if that does not come to its end
 pub record BeginsScript (rules : Rules) (env : List Pair) (name text : Text) (asked : List Text) (told : Text) : Type 0 where
   pub rest : Text
   pub told_is : told ≡ lines_of_text rules name text ++ rest
-  pub begins : BeginsNames rules env (used_by_text rules name text) (behind_script rules text asked) rest
+  pub begins : BeginsNames rules env (used_by_text rules name text) (behind_script rules text asked)
+      (files_by_text rules text) rest
 
 -- ---- which names are asked for
 

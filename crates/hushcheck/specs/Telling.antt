@@ -21,27 +21,27 @@ abbrev pub Writes : {T : Type 0} → Result T CheckError → Sink → Sink → T
 Writes (Ok done) old new text = Wrote old new text
 Writes (Err error) old new text = Stops error old new text
 
--- What was written of the names that are reached, and what their texts use. Or the output failed, or memory ran out,
--- within the lines of the names whose turn had come.
-abbrev pub WritesTurns : Rules → List Pair → (before : List Used) → (asked : List Text) → (so_far : Bool) → (used : List Used) →
-    Result Bool CheckError → Sink → Sink → Type 0
-WritesTurns rules env before asked so_far used (Ok sound) old new =
-    (told : Text) × TakesTurns rules env before asked so_far told sound used × Wrote old new told
-WritesTurns rules env before asked so_far used (Err error) old new =
-    (told : Text) × BeginsTurns rules env asked told × Stops error old new told
+-- What was written of what is reached, and what its texts use. Or the output failed, or memory ran out, within the lines
+-- of the variables and files whose turn had come.
+abbrev pub WritesTurns : Rules → List Pair → (before : List Used) → (asked called : List Text) → (so_far : Bool) →
+    (used : List Used) → Result Bool CheckError → Sink → Sink → Type 0
+WritesTurns rules env before asked called so_far used (Ok sound) old new =
+    (told : Text) × TakesTurns rules env before asked called so_far told sound used × Wrote old new told
+WritesTurns rules env before asked called so_far used (Err error) old new =
+    (told : Text) × BeginsTurns rules env asked called told × Stops error old new told
 
 -- What a check wrote: all lines, and whether all is well. Or the output failed, or memory ran out, within the lines of
--- the names whose turn had come, or within all lines.
-abbrev pub WritesNames : Rules → List Pair → (before : List Used) → (asked : List Text) → (so_far : Bool) →
+-- the variables and files whose turn had come, or within all lines.
+abbrev pub WritesNames : Rules → List Pair → (before : List Used) → (asked called : List Text) → (so_far : Bool) →
     Result Bool CheckError → Sink → Sink → Type 0
-WritesNames rules env before asked so_far (Ok sound) old new =
-    (told : Text) × ChecksNames rules env before asked so_far told sound × Wrote old new told
-WritesNames rules env before asked so_far (Err error) old new =
-    (told : Text) × BeginsNames rules env before asked told × Stops error old new told
+WritesNames rules env before asked called so_far (Ok sound) old new =
+    (told : Text) × ChecksNames rules env before asked called so_far told sound × Wrote old new told
+WritesNames rules env before asked called so_far (Err error) old new =
+    (told : Text) × BeginsNames rules env before asked called told × Stops error old new told
 
 -- the same where each name that is asked for has to be set
 abbrev pub WritesCheck : Rules → List Pair → (asked : List Text) → Result Bool CheckError → Sink → Sink → Type 0
-WritesCheck rules env asked answer old new = WritesNames rules env [] asked (all_found env asked) answer old new
+WritesCheck rules env asked answer old new = WritesNames rules env [] asked [] (all_found env asked) answer old new
 
 -- the same of a script, and of the names behind it
 abbrev pub WritesScript : Rules → List Pair → (name text : Text) → (asked : List Text) → Result Bool CheckError → Sink → Sink →

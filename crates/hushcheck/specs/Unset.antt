@@ -3,12 +3,12 @@
 use Rattle.std.specs.Prelude.{◌==◌, ◌||◌, ◌++◌, ◌∷◌, ℕ, Bool, false, not, List, [], length, map, Option, Some, None, Result, Ok, Err, if◌then◌else◌}
 use Rattle.std.specs.List.{flat_map, fold, list_any}
 use Rattle.envimage.specs.Data.{Pair}
-use Rattle.envtools.specs.Environment.{same, value_of}
+use Rattle.envtools.specs.Environment.{same}
 use Rattle.hushlang.specs.Tree.{Script}
 use Rattle.hushlang.specs.declared.token.SyntaxError.{SyntaxError}
 use Rattle.hushcheck.specs.Calls.{Read, Remark, Unset, calls_of, found_lines}
 use Rattle.hushcheck.specs.Names.{Text, read_by}
-use Rattle.hushcheck.specs.Order.{once, with_names}
+use Rattle.hushcheck.specs.Order.{Turn, name_of, once, text_of, with_names}
 use Rattle.hushcheck.specs.Rules.{Rules}
 
 -- ---- what a text reads and sets
@@ -37,8 +37,8 @@ abbrev pub used_by_value : Rules → Text → Option Text → List Used
 used_by_value rules name None = []
 used_by_value rules name (Some text) = used_by_text rules name text
 
-abbrev pub used_by : Rules → List Pair → Text → List Used
-used_by rules env name = used_by_value rules name (value_of env name)
+abbrev pub used_by : Rules → List Pair → Turn → List Used
+used_by rules env turn = used_by_value rules (name_of turn) (text_of rules env turn)
 
 -- ---- what is set
 

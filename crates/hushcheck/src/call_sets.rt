@@ -1,9 +1,10 @@
-//! What a call sets, as far as its words say it.
+//! What a call sets, and which file's text runs after it, as far as its words say it.
 ghost use Rattle.std.specs.Prelude.{◌≡◌, map, option_map, Some, IfOk, OnOk};
 ghost use Rattle.std.specs.List.{fold};
 ghost use Rattle.std.specs.Option.{option_copied};
 ghost use Rattle.device_list.specs.DevicesShown.{left_shown, setting_shown};
 ghost use Rattle.hushlang.specs.TreesShown as view;
+ghost use Rattle.text.specs.TextsShown.{option_bytes};
 ghost use Rattle.hushcheck.specs.CallSets as spec;
 ghost use Rattle.hushcheck.specs.CallSetsShown as shown;
 ghost use Rattle.hushcheck.specs.Names.{written_out};
@@ -92,6 +93,8 @@ pub(crate) struct Sets {
     pub(crate) names: Vec<Vec<u8>>,
     /// Whether there are others, which are not known.
     pub(crate) more: bool,
+    /// The file whose text runs after the call, if there is one.
+    pub(crate) runs: Option<Vec<u8>>,
 }
 
 impl Model for Sets {
@@ -103,6 +106,7 @@ impl Model for Sets {
     ghost view = { λ s. record {
       names = shown.names_shown s.names.items;
       more = s.more;
+      runs = shown.written s.runs;
     } };
 }
 
@@ -115,6 +119,7 @@ impl Sets {
             alloc,
             names: Vec::new(alloc),
             more: false,
+            runs: None,
         }
     }
 
@@ -246,8 +251,19 @@ impl Sets {
         Ok(())
     }
 
-    /// Adds what the device list says that a call sets, whose words are written out as far as they are.
-    /// Errors: memory ran out.
+    /// Keeps the file whose text runs. Errors: memory ran out.
+    fn keep_file(&mut self, file: Option<&[u8]>) -> Result<(), AllocError>
+        ensures { OnOk result (self.new ≡ record self.old { runs = option_bytes file.entry }) }
+    {
+        self.runs = match file {
+            Some(file) => Some(Vec::from_slice(self.alloc, file)?),
+            None => None,
+        };
+        Ok(())
+    }
+
+    /// Adds what the device list says that a call sets and which file's text runs after it, of a call whose
+    /// words are written out as far as they are. Errors: memory ran out.
     fn add_by_list(
         &mut self,
         alloc: Global,
@@ -262,7 +278,10 @@ impl Sets {
     {
         let parts = parts_of(alloc, words)?;
         match devices.effect(command, &parts) {
-            Some(effect) => self.add_settings(written, effect.sets),
+            Some(effect) => {
+                self.add_settings(written, effect.sets)?;
+                self.keep_file(effect.runs)
+            }
             None => Ok(()),
         }
     }

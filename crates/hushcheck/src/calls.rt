@@ -27,6 +27,8 @@ pub(crate) struct Calls {
     pub(crate) reads: Vec<Read>,
     /// The names of the variables that it sets.
     pub(crate) sets: Vec<Vec<u8>>,
+    /// The files whose texts run after its calls, in its order.
+    pub(crate) files: Vec<Vec<u8>>,
 }
 
 /// Reads a name that `run` is given. Errors: memory ran out.
@@ -232,6 +234,9 @@ pub(crate) fn calls_of(
     ensures sets { IfOk result (λ calls. names_shown calls.sets.items
         ≡ (spec.calls_of (option_map (λ d. d.now) devices.entry) text.now
         (view.script script.now)).sets) }
+    ensures files { IfOk result (λ calls. names_shown calls.files.items
+        ≡ (spec.calls_of (option_map (λ d. d.now) devices.entry) text.now
+        (view.script script.now)).files) }
 {
     let places = word_places(alloc, text)?;
     let mut reading = Reading::new(alloc, devices, &places);
@@ -241,6 +246,7 @@ pub(crate) fn calls_of(
         lacks,
         reads,
         sets,
+        files,
         ..
     } = reading;
     Ok(Calls {
@@ -248,5 +254,6 @@ pub(crate) fn calls_of(
         lacks,
         reads,
         sets,
+        files,
     })
 }

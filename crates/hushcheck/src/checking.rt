@@ -1,30 +1,33 @@
 //! The texts that are reached, and what is reported of each.
-ghost use Rattle.std.specs.Prelude.{◌≡◌, ◌==◌, ◌&&◌, ◌++◌, ◌<◌, [], length, map, not, option_map, IfOk, OnOk, slice_index_or};
+ghost use Rattle.std.specs.Prelude.{◌≡◌, ◌==◌, ◌&&◌, ◌++◌, length, map, not, option_map, true, IfOk, OnOk};
 ghost use Rattle.envtools.specs.Printing.{all_found};
-ghost use Rattle.hushcheck.specs.Names.{run_by_found, run_by_name, run_by_text};
-ghost use Rattle.hushcheck.specs.Order.{once, with_names};
+ghost use Rattle.text.specs.TextsShown.{option_bytes};
+ghost use Rattle.hushcheck.specs.CallSetsShown.{names_shown};
+ghost use Rattle.hushcheck.specs.Calls.{files_by_text, files_by_value};
+ghost use Rattle.hushcheck.specs.Names.{run_by_found, run_by_text, run_by_value};
+ghost use Rattle.hushcheck.specs.Order.{file_text, text_of};
+ghost use Rattle.hushcheck.specs.Queue.{after_turn, has_turn, next_turn, turn_shown};
 ghost use Rattle.hushcheck.specs.Rules.{held_to};
-ghost use Rattle.hushcheck.specs.Report.{is_fine, is_fine_text, lines_of, lines_of_text};
+ghost use Rattle.hushcheck.specs.Report.{is_fine, is_fine_text, is_fine_value, lines_of, lines_of_text, lines_of_value};
 ghost use Rattle.hushcheck.specs.Telling.{Writes, WritesCheck, WritesNames, WritesScript, WritesTurns};
-ghost use Rattle.hushcheck.specs.Unset.{used_by, used_by_text};
+ghost use Rattle.hushcheck.specs.Unset.{used_by, used_by_text, used_by_value};
 ghost use Rattle.hushcheck.specs.UsedShown.{all_used};
 
 use crate::by_shell::{TextRead, read_by, warnings_by};
 use crate::calls::{Calls, calls_of};
 use crate::check_error::CheckError;
-use crate::names::{Names, asked_names};
+use crate::queue::{Queue, Turn, queue_behind};
 use crate::remark::Found;
 use crate::rules::Rules;
 use crate::telling::{write_fault, write_read, write_unset};
 use crate::unset::{Used, add_used, set_names, write_unset_reads};
-use crate::walk::add_script;
 use device_list::Devices;
 use envtools::Env;
 use hushlang::{Script, SyntaxError};
 use keyed_hash::KeyedHash;
 use output::Out;
 use rehearse_terms::Shell;
-use std::alloc::{AllocError, Global};
+use std::alloc::Global;
 
 /// Whether all of the names are set.
 fn are_set(env: &Env, names: &[&[u8]]) -> bool
@@ -45,11 +48,13 @@ fn both(first: bool, second: bool) -> bool
     first && second
 }
 
-/// What a variable was found to be.
+/// What a text was found to be.
 #[derive(Drop)]
 struct Checked {
-    /// The script that its text is, if it is one.
+    /// The script that it is, if it is one.
     script: Option<Script>,
+    /// The files whose texts run after its calls.
+    files: Vec<Vec<u8>>,
     /// Whether nothing is wrong with it.
     fine: bool,
 }
@@ -80,6 +85,8 @@ fn check_text<'a, O: Out>(
         (held_to (option_map (λ d. d.now) devices.entry) shell strict) text.now) }
     ensures script { IfOk result (λ checked. run_by_found checked.script
         ≡ run_by_text shell text.now) }
+    ensures files { IfOk result (λ checked. names_shown checked.files.items ≡ files_by_text
+        (held_to (option_map (λ d. d.now) devices.entry) shell strict) text.now) }
     ensures used { OnOk result (all_used used.new.items ≡ all_used used.old.items ++ used_by_text
         (held_to (option_map (λ d. d.now) devices.entry) shell strict) name.now text.now) }
 {
@@ -93,11 +100,13 @@ fn check_text<'a, O: Out>(
                 lacks,
                 reads,
                 sets,
+                files,
             } = calls;
             add_used(alloc, used, name, text, reads, sets)?;
             write_read(alloc, name, text, &warnings.found, &found, out)?;
             Ok(Checked {
                 script: Some(script),
+                files,
                 fine: is_fine(strict, lacks, &warnings.found),
             })
         }
@@ -106,31 +115,53 @@ fn check_text<'a, O: Out>(
             write_fault(alloc, name, text, &warnings, error, out)?;
             Ok(Checked {
                 script: None,
+                files: Vec::new(alloc),
                 fine: false,
             })
         }
     }
 }
 
-/// Checks a variable, writes its lines, and adds what its text uses.
-fn check_name<'a, O: Out>(
+/// The text of a file that the device list names.
+fn file_text<'a>(devices: Option<&'a Devices>, name: &[u8]) -> Option<&'a [u8]>
+    ensures { option_bytes result ≡ file_text (option_map (λ d. d.now) devices.entry) name.now }
+{
+    match devices {
+        Some(devices) => devices.file(name),
+        None => None,
+    }
+}
+
+/// The text of what has its turn: a variable may be not set.
+fn text_of<'a>(rules: &Rules<'a>, env: &'a Env, turn: Turn<'_>) -> Option<&'a [u8]>
+    ensures { option_bytes result ≡ text_of rules.now env.now (turn_shown turn.entry) }
+{
+    match turn {
+        Turn::Variable(name) => env.get(name),
+        Turn::File(name) => file_text(rules.devices, name),
+    }
+}
+
+/// Checks a text under its name, if there is one, writes its lines, and adds what it uses.
+fn check_value<'a, O: Out>(
     alloc: Global,
-    rules: &Rules<'_>,
-    env: &'a Env,
+    rules: &Rules<'a>,
     name: &[u8],
+    text: Option<&'a [u8]>,
     used: &mut Vec<Used<'a>>,
     out: &mut O,
 ) -> Result<Checked, CheckError>
     ensures lines { Writes result (O.sink out.old) (O.sink out.new)
-        (lines_of rules.now env.now name.now) }
-    ensures fine { IfOk result (λ checked. checked.fine
-        ≡ is_fine rules.now env.now name.now) }
+        (lines_of_value rules.now name.now (option_bytes text.entry)) }
+    ensures fine { IfOk result (λ checked. checked.fine ≡ is_fine_value rules.now (option_bytes text.entry)) }
     ensures script { IfOk result (λ checked. run_by_found checked.script
-        ≡ run_by_name rules.now.shell env.now name.now) }
+        ≡ run_by_value rules.now.shell (option_bytes text.entry)) }
+    ensures files { IfOk result (λ checked. names_shown checked.files.items
+        ≡ files_by_value rules.now (option_bytes text.entry)) }
     ensures used { OnOk result (all_used used.new.items
-        ≡ all_used used.old.items ++ used_by rules.now env.now name.now) }
+        ≡ all_used used.old.items ++ used_by_value rules.now name.now (option_bytes text.entry)) }
 {
-    match env.get(name) {
+    match text {
         Some(text) => {
             check_text(
                 alloc,
@@ -147,89 +178,63 @@ fn check_name<'a, O: Out>(
             write_unset(alloc, name, out)?;
             Ok(Checked {
                 script: None,
+                files: Vec::new(alloc),
                 fine: true,
             })
         }
     }
 }
 
-/// Adds the names that a script runs, if one was found.
-fn add_found(alloc: Global, script: Option<Script>, names: &mut Names) -> Result<(), AllocError>
-    ensures { OnOk result (names.new ≡ with_names names.old (run_by_found script)) }
-{
-    match script {
-        Some(script) => add_script(alloc, &script, names),
-        None => Ok(()),
-    }
-}
-
-/// Checks the variable at a place, writes its lines, and adds the names that its text runs, and what it uses.
-/// Returns whether nothing is wrong with it.
+/// Checks what has its turn next, writes its lines, and adds what its text runs and uses. Returns whether nothing is
+/// wrong with it.
 fn take_turn<'a, O: Out>(
     alloc: Global,
-    rules: &Rules<'_>,
+    rules: &Rules<'a>,
     env: &'a Env,
-    names: &mut Names,
-    at: usize,
+    queue: &mut Queue,
     used: &mut Vec<Used<'a>>,
     out: &mut O,
 ) -> Result<bool, CheckError>
-    requires { at < length names.old }
+    requires { has_turn queue.old ≡ true }
     ensures lines { Writes result (O.sink out.old) (O.sink out.new)
-        (lines_of rules.now env.now
-        (slice_index_or names.old at [])) }
-    ensures fine { IfOk result (λ fine. fine ≡ is_fine rules.now env.now (slice_index_or names.old at [])) }
-    ensures names { OnOk result (names.new
-        ≡ with_names names.old (run_by_name rules.now.shell env.now (slice_index_or names.old at []))) }
+        (lines_of rules.now env.now (next_turn queue.old)) }
+    ensures fine { IfOk result (λ fine. fine ≡ is_fine rules.now env.now (next_turn queue.old)) }
+    ensures queue { OnOk result (queue.new ≡ after_turn rules.now env.now queue.old) }
     ensures used { OnOk result (all_used used.new.items
-        ≡ all_used used.old.items ++ used_by rules.now env.now (slice_index_or names.old at [])) }
+        ≡ all_used used.old.items ++ used_by rules.now env.now (next_turn queue.old)) }
 {
-    let name = names.name_at(at);
-    let Checked { script, fine } = check_name(alloc, rules, env, name, used, out)?;
-    add_found(alloc, script, names)?;
-    Ok(fine)
-}
-
-/// The names that are asked for, and then those that a script runs, if there is one; each once, found by this hash.
-fn names_behind(
-    alloc: Global,
-    asked: &[&[u8]],
-    script: Option<Script>,
-    hasher: KeyedHash,
-) -> Result<Names, AllocError>
-    ensures { IfOk result (λ names. names
-        ≡ once (map (λ name. name.now) asked.now ++ run_by_found script)) }
-{
-    let mut names = asked_names(alloc, asked, hasher)?;
-    add_found(alloc, script, &mut names)?;
-    Ok(names)
+    let turn = queue.turn();
+    let text = text_of(rules, env, turn);
+    let checked = check_value(alloc, rules, turn.name(), text, used, out)?;
+    queue.pass_text(alloc, checked.script, &checked.files)?;
+    Ok(checked.fine)
 }
 
 /// Checks the variables that are asked for, and those that a script runs, if there is one, and then those
-/// that the text of each in turn runs, and adds what the texts use. Returns whether all is well, as it was
-/// so far. Names are found by this hash.
+/// that the text of each in turn runs; whenever no variable is left, the next of the files that are called, or
+/// that a text leads to; and adds what the texts use. Returns whether all is well, as it was so far. Names are
+/// found by this hash.
 fn check_turns<'a, O: Out>(
     alloc: Global,
-    rules: &Rules<'_>,
+    rules: &Rules<'a>,
     env: &'a Env,
     asked: &[&[u8]],
     script: Option<Script>,
+    called: &[Vec<u8>],
     hasher: KeyedHash,
     so_far: bool,
     used: &mut Vec<Used<'a>>,
     out: &mut O,
 ) -> Result<bool, CheckError>
     ensures { WritesTurns rules.now env.now (all_used used.old.items)
-        (map (λ name. name.now) asked.now ++ run_by_found script) so_far
+        (map (λ name. name.now) asked.now ++ run_by_found script) (names_shown called.now) so_far
         (all_used used.new.items) result (O.sink out.old) (O.sink out.new) }
 {
-    let mut names = names_behind(alloc, asked, script, hasher)?;
+    let mut queue = queue_behind(alloc, asked, script, called, hasher)?;
     let mut sound = so_far;
-    let mut at = 0;
-    'names: while at < names.len() {
-        let fine = take_turn(alloc, rules, env, &mut names, at, used, out)?;
+    'turns: while queue.has_turn() {
+        let fine = take_turn(alloc, rules, env, &mut queue, used, out)?;
         sound = both(sound, fine);
-        at += 1;
     }
     Ok(sound)
 }
@@ -245,22 +250,23 @@ fn is_well(strict: bool, sound: bool, unset: bool) -> bool
 /// read.
 fn check_names<'a, O: Out>(
     alloc: Global,
-    rules: &Rules<'_>,
+    rules: &Rules<'a>,
     env: &'a Env,
     asked: &[&[u8]],
     script: Option<Script>,
+    called: &[Vec<u8>],
     hasher: KeyedHash,
     so_far: bool,
     used: Vec<Used<'a>>,
     out: &mut O,
 ) -> Result<bool, CheckError>
     ensures { WritesNames rules.now env.now (all_used used.entry.items)
-        (map (λ name. name.now) asked.now ++ run_by_found script) so_far result
+        (map (λ name. name.now) asked.now ++ run_by_found script) (names_shown called.now) so_far result
         (O.sink out.old) (O.sink out.new) }
 {
     let mut used = used;
     let sound = check_turns(
-        alloc, rules, env, asked, script, hasher, so_far, &mut used, out,
+        alloc, rules, env, asked, script, called, hasher, so_far, &mut used, out,
     )?;
     let known = set_names(alloc, env, &used, hasher)?;
     let unset = write_unset_reads(alloc, known, &used, out)?;
@@ -268,7 +274,11 @@ fn check_names<'a, O: Out>(
 }
 
 /// Checks the variables that are asked for, and then the variables that the text of each in turn
-/// runs by a name that is written out, each once. Writes for each whether its text is well-formed,
+/// runs by a name that is written out, each once. When no variable is left, it checks the next of the files that
+/// the texts so far lead to, each once, and then goes on with the variables that its text runs. A text leads to a
+/// file if the device list says of one of its calls that the text of this file runs; the list is asked for the call
+/// with what is written out of its words, so a line whose pattern wants more of a word that holds a variable is not
+/// found. Writes for each whether its text is well-formed,
 /// and if not, where it breaks; what U-Boot's shells read otherwise in it, or if a shell is named,
 /// what a rehearsal by it does not follow; which commands the device list lacks, if there is one;
 /// which names of `run` are not followed; and of which calls it is not known what they set. With an old
@@ -277,10 +287,10 @@ fn check_names<'a, O: Out>(
 /// first word that reads it. Returns whether all is well: each name that is asked for is set, each text is
 /// well-formed, the device list lacks no command, and if a warning is a fault, there is none. The lines are
 /// written as the check goes. Errors: the output failed, or memory ran out; the first lines are then written.
-pub fn check<O: Out>(
+pub fn check<'a, O: Out>(
     alloc: Global,
-    rules: &Rules<'_>,
-    env: &Env,
+    rules: &Rules<'a>,
+    env: &'a Env,
     asked: &[&[u8]],
     out: &mut O,
 ) -> Result<bool, CheckError>
@@ -295,6 +305,7 @@ pub fn check<O: Out>(
         env,
         asked,
         None,
+        &[],
         env.hasher(),
         so_far,
         used,
@@ -303,12 +314,12 @@ pub fn check<O: Out>(
 }
 
 /// Checks a script that is no variable's text, under this name, and then as `check` the variables that are
-/// asked for and those that the script runs. Returns whether all is well: as `check` says, and the script is
-/// well-formed, the device list lacks no command of it, and if a warning is a fault, it has none. Errors: those
-/// of `check`.
+/// asked for and those that the script runs, and the files that these texts and the script lead to. Returns
+/// whether all is well: as `check` says, and the script is well-formed, the device list lacks no command of it,
+/// and if a warning is a fault, it has none. Errors: those of `check`.
 pub fn check_script<'a, O: Out>(
     alloc: Global,
-    rules: &Rules<'_>,
+    rules: &Rules<'a>,
     env: &'a Env,
     name: &[u8],
     text: &'a [u8],
@@ -337,6 +348,7 @@ pub fn check_script<'a, O: Out>(
         env,
         asked,
         checked.script,
+        &checked.files,
         hasher,
         so_far,
         used,

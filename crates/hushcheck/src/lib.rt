@@ -11,6 +11,7 @@ mod fault;
 mod lines;
 mod names;
 mod place;
+mod queue;
 mod reading;
 mod remark;
 mod rules;

@@ -4,6 +4,7 @@ ghost use Rattle.std.specs.Option.{option_copied};
 ghost use Rattle.hushlang.specs.CursorShown.{input_in};
 ghost use Rattle.hushlang.specs.TreesShown as view;
 ghost use Rattle.hushcheck.specs.CallSets.{set_by_call};
+ghost use Rattle.hushcheck.specs.CallSetsShown.{written};
 ghost use Rattle.hushcheck.specs.Calls as spec;
 ghost use Rattle.hushcheck.specs.Remarks as shown;
 
@@ -85,6 +86,8 @@ pub(crate) struct Reading<'a> {
     pub(crate) reads: Vec<Read>,
     /// The names of the variables that are set.
     pub(crate) sets: Vec<Vec<u8>>,
+    /// The files whose texts run after calls.
+    pub(crate) files: Vec<Vec<u8>>,
 }
 
 impl<'a> Model for Reading<'a> {
@@ -102,6 +105,7 @@ impl<'a> Model for Reading<'a> {
       lacks = r.lacks;
       reads = shown.all_read r.reads.items;
       sets = names_shown r.sets.items;
+      files = names_shown r.files.items;
     } };
 }
 
@@ -115,6 +119,7 @@ impl<'a> Reading<'a> {
           lacks = false;
           reads = [];
           sets = [];
+          files = [];
         } }
     {
         Reading {
@@ -124,6 +129,7 @@ impl<'a> Reading<'a> {
             lacks: false,
             reads: Vec::new(alloc),
             sets: Vec::new(alloc),
+            files: Vec::new(alloc),
         }
     }
 
@@ -176,23 +182,36 @@ impl<'a> Reading<'a> {
         Ok(())
     }
 
-    /// Keeps what is set, and adds that there are others, if there are. Errors: memory ran out.
+    /// Keeps the file whose text runs, if there is one. Errors: memory ran out.
+    fn keep_file(&mut self, file: Option<Vec<u8>>) -> Result<(), AllocError>
+        ensures { OnOk result (self.new ≡ spec.after_file (written file) self.old) }
+    {
+        if let Some(file) = file {
+            self.files.push(file)?;
+        }
+        Ok(())
+    }
+
+    /// Keeps what is set, and the file whose text runs, and adds that others are set, if there are. Errors:
+    /// memory ran out.
     fn keep_sets(&mut self, sets: Sets) -> Result<(), AllocError>
         ensures { OnOk result (self.new ≡ spec.after_sets sets self.old) }
     {
         let Sets {
             mut names,
             more,
+            runs,
             ..
         } = sets;
         self.sets.append(&mut names)?;
         if more {
             self.find(Remark::SetsMore)?;
         }
-        Ok(())
+        self.keep_file(runs)
     }
 
-    /// Keeps what a call sets with these words behind its first one. Errors: memory ran out.
+    /// Keeps what a call sets with these words behind its first one, and the file whose text runs after it.
+    /// Errors: memory ran out.
     pub(crate) fn keep_call(
         &mut self,
         alloc: Global,

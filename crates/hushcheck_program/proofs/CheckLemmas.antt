@@ -8,10 +8,13 @@ use Rattle.envimage.specs.declared.image.ImageError.{ImageError}
 use Rattle.envimage.specs.declared.image.ImageError.TheVariants as image
 use Rattle.output.specs.Sink.{Sink}
 use Rattle.hushcheck_program.specs.Asked.{Asked}
-use Rattle.hushcheck_program.specs.Checking.{AreListed, AreTexts, BeginTexts, BeginsAll, ChecksAll, ChecksBy, ChecksFrom, ChecksText, FromFiles, Given, HasReadList, IsListless, IsUnread, LeavesOutput, Lists, Named, ReadsList, checked_names, env_on, given, given_by, rules_in, under, TellsAll, IsBadList, BreaksOff, WritesFront}
+use Rattle.hushcheck_program.specs.Checking.{AreTexts, BeginTexts, BeginsAll, ChecksAll, ChecksBy, ChecksFrom, ChecksText, FromFiles, FromNamed, Given, IsUnread, IsUnreadBy, LeavesOutput, Lists, Named, checked_names, env_on, given, given_of, inputs_of, rules_in, TellsAll, IsBadList, BreaksOff, WritesFront}
 use Rattle.hushcheck.specs.Names.{Text}
 use Rattle.hushcheck.specs.Rules.{Rules}
 use Rattle.rehearse_terms.specs.declared.shell.Shell.{Shell}
+use Rattle.board_files.proofs.BoardLemmas.{only-read as board-reads, so-of-board}
+use Rattle.board_files.specs.BoardFiles.{ReadsBoard, list_of}
+use Rattle.board_files.specs.declared.board_files.BoardFiles.{BoardFiles}
 use Rattle.board_start.specs.Boards.{Board}
 use Rattle.board_start.specs.declared.board_error.BoardError.{BoardError}
 use Rattle.hushcheck_program.specs.Faults.{CountsShared, of_image}
@@ -22,10 +25,9 @@ use Rattle.tool_images.specs.declared.error.ToolError.{ToolError}
 use Rattle.tool_images.specs.declared.error.ToolError.TheVariants as tool
 use Rattle.tool_images.specs.declared.fault.Fault.{Fault}
 use Rattle.tool_images.specs.declared.fault.Fault.TheVariants as fault
-use Rattle.tool_files.proofs.OrderLemmas.{OnlyReads-none, OnlyReads-one, OnlyReads-then}
+use Rattle.tool_files.proofs.OrderLemmas.{OnlyReads-then}
 use Rattle.tool_files.specs.CallOrder.{OnlyReads}
-use Rattle.tool_files.specs.Told.{Stored, Told, file_at}
-use Rattle.tool_files.specs.declared.files.Action.TheVariants.{ReadAll}
+use Rattle.tool_files.specs.Told.{Stored, Told}
 use Rattle.tool_steps.proofs.PrintLemmas.{image-bytes}
 use Rattle.tool_steps.proofs.OriginLemmas.{origin-reads}
 use Rattle.tool_steps.proofs.SourceLemmas.{has-read, named-reads}
@@ -34,8 +36,8 @@ use Rattle.tool_steps.specs.Origins.{HasReadImages, IsOriginFault, ReadsOrigin}
 use Rattle.tool_steps.specs.PrintingFiles.{environment, first_bytes, second_bytes}
 use Rattle.tool_steps.specs.declared.images.Images.{Images}
 use Rattle.tool_steps.specs.declared.read.StoredCopy.{StoredCopy}
-use Rattle.tool_steps.specs.ReadingFiles.{IsTextFault}
-use Rattle.tool_steps.specs.Scripts.{IsNamedFault, ReadsNamed}
+use Rattle.tool_steps.specs.Faults.{IsScriptReadFault}
+use Rattle.tool_steps.specs.Scripts.{HasReadNamed, IsNamedFault, ReadsNamed}
 use Rattle.tool_words.specs.Asked.{OriginShown, configured, no_images, texts, whole}
 
 -- the bytes of a text, if there is one
@@ -44,7 +46,27 @@ bytes_if text = option_map (λ v. v.items) text
 
 -- ---- reads that were refused
 
--- reading images gives no refusal of the tools
+-- a refusal that is none of the tools is told as it is
+module _ (asked : Asked) (out : Sink) (old new : Told) where
+  unread : (f : Fault) → ((error : ToolError) → f ≡ fault.Tool error → ⊥) → OnlyReads old new → IsUnread asked old new f → ChecksFrom asked out out old new (Err (Shared f))
+  unread (fault.Config error) never reads h = h
+  unread (fault.Tool error) never reads h = absurd (never error refl)
+  unread (fault.CannotRead path) never reads h = h
+  unread (fault.CannotWrite path) never reads h = h
+  unread (fault.Exists path) never reads h = h
+  unread (fault.FileShort path) never reads h = h
+  unread (fault.FileTooLong path) never reads h = h
+  unread fault.UnequalSizes never reads h = h
+  unread (fault.Text error) never reads h = h
+  unread fault.TextTooLarge never reads h = h
+  unread fault.CannotReadInput never reads h = h
+  unread fault.InputTooLong never reads h = h
+  unread (fault.InputCutOff line) never reads h = h
+  unread (fault.NoScript path why) never reads h = h
+  unread (fault.Lock error) never reads h = h
+  unread fault.Memory never reads h = (reads, inl refl)
+
+-- reading images and scripts gives no refusal of the tools
 no-tool : (origin : OriginShown) (stored : Stored) (error : ToolError) → IsOriginFault origin stored (fault.Tool error) → ⊥
 no-tool (configured config) stored error h = h
 no-tool (whole first None) stored error h = h
@@ -53,107 +75,43 @@ no-tool (whole first (Some second)) stored error (inr h) = h
 no-tool (texts path order) stored error h = h
 no-tool (no_images order) stored error h = cc
 
--- checking gives no such refusal
-unread : (asked : Asked) (out : Sink) (old new : Told) (f : Fault) → OnlyReads old new → IsUnread asked old f → ChecksFrom asked out out old new (Err (Shared f))
-unread asked out old new (fault.Config error) reads h = (reads, h)
-unread asked out old new (fault.Tool error) reads (inl h) = absurd (no-tool asked.origin old.stored error h)
-unread asked out old new (fault.Tool error) reads (inr (inl h)) = absurd (listless asked.device_list h)
-  where
-    listless : (list : Option Text) → IsListless asked.origin list old (fault.Tool error) → ⊥
-    listless None h = h
-    listless (Some list) h = h.refused
-unread asked out old new (fault.Tool error) reads (inr (inr h)) = absurd (scriptless asked.script h.refused)
-  where
-    scriptless : (script : Option Text) → IsNamedFault script old.stored (fault.Tool error) → ⊥
-    scriptless None h = h
-    scriptless (Some path) h = h
-unread asked out old new (fault.CannotRead path) reads h = (reads, h)
-unread asked out old new (fault.CannotWrite path) reads h = (reads, h)
-unread asked out old new (fault.Exists path) reads h = (reads, h)
-unread asked out old new (fault.FileShort path) reads h = (reads, h)
-unread asked out old new (fault.FileTooLong path) reads h = (reads, h)
-unread asked out old new fault.UnequalSizes reads h = (reads, h)
-unread asked out old new (fault.Text error) reads h = (reads, h)
-unread asked out old new fault.TextTooLarge reads h = (reads, h)
-unread asked out old new fault.CannotReadInput reads h = (reads, h)
-unread asked out old new fault.InputTooLong reads h = (reads, h)
-unread asked out old new (fault.InputCutOff line) reads h = (reads, h)
-unread asked out old new (fault.NoScript path why) reads h = (reads, h)
-unread asked out old new (fault.Lock error) reads h = (reads, h)
-unread asked out old new fault.Memory reads h = (reads, inl refl)
+no-named : (script : Option Text) (stored : Stored) (error : ToolError) → IsNamedFault script stored (fault.Tool error) → ⊥
+no-named None stored error h = h
+no-named (Some path) stored error h = h
 
--- the refusal of the images
-pub checks-unread : (asked : Asked) (out : Sink) (old new : Told) (f : Fault) → ReadsOrigin asked.origin old new (Err f) → ChecksFrom asked out out old new (Err (Shared f))
-checks-unread asked out old new f h = unread asked out old new f h.0 (inl h.1)
+no-script-read : (f : Fault) → IsScriptReadFault f → (error : ToolError) → f ≡ fault.Tool error → ⊥
+no-script-read f h error e = let P : Fault → Type 0 = λ t. IsScriptReadFault t in let never : P (fault.Tool error) = subst P e h in never
 
--- the refusal of the device list
-pub checks-unlisted : (asked : Asked) (out : Sink) (found : List Copy) (x y z : Told) (f : Fault) → HasReadImages asked.origin x y found → ReadsList asked.device_list y z (Err f) → ChecksFrom asked out out x z (Err (Shared f))
-checks-unlisted asked out found x y z f read h =
-    let both = by asked.device_list h in
-    unread asked out x z f both.0 (inr (inl both.1))
-  where
-    by : (list : Option Text) → ReadsList list y z (Err f) → OnlyReads x z × IsListless asked.origin list x f
-    by None h = absurd h
-    by (Some list) h =
-        let reads = origin-reads asked.origin x y found read in
-        let refused : IsTextFault list (file_at list x.stored) f = subst (λ (s : Stored). IsTextFault list (file_at list s) f) reads.stored h.1 in
-        (OnlyReads-then x y z reads h.0, record { found = found; after_images = y; read = read; refused = refused })
+-- without a device list: the refusal of the images
+module _ (asked : Asked) (none : asked.device_list ≡ None) (out : Sink) where
+  alone : (old new : Told) (f : Fault) → IsUnreadBy None asked old new f → IsUnread asked old new f
+  alone old new f h = subst (λ (list : Option Text). IsUnreadBy list asked old new f) (sym none) h
 
--- ---- the reads that were made
+  pub checks-unread : (old new : Told) (f : Fault) → ReadsOrigin asked.origin old new (Err f) → ChecksFrom asked out out old new (Err (Shared f))
+  checks-unread old new f h =
+      let never : (error : ToolError) → f ≡ fault.Tool error → ⊥ = λ error e. no-tool asked.origin old.stored error (subst (λ (t : Fault). IsOriginFault asked.origin old.stored t) e h.1) in
+      unread asked out old new f never h.0 (alone old new f (h.0, inl h.1))
 
-has-read-list : (list : Option Text) (y z : Told) (text : Option (Vec ℕ Global)) → ReadsList list y z (Ok text) → HasReadList list y z (bytes_if text)
-has-read-list None y z None h = h
-has-read-list None y z (Some text) h = absurd h
-has-read-list (Some list) y z None h = absurd h
-has-read-list (Some list) y z (Some text) h = h
+  -- the refusal of the script
+  pub checks-unscripted : (found : List Copy) (x y z : Told) (f : Fault) → HasReadImages asked.origin x y found → ReadsNamed asked.script y z (Err f) → ChecksFrom asked out out x z (Err (Shared f))
+  checks-unscripted found x y z f read h =
+      let reads = origin-reads asked.origin x y found read in
+      let all = OnlyReads-then x y z reads h.0 in
+      let refused : IsNamedFault asked.script x.stored f = subst (λ (s : Stored). IsNamedFault asked.script s f) reads.stored h.1 in
+      let never : (error : ToolError) → f ≡ fault.Tool error → ⊥ = λ error e. no-named asked.script x.stored error (subst (λ (t : Fault). IsNamedFault asked.script x.stored t) e refused) in
+      unread asked out x z f never all (alone x z f (all, inr (record { found = found; after_images = y; read = read; refused = refused })))
 
-list-reads : (list : Option Text) (y z : Told) (text : Option Text) → HasReadList list y z text → OnlyReads y z
-list-reads None y z None h = subst (λ (t : Told). OnlyReads y t) (sym h) (OnlyReads-none y)
-list-reads None y z (Some text) h = absurd h
-list-reads (Some list) y z None h = absurd h
-list-reads (Some list) y z (Some text) h = OnlyReads-one list ReadAll y z refl h.calls h.stored
-
-are-listed : (asked : Asked) (found : List Copy) (x y z : Told) (text : Option (Vec ℕ Global)) → HasReadImages asked.origin x y found → ReadsList asked.device_list y z (Ok text) → AreListed asked x z found (bytes_if text)
-are-listed asked found x y z text read h = record { after_images = y; read = read; listed = has-read-list asked.device_list y z text h }
-
-listed-reads : (asked : Asked) (found : List Copy) (x z : Told) (list : Option Text) → AreListed asked x z found list → OnlyReads x z
-listed-reads asked found x z list h =
-    OnlyReads-then x h.after_images z (origin-reads asked.origin x h.after_images found h.read) (list-reads asked.device_list h.after_images z list h.listed)
-
--- the refusal of the script
-pub checks-unscripted : (asked : Asked) (out : Sink) (found : List Copy) (text : Option (Vec ℕ Global)) (x y z w : Told) (f : Fault) → HasReadImages asked.origin x y found → ReadsList asked.device_list y z (Ok text)
-    → ReadsNamed asked.script z w (Err f) → ChecksFrom asked out out x w (Err (Shared f))
-checks-unscripted asked out found text x y z w f read list h =
-    let listed = are-listed asked found x y z text read list in
-    let reads = listed-reads asked found x z (bytes_if text) listed in
-    let refused : IsNamedFault asked.script x.stored f = subst (λ (s : Stored). IsNamedFault asked.script s f) reads.stored h.1 in
-    unread asked out x w f (OnlyReads-then x z w reads h.0) (inr (inr (record { found = found; list = bytes_if text; after_list = z; listed = listed; refused = refused })))
+-- with a device list
+pub checks-listless : (asked : Asked) (path : Text) → asked.device_list ≡ Some path → (out : Sink) (old new : Told) (f : Fault) → IsScriptReadFault f → ReadsBoard (inputs_of asked path) old new (Err f)
+    → ChecksFrom asked out out old new (Err (Shared f))
+checks-listless asked path some out old new f of_script h =
+    unread asked out old new f (no-script-read f of_script) h.0 (subst (λ (list : Option Text). IsUnreadBy list asked old new f) (sym some) h)
 
 -- ---- the texts of what was read
 
-module _ (asked : Asked) (out out' : Sink) (found : List Copy) (text script : Option (Vec ℕ Global)) (x y z w : Told) (read : HasReadImages asked.origin x y found) (list : ReadsList asked.device_list y z (Ok text))
-    (named : ReadsNamed asked.script z w (Ok script)) where
-  abbrev pub here : Given
-  here = given_by asked.order found (bytes_if text) (under asked.script (bytes_if script)) asked.names asked.all asked.shell asked.strict
-
-  from-files : (IsSo : Given → Type 0) → IsSo here → FromFiles asked x w IsSo
-  from-files IsSo so = record {
-    found = found;
-    list = bytes_if text;
-    after_list = z;
-    listed = are-listed asked found x y z text read list;
-    script = bytes_if script;
-    scripted = has-read asked.script z w script named;
-    so = so;
-  }
-
-  only-read : OnlyReads x w
-  only-read =
-      OnlyReads-then x z w (listed-reads asked found x z (bytes_if text) (are-listed asked found x y z text read list))
-      (named-reads asked.script z w (bytes_if script) (has-read asked.script z w script named))
-
-  -- what is not refused so by the texts: the files were read
-  pub checks-read : (answer : Result Bool CheckFault) → ChecksText here out out' answer → ChecksFrom asked out out' x w answer
+-- what is not refused so by the texts: the files were read
+module _ (asked : Asked) (out out' : Sink) (here : Given) (x w : Told) (only-read : OnlyReads x w) (from-files : (IsSo : Given → Type 0) → IsSo here → FromFiles asked x w IsSo) where
+  checks-read : (answer : Result Bool CheckFault) → ChecksText here out out' answer → ChecksFrom asked out out' x w answer
   checks-read (Ok sound) h = from-files (λ g. TellsAll g out out' sound) h
   checks-read (Err (DeviceList error)) h = from-files (λ g. IsBadList g error) h.0
   checks-read (Err (Shared (fault.Tool (tool.Image error)))) h = from-files (λ g. g.env ≡ Err error) h.0
@@ -180,6 +138,41 @@ module _ (asked : Asked) (out out' : Sink) (found : List Copy) (text script : Op
   checks-read (Err (Shared fault.InputTooLong)) h = absurd h
   checks-read (Err (Shared (fault.InputCutOff line))) h = absurd h
   checks-read (Err (Shared (fault.NoScript path why))) h = absurd h
+
+-- without a device list
+pub checks-alone : (asked : Asked) → asked.device_list ≡ None → (out out' : Sink) (found : List Copy) (script : Option (Vec ℕ Global)) (x y z : Told) → HasReadImages asked.origin x y found → ReadsNamed asked.script y z (Ok script)
+    → (answer : Result Bool CheckFault) → ChecksText (given_of asked found None (bytes_if script)) out out' answer → ChecksFrom asked out out' x z answer
+checks-alone asked none out out' found script x y z read named answer checked =
+    checks-read asked out out' (given_of asked found None (bytes_if script)) x z only-read from answer checked
+  where
+    scripted : HasReadNamed asked.script y z (bytes_if script)
+    scripted = has-read asked.script y z script named
+
+    only-read : OnlyReads x z
+    only-read = OnlyReads-then x y z (origin-reads asked.origin x y found read) (named-reads asked.script y z (bytes_if script) scripted)
+
+    from : (IsSo : Given → Type 0) → IsSo (given_of asked found None (bytes_if script)) → FromFiles asked x z IsSo
+    from IsSo so = subst (λ (list : Option Text). FromNamed list asked x z IsSo) (sym none) (record {
+      found = found;
+      after_images = y;
+      read = read;
+      script = bytes_if script;
+      scripted = scripted;
+      so = so;
+    })
+
+-- with a device list
+pub checks-listed : (asked : Asked) (path : Text) → asked.device_list ≡ Some path → (out out' : Sink) (board : BoardFiles) (x z : Told) → ReadsBoard (inputs_of asked path) x z (Ok board)
+    → (answer : Result Bool CheckFault) → ChecksText (given_of asked (copies board.images) (Some (list_of board)) (bytes_if board.script)) out out' answer → ChecksFrom asked out out' x z answer
+checks-listed asked path some out out' board x z read answer checked =
+    checks-read asked out out' here x z (board-reads (inputs_of asked path) board x z read) from answer checked
+  where
+    here : Given
+    here = given_of asked (copies board.images) (Some (list_of board)) (bytes_if board.script)
+
+    from : (IsSo : Given → Type 0) → IsSo (given_of asked (copies board.images) (Some (list_of board)) (bytes_if board.script)) → FromFiles asked x z IsSo
+    from IsSo so = subst (λ (list : Option Text). FromNamed list asked x z IsSo) (sym some)
+        (so-of-board (inputs_of asked path) board x z (λ found list script. IsSo (given_of asked found (Some list) script)) read so)
 
 -- ---- the answer, over any files
 

@@ -12,12 +12,13 @@ use Rattle.tool_words.specs.declared.ask.Origin.{Origin}
 use Rattle.tool_words.specs.declared.ask.OriginError.{OriginError}
 use Rattle.rehearse_terms.specs.declared.shell.Shell.{Shell}
 
--- what names the images, and the paths of the device list and of the script, if there are any; the variables to check, and
--- whether every variable is checked after them; the shell that is named, if one is; whether a
--- warning is a fault; and how the checksum is stored
+-- what names the images, and the paths of the device list, of the folder of the files that it names and of the script, if there
+-- are any; the variables to check, and whether every variable is checked after them; the shell that is named, if one is;
+-- whether a warning is a fault; and how the checksum is stored
 pub record Asked : Type 0 where
   pub origin : OriginShown
   pub device_list : Option Text
+  pub files : Option Text
   pub script : Option Text
   pub names : List Text
   pub all : Bool
@@ -54,6 +55,7 @@ abbrev pub asked_from : List Row → Option Shell → OriginShown → Asked
 asked_from rows shell origin = record {
   origin = origin;
   device_list = first_of (codes "device-list") rows;
+  files = first_of (codes "files") rows;
   script = first_of (codes "script") rows;
   names = or_bootcmd (is_set (codes "all") rows || has_script rows) (values_of (codes "names") rows);
   all = is_set (codes "all") rows;
@@ -81,6 +83,7 @@ abbrev pub asked_by : Origin → Option (String Global) → CheckAsk → ByteOrd
 asked_by origin list what order = record {
   origin = origin_shown origin;
   device_list = option_map string_bytes list;
+  files = option_map string_bytes what.files;
   script = option_map string_bytes what.script;
   names = map string_bytes what.names.items;
   all = what.all;

@@ -1,6 +1,5 @@
 -- What checking the texts of an image does, from files whose contents are known. Ours.
-use Rattle.std.specs.Prelude.{◌≡◌, ◌⊎◌, ◌++◌, ℕ, Bool, List, Option, Some, None, option_map, Result, Ok, Err, Vec}
-use Rattle.std.specs.declared.alloc.Global.{Global}
+use Rattle.std.specs.Prelude.{◌≡◌, ◌⊎◌, ◌++◌, Bool, false, List, Option, Some, None, option_map, Result, Ok, Err}
 use Rattle.envimage.specs.Data.{Pair}
 use Rattle.output.specs.Outputs.{WroteFront}
 use Rattle.output.specs.Sink.{BrokeOff, Sink, Wrote}
@@ -17,24 +16,22 @@ use Rattle.hushcheck.specs.Telling.{Stops}
 use Rattle.hushcheck.specs.declared.check_error.CheckError.{CheckError}
 use Rattle.rehearse_terms.specs.declared.shell.Shell.{Shell}
 use Rattle.board_start.specs.BoardShown.{board_shown}
-use Rattle.board_start.specs.Boards.{Board, Fault as BoardFault, OfDevices, OfStart, board_of}
+use Rattle.board_files.specs.BoardFiles.{AreAllRead, IsNotRead}
+use Rattle.board_start.specs.Boards.{Board, Fault as BoardFault, ListRead, OfDevices, OfStart, board_of}
 use Rattle.board_start.specs.Start.{chosen, first_texts}
 use Rattle.board_start.specs.declared.board.Board.{Board as BoardRead}
 use Rattle.board_start.specs.declared.board_error.BoardError.{BoardError}
 use Rattle.board_start.specs.declared.board_error.BoardError.TheVariants as board
 use Rattle.tool_files.specs.CallOrder.{OnlyReads}
-use Rattle.tool_files.specs.Told.{Told, file_at}
-use Rattle.tool_files.specs.declared.files.Action.TheVariants.{ReadAll}
+use Rattle.tool_files.specs.Told.{Told}
 use Rattle.tool_images.specs.declared.error.ToolError.TheVariants.{Image, Write}
 use Rattle.tool_images.specs.declared.fault.Fault.{Fault}
 use Rattle.tool_images.specs.declared.fault.Fault.TheVariants.{Memory, Tool}
 use Rattle.tool_steps.specs.Images.{Copy}
 use Rattle.tool_steps.specs.Origins.{HasReadImages, IsOriginFault}
 use Rattle.tool_steps.specs.PrintingFiles.{environment}
-use Rattle.tool_steps.specs.ReadingFiles.{Reads, ReadsText}
 use Rattle.tool_steps.specs.Scripts.{HasReadNamed, IsNamedFault}
-use Rattle.tool_steps.specs.Sources.{IsUnlisted}
-use Rattle.tool_words.specs.Asked.{OriginShown}
+use Rattle.tool_words.specs.Asked.{InputsShown}
 
 -- ---- what is checked
 
@@ -68,13 +65,13 @@ with_list (Ok board) = Ok (Some board)
 with_list (Err (OfStart fault)) = Err (board.Start fault)
 with_list (Err (OfDevices fault)) = Err (board.Devices fault)
 
--- the board of a device list's text, if there is one
-abbrev pub list_in : Option Text → Result (Option Board) BoardError
+-- the board of a device list, if there is one
+abbrev pub list_in : Option ListRead → Result (Option Board) BoardError
 list_in None = Ok None
-list_in (Some text) = with_list (board_of text)
+list_in (Some list) = with_list (board_of list)
 
--- the same for copies and the text of a device list
-abbrev pub given_by : ByteOrder → List Copy → (list : Option Text) → Option Named → List Text → Bool → Option Shell →
+-- the same for copies and a device list
+abbrev pub given_by : ByteOrder → List Copy → (list : Option ListRead) → Option Named → List Text → Bool → Option Shell →
     (strict : Bool) → Given
 given_by order found list script names all shell strict =
     given (environment order found) (list_in list) script names all shell strict
@@ -180,57 +177,55 @@ ChecksBy rules env script asked old new (Err _) = ⊥
 
 -- ---- files
 
--- the device list was read, if one is named, or refused
-abbrev pub ReadsList : Option Text → Told → Told → Result (Option (Vec ℕ Global)) Fault → Type 0
-ReadsList None old new (Ok None) = new ≡ old
-ReadsList (Some path) old new (Ok (Some text)) = ReadsText path old new (Ok text)
-ReadsList (Some path) old new (Err fault) = ReadsText path old new (Err fault)
-ReadsList path old new _ = ⊥
+-- what is checked of what was read
+abbrev pub given_of : Asked → List Copy → (list : Option ListRead) → (script : Option Text) → Given
+given_of asked found list script =
+    given_by asked.order found list (under asked.script script) asked.names asked.all asked.shell asked.strict
 
--- the device list was read, if one is named
-abbrev pub HasReadList : Option Text → Told → Told → Option Text → Type 0
-HasReadList None old new None = new ≡ old
-HasReadList (Some path) old new (Some text) = Reads (path, ReadAll) (file_at path old.stored) old new text
-HasReadList path old new _ = ⊥
+-- what a rehearsal reads, too, for this device list
+abbrev pub inputs_of : Asked → (device_list : Text) → InputsShown
+inputs_of asked device_list = record {
+  origin = asked.origin;
+  device_list = device_list;
+  taking = record { steady = false; alternative = None };
+  script = asked.script;
+  files = asked.files;
+}
 
--- The images were read, and then the device list, if one is named.
-pub record AreListed (asked : Asked) (old new : Told) (found : List Copy) (list : Option Text) : Type 0 where
+-- The images were read, and then the script, if one is named, and this holds of what they give.
+pub record AreFound (asked : Asked) (old new : Told) (IsSo : List Copy → (script : Option Text) → Type 0) : Type 0 where
+  pub found : List Copy
   pub after_images : Told
   pub read : HasReadImages asked.origin old after_images found
-  pub listed : HasReadList asked.device_list after_images new list
-
--- And then the script was read, if one is named, and this holds of what they give.
-pub record AreFound (asked : Asked) (old new : Told) (IsSo : List Copy → (list script : Option Text) → Type 0) : Type 0 where
-  pub found : List Copy
-  pub list : Option Text
-  pub after_list : Told
-  pub listed : AreListed asked old after_list found list
   pub script : Option Text
-  pub scripted : HasReadNamed asked.script after_list new script
-  pub so : IsSo found list script
+  pub scripted : HasReadNamed asked.script after_images new script
+  pub so : IsSo found script
 
--- the images were read, and the device list is refused for this
-abbrev pub IsListless : (origin : OriginShown) → (list : Option Text) → Told → Fault → Type 0
-IsListless origin None old fault = ⊥
-IsListless origin (Some list) old fault = IsUnlisted origin list old fault
-
--- They were read, and the script is refused for this.
+-- The images were read, and the script is refused for this.
 pub record IsScriptless (asked : Asked) (old : Told) (fault : Fault) : Type 0 where
   pub found : List Copy
-  pub list : Option Text
-  pub after_list : Told
-  pub listed : AreListed asked old after_list found list
+  pub after_images : Told
+  pub read : HasReadImages asked.origin old after_images found
   pub refused : IsNamedFault asked.script old.stored fault
 
--- why a file is refused that is read
-abbrev pub IsUnread : Asked → Told → Fault → Type 0
-IsUnread asked old fault = IsOriginFault asked.origin old.stored fault
-    ⊎ (IsListless asked.origin asked.device_list old fault ⊎ IsScriptless asked old fault)
+-- What is read without a device list. With one it is what a rehearsal reads: the images, then the list, then the script, and
+-- then the files that the list names, if a folder is named. What is checked then has this property.
+abbrev pub FromNamed : (device_list : Option Text) → Asked → (old new : Told) → (Given → Type 0) → Type 0
+FromNamed None asked old new IsSo = AreFound asked old new (λ found script. IsSo (given_of asked found None script))
+FromNamed (Some path) asked old new IsSo = AreAllRead (inputs_of asked path) old new (λ found list script.
+    IsSo (given_of asked found (Some list) script))
 
--- and what is checked then has this property
 abbrev pub FromFiles : Asked → (old new : Told) → (Given → Type 0) → Type 0
-FromFiles asked old new IsSo = AreFound asked old new (λ found list script.
-    IsSo (given_by asked.order found list (under asked.script script) asked.names asked.all asked.shell asked.strict))
+FromFiles asked old new IsSo = FromNamed asked.device_list asked old new IsSo
+
+-- why a file is refused that is read: files were only read
+abbrev pub IsUnreadBy : (device_list : Option Text) → Asked → (old new : Told) → Fault → Type 0
+IsUnreadBy None asked old new fault =
+    OnlyReads old new × (IsOriginFault asked.origin old.stored fault ⊎ IsScriptless asked old fault)
+IsUnreadBy (Some path) asked old new fault = IsNotRead (inputs_of asked path) old new fault
+
+abbrev pub IsUnread : Asked → (old new : Told) → Fault → Type 0
+IsUnread asked old new fault = IsUnreadBy asked.device_list asked old new fault
 
 -- The files were read and the texts checked, or the image or the device list is refused; or a read is refused, and files
 -- were only read. Memory may run out at any time, also when lines were written.
@@ -241,7 +236,7 @@ ChecksFrom asked out out' old new (Err (DeviceList fault)) = FromFiles asked old
 ChecksFrom asked out out' old new (Err (Shared (Tool Write))) = FromFiles asked old new (λ g. BreaksOff g out out')
 ChecksFrom asked out out' old new (Err (Shared Memory)) =
     OnlyReads old new × ((out' ≡ out) ⊎ FromFiles asked old new (λ g. WritesFront g out out'))
-ChecksFrom asked out out' old new (Err (Shared fault)) = OnlyReads old new × IsUnread asked old fault
+ChecksFrom asked out out' old new (Err (Shared fault)) = IsUnread asked old new fault
 
 -- a refusal leaves the output as it was, unless it says that the output failed or that memory ran out
 abbrev pub LeavesOutput : Result Bool CheckFault → (old new : Sink) → Type 0

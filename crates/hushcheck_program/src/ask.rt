@@ -17,9 +17,11 @@ pub struct Ask {
     pub order: ByteOrder,
 }
 
-/// The variables to check, and the script.
+/// The variables to check, and the script, and the folder of files.
 #[derive(Debug, Drop)]
 pub struct CheckAsk {
+    /// The path of the folder of the files that the device list names, if one is given.
+    pub files: Option<String>,
     /// The path of the script that is checked in place of a variable, if one is given. No variable is named beside it.
     pub script: Option<String>,
     /// The variables that are named, in this order.

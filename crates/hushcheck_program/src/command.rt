@@ -32,6 +32,11 @@ With -d, each command that a text calls by a plain name is reported too, as
 'the device list lacks COMMAND', if it is neither built in nor in the device
 list.
 
+With --files, a line of the device list may say 'runs FILE' of calls. If a text
+has such a call, the text of that file is checked too, under the name FILE, when
+no variable is left. A word of the call that holds a variable counts as what is
+written out of it.
+
 The status is 0 if all texts are well-formed, each NAME is set and the device
 list lacks no command; 1 if one of these does not hold, or with --strict if
 there is a warning; 2 if the words are wrong; 3 if a file, the image, the
@@ -47,6 +52,7 @@ Examples:
   hushcheck --text env.txt
   hushcheck --script boot.cmd
   hushcheck --script boot.scr --text env.txt -d devices
+  hushcheck --text env.txt -d devices --files card
 ";
 
 /// The program, without its words.
@@ -61,7 +67,7 @@ fn base<'a>(alloc: Global) -> Result<Command<'a>, AllocError>
     Ok(command.no_binary_name(true))
 }
 
-const ARGUMENTS: [Argument<'static>; 11] = [
+const ARGUMENTS: [Argument<'static>; 12] = [
     CONFIG,
     IMAGE,
     SECOND,
@@ -71,6 +77,15 @@ const ARGUMENTS: [Argument<'static>; 11] = [
         required: false,
         help: "Device list, at most 1048576 bytes, that the commands are looked up in [default: none]",
         ..DEVICE_LIST
+    },
+    Argument {
+        id: "files",
+        form: Form::Value,
+        letter: None,
+        alias: None,
+        required: false,
+        value: "FOLDER",
+        help: "Folder of the files that the list names, at most 1048576 bytes each [default: none]",
     },
     SCRIPT_FILE,
     Argument {

@@ -1,22 +1,25 @@
 //! The texts of images, checked.
-ghost use Rattle.std.specs.Prelude.{◌≡◌, IfOk, Ok, map, option_map, string_bytes};
+ghost use Rattle.std.specs.Prelude.{◌≡◌, IfOk, None, Ok, Some, map, option_map, string_bytes};
+ghost use Rattle.board_files.specs.BoardFiles.{list_of};
 ghost use Rattle.board_start.specs.BoardShown.{board_shown};
 ghost use Rattle.hushcheck.specs.Report.{asked_names};
 ghost use Rattle.hushcheck.specs.Rules.{held_to};
 ghost use Rattle.std.specs.Option.{option_copied};
 ghost use Rattle.hushcheck_program.specs.Asked.{asked_by};
-ghost use Rattle.hushcheck_program.specs.Checking.{ChecksBy, ChecksFrom, ChecksText, LeavesOutput, Lists, ReadsList, WritesAll, behind_first, env_on, given, given_by, list_in, under};
-ghost use Rattle.hushcheck_program.specs.Shown.{script_shown};
+ghost use Rattle.hushcheck_program.specs.Checking.{ChecksBy, ChecksFrom, ChecksText, LeavesOutput, Lists, WritesAll, behind_first, env_on, given, given_by, inputs_of, list_in, under};
+ghost use Rattle.hushcheck_program.specs.Shown.{list_shown, script_shown};
 ghost use Rattle.tool_steps.specs.Scripts.{ReadsNamed};
 ghost use Rattle.tool_files.specs.Told.{IfTold};
 ghost use Rattle.tool_steps.specs.Faults.{CountsTold};
 ghost use Rattle.hushcheck_program.specs.Faults.{CountsShared};
 ghost use Rattle.tool_steps.specs.Images.{copies};
+ghost use Rattle.tool_words.specs.CommandAnswers.{inputs_shown};
 
 use crate::ask::CheckAsk;
 use crate::fault::CheckFault;
+use board_files::{BoardFiles, read_board};
 use board_start::{Board, BoardError};
-use device_list::Devices;
+use device_list::{Devices, FileTexts};
 use envimage::ByteOrder;
 use envtools::Env;
 use hushcheck::{CheckError, Rules, asked_names, check, check_script};
@@ -25,8 +28,8 @@ use rehearse_terms::Shell;
 use std::alloc::{AllocError, Global};
 use tool_files::Files;
 use tool_images::{Fault, ToolError, env_of_image};
-use tool_steps::{Images, read_list, read_named_script, read_origin, slices_of};
-use tool_words::Origin;
+use tool_steps::{Images, read_named_script, read_origin, slices_of};
+use tool_words::{Inputs, Origin, Taking};
 
 /// A script that is checked in place of a variable.
 #[derive(Clone, Copy)]
@@ -35,6 +38,15 @@ struct Script<'a> {
     name: &'a [u8],
     /// Its text.
     text: &'a [u8],
+}
+
+/// A device list that was read.
+#[derive(Drop)]
+struct DeviceList<'a> {
+    /// Its text.
+    text: &'a [u8],
+    /// The texts of the files that it names.
+    files: FileTexts,
 }
 
 /// The bytes of a path, if there is one.
@@ -57,14 +69,14 @@ fn under<'a>(name: Option<&'a [u8]>, text: Option<&'a [u8]>) -> Option<Script<'a
     }
 }
 
-/// The board of a device list's text, if there is one.
-fn list_of(alloc: Global, text: Option<&[u8]>) -> Result<Option<Board>, CheckFault>
-    ensures { Lists (list_in (option_copied text.entry)) result }
+/// The board of a device list, if there is one.
+fn list_of(alloc: Global, list: Option<DeviceList<'_>>) -> Result<Option<Board>, CheckFault>
+    ensures { Lists (list_in (list_shown list.entry)) result }
 {
-    let Some(text) = text else {
+    let Some(DeviceList { text, files }) = list else {
         return Ok(None);
     };
-    match Board::parse(alloc, text) {
+    match Board::parse(alloc, text, files) {
         Ok(board) => Ok(Some(board)),
         Err(BoardError::Memory) => Err(CheckFault::Shared(Fault::Memory)),
         Err(fault) => Err(CheckFault::DeviceList(fault)),
@@ -182,11 +194,11 @@ fn check_on<O: Out>(
     check_by(alloc, &rules, env, script, &names, all, out)
 }
 
-/// The same with the device list of a text, if there is one, and with what it gives.
+/// The same with a device list, if there is one, and with what it gives.
 fn check_env<O: Out>(
     alloc: Global,
     env: Env,
-    list: Option<&[u8]>,
+    list: Option<DeviceList<'_>>,
     script: Option<Script<'_>>,
     names: &[&[u8]],
     all: bool,
@@ -194,7 +206,7 @@ fn check_env<O: Out>(
     strict: bool,
     out: &mut O,
 ) -> Result<bool, CheckFault>
-    ensures { ChecksText (given (Ok env) (list_in (option_copied list.entry))
+    ensures { ChecksText (given (Ok env) (list_in (list_shown list.entry))
         (script_shown script.entry) (map (λ n. n.now) names.now) all shell strict)
         (O.sink out.old) (O.sink out.new) result }
 {
@@ -209,13 +221,13 @@ fn check_env<O: Out>(
 fn check_images<O: Out>(
     alloc: Global,
     images: &Images,
-    list: Option<&[u8]>,
+    list: Option<DeviceList<'_>>,
     script: Option<Script<'_>>,
     what: &CheckAsk,
     order: ByteOrder,
     out: &mut O,
 ) -> Result<bool, CheckFault>
-    ensures { ChecksText (given_by order (copies images.now) (option_copied list.entry)
+    ensures { ChecksText (given_by order (copies images.now) (list_shown list.entry)
         (script_shown script.entry) (map string_bytes what.now.names.items) what.now.all what.now.shell
         what.now.strict)
         (O.sink out.old) (O.sink out.new) result }
@@ -238,22 +250,6 @@ fn check_images<O: Out>(
     )
 }
 
-/// Reads the text of the device list, if one is named.
-fn read_named_list<F: Files>(
-    alloc: Global,
-    files: &mut F,
-    path: Option<String>,
-) -> Result<Option<Vec<u8>>, Fault>
-    ensures count { CountsTold (F.faults files.old) (F.faults files.new) result }
-    ensures told { IfTold (F.told files.old) (F.told files.new)
-        (λ old new. ReadsList (option_map string_bytes path) old new result) }
-{
-    match path {
-        Some(path) => Ok(Some(read_list(alloc, files, path)?)),
-        None => Ok(None),
-    }
-}
-
 /// Reads the script of the file at the path, if there is one.
 fn read_script_at<F: Files>(
     alloc: Global,
@@ -273,10 +269,110 @@ fn read_script_at<F: Files>(
     read_named_script(alloc, files, Some(path))
 }
 
+/// A copy of a path, if there is one. Errors: memory ran out.
+fn copied(path: &Option<String>) -> Result<Option<String>, AllocError>
+    ensures { IfOk result (λ copy. option_map string_bytes copy ≡ option_map string_bytes path.now) }
+{
+    match path {
+        Some(path) => Ok(Some(path.clone()?)),
+        None => Ok(None),
+    }
+}
+
+/// What a rehearsal reads, too, for this device list. Errors: memory ran out.
+fn inputs_of(origin: Origin, list: String, what: &CheckAsk) -> Result<Inputs, AllocError>
+    ensures { (order : ByteOrder) → IfOk result (λ inputs. inputs_shown inputs
+        ≡ inputs_of (asked_by origin (Some list) what.now order) (string_bytes list)) }
+{
+    Ok(Inputs {
+        origin,
+        device_list: list,
+        taking: Taking {
+            steady: false,
+            alternative: None,
+        },
+        script: copied(&what.script)?,
+        files: copied(&what.files)?,
+    })
+}
+
+/// Checks the texts of what was read for a device list.
+fn check_board<O: Out>(
+    alloc: Global,
+    board: BoardFiles,
+    what: &CheckAsk,
+    order: ByteOrder,
+    out: &mut O,
+) -> Result<bool, CheckFault>
+    ensures { ChecksText (given_by order (copies board.images) (Some (list_of board))
+        (under (option_map string_bytes what.now.script) (option_map (λ v. v.items) board.script))
+        (map string_bytes what.now.names.items) what.now.all what.now.shell what.now.strict)
+        (O.sink out.old) (O.sink out.new) result }
+{
+    let BoardFiles {
+        images,
+        device_list,
+        files,
+        script,
+    } = board;
+    let script = under(bytes_of(&what.script), script.as_deref());
+    let list = DeviceList {
+        text: &device_list,
+        files,
+    };
+    check_images(alloc, &images, Some(list), script, what, order, out)
+}
+
+/// The same with a device list. Reads the images, then the device list, then the script, if one is named, and then the
+/// files that the list names, if a folder is named.
+fn check_listed<F: Files, O: Out>(
+    alloc: Global,
+    files: &mut F,
+    origin: Origin,
+    list: String,
+    what: &CheckAsk,
+    order: ByteOrder,
+    out: &mut O,
+) -> Result<bool, CheckFault>
+    ensures count { CountsShared (F.faults files.old) (F.faults files.new) result }
+    ensures told { IfTold (F.told files.old) (F.told files.new) (λ old new.
+        ChecksFrom (asked_by origin (Some list) what.now order) (O.sink out.old) (O.sink out.new) old new
+        result) }
+    ensures output { LeavesOutput result (O.sink out.old) (O.sink out.new) }
+{
+    let Ok(inputs) = inputs_of(origin, list, what) else {
+        return Err(CheckFault::Shared(Fault::Memory));
+    };
+    let board = read_board(alloc, files, inputs)?;
+    check_board(alloc, board, what, order, out)
+}
+
+/// The same without a device list. Reads the images, and then the script, if one is named.
+fn check_alone<F: Files, O: Out>(
+    alloc: Global,
+    files: &mut F,
+    origin: Origin,
+    what: &CheckAsk,
+    order: ByteOrder,
+    out: &mut O,
+) -> Result<bool, CheckFault>
+    ensures count { CountsShared (F.faults files.old) (F.faults files.new) result }
+    ensures told { IfTold (F.told files.old) (F.told files.new) (λ old new.
+        ChecksFrom (asked_by origin None what.now order) (O.sink out.old) (O.sink out.new) old new
+        result) }
+    ensures output { LeavesOutput result (O.sink out.old) (O.sink out.new) }
+{
+    let images = read_origin(alloc, files, origin)?;
+    let text = read_script_at(alloc, files, &what.script)?;
+    let script = under(bytes_of(&what.script), text.as_deref());
+    check_images(alloc, &images, None, script, what, order, out)
+}
+
 /// Checks the scripts of the images that this names, and the script of a file, if one is given. Reads the
-/// images, then the device list if one is named, then the script, and then writes the lines. Errors: those of
-/// `read_origin`, of `read_list` and of `read_named_script`; the image, and after it the device list, is
-/// refused; the output failed; or memory ran out.
+/// images, then the device list if one is named, then the script, and then the files that the list names, if
+/// there is one and a folder is named; and then writes the lines. Errors: those of `read_origin`, of `read_board`
+/// and of `read_named_script`; the image, and after it the device list, is refused; the output failed; or memory
+/// ran out.
 pub fn check_files<F: Files, O: Out>(
     alloc: Global,
     files: &mut F,
@@ -292,9 +388,8 @@ pub fn check_files<F: Files, O: Out>(
         result) }
     ensures output { LeavesOutput result (O.sink out.old) (O.sink out.new) }
 {
-    let images = read_origin(alloc, files, origin)?;
-    let list = read_named_list(alloc, files, list)?;
-    let text = read_script_at(alloc, files, &what.script)?;
-    let script = under(bytes_of(&what.script), text.as_deref());
-    check_images(alloc, &images, list.as_deref(), script, what, order, out)
+    match list {
+        Some(list) => check_listed(alloc, files, origin, list, what, order, out),
+        None => check_alone(alloc, files, origin, what, order, out),
+    }
 }

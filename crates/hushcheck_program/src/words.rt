@@ -133,6 +133,7 @@ fn ask_of(alloc: Global, matches: &ArgMatches<'_>) -> Result<Ask, UseError>
         origin: origin_beside(alloc, matches)?,
         devices_file: text_of(alloc, matches, "device-list")?,
         what: CheckAsk {
+            files: text_of(alloc, matches, "files")?,
             script: text_of(alloc, matches, "script")?,
             names: names_of(alloc, matches, all || has_script(matches))?,
             all,

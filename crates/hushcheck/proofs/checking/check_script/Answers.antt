@@ -2,6 +2,8 @@ use Rattle.std.proofs.Common.{◌≡◌, ◌∙◌, ◌&&◌, ◌++◌, ap, map,
 use Rattle.std.proofs.lemmas.Result.{err_from_is_err_and}
 use Rattle.envtools.specs.Printing.{all_found}
 use Rattle.hushcheck.proofs.ScriptLemmas.{script-behind, script-stopped}
+use Rattle.hushcheck.specs.CallSetsShown.{names_shown}
+use Rattle.hushcheck.specs.Calls.{files_by_text}
 use Rattle.hushcheck.specs.Names.{run_by_found, run_by_text}
 use Rattle.hushcheck.specs.Report.{is_fine_text, lines_of_text}
 use Rattle.hushcheck.specs.Rules.{Rules}
@@ -33,12 +35,15 @@ returns g c =
     let P : Rules → Type 0 = λ rules. Wrote old mid (lines_of_text rules name text) in
     let Q : Rules → Type 0 = λ rules. c.in_ok-checked.checked.fine ≡ is_fine_text rules text in
     let R : Rules → Type 0 = λ rules. run_by_found c.in_ok-checked.checked.script ≡ run_by_text rules.shell text in
+    let F : Rules → Type 0 = λ rules. names_shown c.in_ok-checked.checked.files.items ≡ files_by_text rules text in
     let U : Rules → Type 0 = λ rules. all_used c.check_text.new.used.items ≡ all_used c.new-used.result.items ++ used_by_text rules name text in
     let wrote : P c.args.rules.now = subst P c.rules.view_is c.in_ok-checked.ensures.lines in
     let fine : Q c.args.rules.now = subst Q c.rules.view_is c.in_ok-checked.ensures.fine in
     let runs : R c.args.rules.now = subst R c.rules.view_is c.in_ok-checked.ensures.script in
+    let calls : F c.args.rules.now = subst F c.rules.view_is c.in_ok-checked.ensures.files in
+    let all : names_shown c.deref.result.now ≡ files_by_text c.args.rules.now text = ap names_shown c.deref.ensures.value ∙ calls in
     let added : U c.args.rules.now = subst U c.rules.view_is c.in_ok-checked.ensures.used in
     let uses : all_used c.check_text.new.used.items ≡ used_by_text c.args.rules.now name text = added ∙ ap (λ us. all_used us ++ used_by_text c.args.rules.now name text) c.new-used.ensures.items in
     let so_far : c.both-so_far.result ≡ (all_found c.args.env.now asked && is_fine_text c.args.rules.now text) =
     c.both-so_far.ensures ∙ ap (λ b. b && c.in_ok-checked.checked.fine) c.are_set.ensures ∙ ap (λ b. all_found c.args.env.now asked && b) fine in
-    script-behind c.args.rules.now c.args.env.now name text asked c.both-so_far.result (run_by_found c.in_ok-checked.checked.script) (all_used c.check_text.new.used.items) old mid new c.check_names.result so_far runs uses wrote c.check_names.ensures
+    script-behind c.args.rules.now c.args.env.now name text asked c.both-so_far.result (run_by_found c.in_ok-checked.checked.script) (names_shown c.deref.result.now) (all_used c.check_text.new.used.items) old mid new c.check_names.result so_far runs all uses wrote c.check_names.ensures

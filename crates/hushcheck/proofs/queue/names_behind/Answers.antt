@@ -2,7 +2,7 @@ use Rattle.std.proofs.Common.{[], map, sym, ap, ◌∙◌}
 use Rattle.hushcheck.proofs.OrderLemmas.{with_names-append}
 use Rattle.hushcheck.specs.Names.{run_by_found}
 use Rattle.hushcheck.specs.Order.{with_names}
-use Rattle.hushcheck.proofs.checking.names_behind.Goals as goal
+use Rattle.hushcheck.proofs.queue.names_behind.Goals as goal
 
 pub returns : goal.returns
 returns c =
