@@ -52,6 +52,14 @@ it takes them as a folder
   $ ubtool rehearse -c env.config -d "$repository/share/devices" --limit 1 >wanted
   $ in_root /usr/bin/ubtool rehearse -c env.config -d /usr/share/ubtool/devices --limit 1 | cmp - wanted
 
+a menu and standard boot go on in the texts of the package
+  $ cat root/usr/share/ubtool/handover/lines root/usr/share/ubtool/devices/* >root/lists.txt
+  $ printf 'sysboot mmc 0:1 any 1000 /extlinux/extlinux.conf; setenv boot_targets mmc; bootflow scan\n' >root/boot.cmd
+  $ in_root /usr/bin/ubtool causes --script boot.cmd -d lists.txt --files /usr/share/ubtool/handover --failures 0
+  cause 0 booted bootefi
+  $ in_root /usr/bin/ubtool endings --script boot.cmd -d lists.txt --files /usr/share/ubtool/handover | grep -c '^ends '
+  2
+
 the calls that docs/INSTALL.md ends with
   $ mkdir root/etc; cp env.config root/etc/fw_env.config
   $ sed '1,/^## To see/d' "$repository/docs/INSTALL.md" | sed -n '/^```$/,/^```$/p' | sed '/^```$/d' >calls; cat calls
@@ -77,6 +85,6 @@ its files are whole
 
 dpkg removes it, and nothing is left of it
   $ dpkg --root="$PWD/root" --log=/dev/null --purge ubtool >said 2>&1
-  $ rm -r root/env.config root/env root/devices.txt root/etc
+  $ rm -r root/env.config root/env root/devices.txt root/lists.txt root/boot.cmd root/etc
   $ all_files >after
   $ cmp before after
