@@ -319,3 +319,33 @@ a text by which the shell gives up: no boot
   Does not boot, though nothing fails.
   If every command succeeds, it resets or hangs the board at the text of bootcmd, by which the shell gives up (stop panic bootcmd).
   No run with at most 2 failures boots.
+
+a board whose script is on the card
+  $ mkdir card; printf 'if load mmc 0; then\n  bootz 1\nfi\n' >card/boot.cmd; printf 'bootcmd=source 1000\n' >card.env
+  $ printf '%s\n' load 'final bootz' 'call source ** : runs boot.cmd' >card.list
+  $ marked report --text card.env -d card.list --files card -o card.html
+  $ by_part card.html verdict
+  Does not always boot: one failure is enough.
+  If nothing fails, the script calls 3 commands that can fail. It does not boot if one of these fails:
+  source 1000
+  load mmc 0
+  bootz 1
+  $ by_part card.html check
+  The script
+  What hushcheck says of the texts that the script runs, or may run. The mark is under the byte that is meant.
+  Well-formed: bootcmd, boot.cmd.
+  Nothing is said against them.
+  $ by_part card.html limits
+  What is not seen
+  This page tells what the script does, by the lists and the environment that it was given. It does not know the board.
+  No shell was named. Scripts were read by ubtool's own rules, which are those of no board. --shell names the board's.
+  Commands that the board lacks. The device list says of no command that the board does not have it, so each may succeed here.
+  What is handed over. What these run, or set, is in a file. This page has the files that the device list names by runs, and no others.
+  source 1000
+  The right kernel. A run boots if a command that boots succeeds. Whether a kernel was loaded before it, and which, is to be read in the run.
+  More failures at once. Causes are those with at most 2 failures.
+  Time and the next boot. A watchdog, a delay, what saveenv stores and what the next boot does with it are not followed.
+  $ text card.html | grep -e --files
+  ubtool causes --text card.env -d card.list --files card --failures 2
+  ubtool endings --text card.env -d card.list --files card
+  ubtool rehearse --text card.env -d card.list --files card --word WORD

@@ -58,6 +58,8 @@ function put_handed_over(    i) {
             list_add(question[i])
         }
     }
+    if (fact["files"] != "") limit_list("What is handed over", "What these run, or set, is in a file. This page has the files that" \
+        " the device list names by <code>runs</code>, and no others.")
     limit_list("What is handed over", "What these run, or set, is in a file that this page does not have. A script that" \
         " <code>source</code> runs has a page of its own by <code>--script</code>.")
 }
@@ -98,6 +100,7 @@ function put_booted(    i, words) {
 function put_calls(    words) {
     words = fact["image"] " -d " quoted(fact["device-list"])
     if (fact["shell"] != "profile") words = words " --shell " quoted(fact["shell"])
+    if (fact["files"] != "") words = words " --files " quoted(fact["files"])
     if (fact["steady"]) words = words " --steady"
     if (fact["script"] != "") words = words " --script " quoted(fact["script"])
     else if (fact["variable"] != "bootcmd") words = words " -b " quoted(fact["variable"])
