@@ -54,7 +54,12 @@ of open questions
   $ cmp found shown
 
 of a script
-  $ sed -n '/^## A script in a file/,/^## What the board/p' "$page" | calls
+  $ sed -n '/^## A script in a file/,/^#### Debian/p' "$page" | calls
+  2
+  $ cmp found shown
+
+of a menu
+  $ sed -n '/^### A menu/,/^## What the board/p' "$page" | calls
   1
   $ cmp found shown
 
