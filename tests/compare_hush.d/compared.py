@@ -14,7 +14,7 @@ PARTS = Path(__file__).resolve().parent
 REPOSITORY = PARTS.parent.parent
 TABLE = Path(f"{REPOSITORY}/docs/COMPATIBILITY.md").read_text(encoding="utf-8")
 UBTOOL, SANDBOXES = sys.argv[1], {"2023.01": sys.argv[2], "2025.01": sys.argv[3]}
-DEVICES = "6"
+DEVICES, LIST = "6", "load\ndhcp\nknown env\nknown itest\nknown setexpr\n"
 FAILURES = range(3)
 # Reasons to stop that the two listings show by themselves.
 UNKNOWN, BROKEN = "a command that is not listed", "a fault behind which the shell reads address 0"
@@ -34,12 +34,20 @@ def holds(name, is_so):
     same(name, str(bool(is_so)), "True")
 
 
+def unescaped(text):
+    """The bytes of a text, as `printf '%b'` reads it."""
+    said = {b"n": b"\n", b"\\": b"\\"}
+    return re.sub(rb"\\(n|\\|x[0-9a-fA-F]{2})", lambda it: said.get(it[1]) or bytes([int(it[1][1:], 16)]), text.encode())
+
+
 class Script:
-    """A script: its lines, its variables, the kind of its image, and for each shell the row that is named and the lines that are
-    said; why a rehearsal by a shell of U-Boot stops; and what ubtool lists of it, without --failures and with so many."""
+    """A script: its lines, its variables, the kind of its image, its files and lines of its device list, and for each shell the row
+    that is named and the lines that are said; why a rehearsal by a shell of U-Boot stops; and what ubtool lists of it, without
+    --failures and with so many."""
 
     def __init__(self, number, lines):
         self.number, self.block, self.kind, self.entries = number, "\n".join(lines), "image", b""
+        self.files, self.devices = {}, ""
         self.row, self.said, self.varies, self.reason = {}, {"2023.01": "", "modern": ""}, False, ""
         for line in lines:
             self.takes(line)
@@ -51,6 +59,10 @@ class Script:
             self.kind = "imported"
         elif line.startswith("stops: "):
             self.reason = line[7:]
+        elif line.startswith("device: "):
+            self.devices += f"{line[8:]}\n"
+        elif found := re.match("file ([^=]+)=(.*)", line):
+            self.files[found[1]] = unescaped(found[2])
         elif line == "modern differs: likewise":
             self.row["modern"], self.said["modern"] = self.row["2023.01"], self.said["2023.01"]
         elif found := re.match(r"(modern (?:differs|varies)|differs): (.*)", line):
@@ -61,22 +73,27 @@ class Script:
         elif line[:2] in ("< ", "> "):
             self.said["2023.01"] += f"{line}\n"
         else:
-            # (as `printf '%b'` reads it)
-            said = {b"n": b"\n", b"\\": b"\\"}
-            self.entries += re.sub(rb"\\(n|\\|x[0-9a-fA-F]{2})", lambda it: said.get(it[1]) or bytes([int(it[1][1:], 16)]),
-                                   line.encode()) + b"\0"
+            self.entries += unescaped(line) + b"\0"
 
     def write(self):
-        """Writes its image, and the one that a board stores, with backslashes doubled; U-Boot imports `imported` itself."""
+        """Writes its image, and the one that a board stores, with backslashes doubled; U-Boot imports `imported` itself. Then its
+        device list and its files, if it has lines of them."""
         stored = self.entries if self.kind == "imported" else self.entries.replace(b"\\", b"\\\\")
         for kind, data in (self.kind, self.entries + b"\0"), ("stored", stored + b"\0"):
             Path(f"{self.number}.{kind}").write_bytes(struct.pack("<I", zlib.crc32(data)) + data)
+        if self.devices:
+            Path(f"{self.number}.devices").write_text(self.devices + LIST, encoding="utf-8")
+            os.mkdir(f"{self.number}.files")
+        for name, text in self.files.items():
+            Path(f"{self.number}.files/{name}").write_bytes(text)
 
 
 def rehearsed(image, *words):
-    """What ubtool lists of an image."""
+    """What ubtool lists of an image, by the device list and the files of its number, if it has them."""
     Path("config").write_text(f"{image} 0 {os.path.getsize(image):x}\n", encoding="utf-8")
-    call = [UBTOOL, "rehearse", "-c", "config", "-d", "devices", "--devices", DEVICES, *words]
+    own = image.rpartition(".")[0]
+    given = [f"{own}.devices", "--files", f"{own}.files"] if os.path.exists(f"{own}.devices") else ["devices"]
+    call = [UBTOOL, "rehearse", "-c", "config", "--devices", DEVICES, *words, "-d", *given]
     return subprocess.run(call, stdout=subprocess.PIPE, stderr=subprocess.STDOUT, check=False).stdout.decode("latin-1")
 
 
@@ -95,8 +112,8 @@ def take_scripts():
 
 def run_shell(folder, version, shell, count):
     """Runs so many images of a folder in a sandbox."""
-    said = subprocess.run([SANDBOXES[version], "-c", f"scripted {count} {DEVICES} {shell}"], cwd=folder, stdin=subprocess.DEVNULL,
-                          stdout=subprocess.PIPE, stderr=subprocess.STDOUT, check=False)
+    call = [SANDBOXES[version], "-c", f"scripted {count} {DEVICES} {shell} devices"]
+    said = subprocess.run(call, cwd=folder, stdin=subprocess.DEVNULL, stdout=subprocess.PIPE, stderr=subprocess.STDOUT, check=False)
     if said.returncode:
         same(f"the sandbox, {version}, {shell}", said.stdout.decode("latin-1")[-300:], "its listings")
 
@@ -104,8 +121,9 @@ def run_shell(folder, version, shell, count):
 def run_scripts(folder, version, shell, scripts):
     """Runs all scripts in a sandbox, in a folder of its own."""
     os.mkdir(folder)
-    for it in scripts:
-        os.link(f"{it.number}.{it.kind}", f"{folder}/{it.number}.{it.kind}")
+    for name in os.listdir():
+        if re.match("[0-9]+[.][a-z]", name):
+            os.symlink(f"../{name}", f"{folder}/{name}")
     run_shell(folder, version, shell, len(scripts))
 
 
@@ -165,7 +183,7 @@ def few(most, listing):
 
 def compare_few(scripts, shell):
     """ubtool's listings with --failures beside the runs of a shell's listings in which so few fail."""
-    alike = [it for it in scripts if it.ours == theirs(shell, it.number)]
+    alike = [it for it in scripts if it.ours == theirs(shell, it.number) and " normal 1" not in it.devices]
     for it in alike:
         for most in FAILURES:
             same(f"--failures {most}, {shell}: {it.block}", differences(few(most, theirs(shell, it.number)), it.few[most]), "")
@@ -255,7 +273,7 @@ def compare_column(scripts, verdicts):
 
 def compare_random(shell, version, kind):
     """Random scripts with --shell beside the sandbox of that shell; of one in five all runs are the same."""
-    count, folder = os.environ.get("UBTOOL_RANDOM", "500"), f"random.{shell}"
+    count, folder = os.environ.get("UBTOOL_RANDOM", "800"), f"random.{shell}"
     os.mkdir(folder)
     subprocess.run([f"{PARTS}/random_scripts", count, os.environ.get("UBTOOL_SEED", "1")], cwd=folder, check=True)
     run_shell(folder, version, kind, count)
@@ -265,7 +283,7 @@ def compare_random(shell, version, kind):
 
 def main():
     """Compares what the sandboxes that are there can show."""
-    Path("devices").write_text("load\ndhcp\nknown env\nknown itest\nknown setexpr\n", encoding="utf-8")
+    Path("devices").write_text(LIST, encoding="utf-8")
     scripts = take_scripts()
     if SANDBOXES["2023.01"]:
         run_scripts("2023.01", "2023.01", "old", scripts)

@@ -12,10 +12,11 @@
  *   20 seconds. In 1.echoed, 2.echoed and so on the text of each record is what `echo` writes, and no message.
  *   The variables of N.image are set as they stand there; N.imported in its place is read by U-Boot's import.
  *   SHELL is `old` or, in a U-Boot that has it, `modern`.
- * - `scripted COUNT DEVICES SHELL LIST` takes N.image or N.imported, and writes to N.theirs the record of the run of
- *   each word of N.words, a line each. LIST is a device list in the form of docs/RUNNING.md. U-Boot has its commands
- *   then, beside those of the shell, and no other. The text of
- *   a record is what `echo` writes, and no message. A call of which the list does not speak ends the run.
+ * - `scripted COUNT DEVICES SHELL LIST` does so by a device list in the form of docs/RUNNING.md: U-Boot has the
+ *   commands of the list then, beside those of the shell, and no other. The text of a record is what `echo` writes,
+ *   and no message. A call of which the list does not speak ends the run. After a success of a call that names a
+ *   file, its text runs, as `source` runs it, from the folder N.files. If N.words is there, it has the words of
+ *   the runs, a line each. If LIST is not there, an image has its own, N.LIST, or else none.
  *
  * Three endings are U-Boot's own: `broken`, if a run reads or writes where nothing is; `panic`, if the modern shell
  * gives up, on which a board resets or hangs; `prompt STATUS`, if the modern shell asks for a command before the
@@ -50,7 +51,7 @@ uint alarm(uint seconds);
 void (*signal(int number, void (*handler)(int)))(int);
 
 enum {
-	LONGEST_WORD = 1001, LARGEST_TEXT = 0x40000, SECONDS = 20, BAD_ADDRESS = 11,
+	LONGEST_WORD = 1001, LARGEST_TEXT = 0x40000, LARGEST_NAME = 256, SECONDS = 20, BAD_ADDRESS = 11,
 	MOST_LINES = 800, MOST_WORDS = 24,
 	/* The greatest CONFIG_SYS_MAXARGS of a board. */
 	MOST_ARGUMENTS = 64
@@ -65,12 +66,19 @@ struct device_line {
 	/* how a success ends the run, and a space; NULL if it does not */
 	const char *ends;
 	bool steady, call;
+	/* the file whose text runs after a success; NULL if there is none */
+	const char *runs;
 	char always, *needs, *needs_word, *name, *sub, *pattern[MOST_WORDS + 1], *settings[MOST_WORDS + 1];
 };
 
 static char outcomes[LONGEST_WORD + 1];
-static int asked, bound, listing, plain, report;
+/* How many digits of the word are used, and how many device commands were asked. */
+static int asked, devices;
+static int bound, listing, plain, report;
 static bool own_import, modern, by_list;
+/* The argument LIST, if an image may have a list of its own; and the number of the image. */
+static const char *own_lists;
+static int image_number;
 static struct device_line lines[MOST_LINES], *end_of_lines = lines;
 /* The names of its lines `known`, each between spaces. */
 static char known_names[64] = " ";
@@ -200,9 +208,8 @@ static void end_run(const char *how, const char *status)
 	outcomes[asked] = '\0';
 	sprintf(first, "run %s\n", asked ? outcomes : ".");
 	keep_variables();
-	if (!by_list)
-		write_record(listing, first, text, size, how, status);
-	write_record(by_list ? listing : plain, first, echoed, echoed_size, how, status);
+	write_record(listing, first, by_list ? echoed : text, by_list ? echoed_size : size, how, status);
+	write_record(plain, first, echoed, echoed_size, how, status);
 	os_write(report, outcomes, asked);
 	os_exit(0);
 }
@@ -244,7 +251,7 @@ static int ask(int argc, char *const argv[], bool steady, int from, char answer)
 {
 	int start = record_size, i;
 
-	if (asked == bound)
+	if (devices++ == bound)
 		end_run("cut devices", "");
 	add("dev 0");
 	for (i = 0; i < argc; i++) {
@@ -359,6 +366,39 @@ static const struct device_line *call_line(int argc, char *const argv[])
 	return NULL;
 }
 
+/* The text of a file; NULL where there is none. */
+static char *text_of(const char *name, int *size)
+{
+	loff_t length;
+	char *copy;
+	int file;
+
+	if (os_get_filesize(name, &length))
+		return NULL;
+	file = os_open(name, OS_O_RDONLY);
+	copy = calloc(1, length + 1);
+	if (file < 0 || !copy || os_read(file, copy, length) != length)
+		fail(name);
+	os_close(file);
+	*size = length;
+	return copy;
+}
+
+/* Runs the text of a file, as `source` does. */
+static int run_file(const char *file)
+{
+	char name[LARGEST_NAME], *script;
+	int size, status;
+
+	snprintf(name, sizeof(name), "%d.files/%s", image_number, file);
+	script = text_of(name, &size);
+	if (!script)
+		fail(name);
+	status = run_command_list(script, size, 0);
+	free(script);
+	return status;
+}
+
 /* A command of the device list. */
 static int do_listed(struct cmd_tbl *cmdtp, int flag, int argc, char *const argv[])
 {
@@ -374,7 +414,7 @@ static int do_listed(struct cmd_tbl *cmdtp, int flag, int argc, char *const argv
 		set_by_line(line, argc, argv);
 		if (line->ends)
 			end_run(line->ends, argv[0]);
-		return 0;
+		return line->runs ? run_file(line->runs) : 0;
 	}
 	for (line = lines; line < end_of_lines; line++)
 		sub |= speaks(line, true, argc, argv);
@@ -451,7 +491,7 @@ static void forget_callbacks(void)
 /* U-Boot's table of commands, by the device list. */
 static void make_table(void)
 {
-	static const char kept[] = " echo exit false run setenv showvar test true ";
+	static const char kept[] = " echo exit false run scripted_prompt setenv showvar test true ";
 	static const char asked_for[] = " env itest setexpr ";
 	struct cmd_tbl *place = _u_boot_list_2_cmd_2_scripted_places, *command;
 	struct cmd_tbl *start = ll_entry_start(struct cmd_tbl, cmd), *end = start + ll_entry_count(struct cmd_tbl, cmd);
@@ -482,23 +522,6 @@ static void make_table(void)
 	}
 }
 
-/* The text of a file; NULL where there is none. */
-static char *text_of(const char *name)
-{
-	void *bytes;
-	char *copy;
-	int size;
-
-	if (os_read_file(name, &bytes, &size))
-		return NULL;
-	copy = calloc(1, size + 1);
-	if (!copy)
-		fail("no memory");
-	memcpy(copy, bytes, size);
-	os_free(bytes);
-	return copy;
-}
-
 /* Keeps a setting, with an end behind its name. */
 static void keep_setting(struct device_line *line, char *word)
 {
@@ -523,7 +546,8 @@ static const char *ending_of(const char *word)
 /* Whether a word behind `needs NAME` is no word of the call that is needed. */
 static bool begins_clause(const char *word)
 {
-	return ending_of(word) || !strcmp(word, "steady") || !strcmp(word, "always") || strchr(word, '=');
+	return ending_of(word) || !strcmp(word, "steady") || !strcmp(word, "always") || !strcmp(word, "runs") ||
+	       !strcmp(word, "normal") || strchr(word, '=');
 }
 
 /* Reads the words of a `call` line: its name and pattern, `:`, and what it says of these calls. */
@@ -542,6 +566,10 @@ static void read_call(struct device_line *line, char **at)
 			line->steady = true;
 		else if (!strcmp(*at, "always"))
 			line->always = **++at;
+		else if (!strcmp(*at, "runs"))
+			line->runs = *++at;
+		else if (!strcmp(*at, "normal"))
+			++at;
 		else if (!strcmp(*at, "needs")) {
 			line->needs = *++at;
 			if (at[1] && !begins_clause(at[1]))
@@ -599,18 +627,21 @@ static void read_line(char *row)
 		keep_setting(line, *at);
 }
 
-static void read_list(const char *name)
+/* Reads a device list. False where it is not there. */
+static bool read_list(const char *name)
 {
-	char *rest = text_of(name), *row;
+	char *rest, *row;
+	int size;
 
+	rest = text_of(name, &size);
 	if (!rest)
-		fail(name);
+		return false;
 	while ((row = strsep(&rest, "\n")))
 		if (*row != '#')
 			read_line(row);
 	make_table();
 	forget_callbacks();
-	by_list = true;
+	return true;
 }
 
 #ifdef CONFIG_HUSH_MODERN_PARSER
@@ -708,13 +739,17 @@ static void set_variables(const char *image, int size)
 
 static void run_word(const char *image, int size)
 {
-	char number[16];
+	char number[16], list[LARGEST_NAME];
 	int status;
 
 	set_variables(image, size);
 	disable_ctrlc(1);
 	signal(BAD_ADDRESS, end_broken_run);
 	console_record_reset_enable();
+	if (own_lists) {
+		snprintf(list, sizeof(list), "%d.%s", image_number, own_lists);
+		by_list = read_list(list);
+	}
 	if (by_list)
 		gd->flags &= ~GD_FLG_RECORD;
 	status = run_command_list(env_get("bootcmd"), -1, 0);
@@ -786,12 +821,14 @@ static void write_line(const char *line)
 static void list_runs(int number)
 {
 	char name[32], *words = NULL;
+	bool has_words;
 	void *image;
-	int size;
+	int size, words_size;
 
+	image_number = number;
 	sprintf(name, "%d.theirs", number);
 	listing = os_open(name, OS_O_WRONLY | OS_O_CREAT | OS_O_TRUNC);
-	sprintf(name, by_list ? "/dev/null" : "%d.echoed", number);
+	sprintf(name, "%d.echoed", number);
 	plain = os_open(name, OS_O_WRONLY | OS_O_CREAT | OS_O_TRUNC);
 	sprintf(name, "%d.imported", number);
 	own_import = !os_read_file(name, &image, &size);
@@ -800,14 +837,16 @@ static void list_runs(int number)
 		fail(name);
 	outcomes[0] = '\0';
 	sprintf(name, "%d.words", number);
-	if (by_list && (!(words = text_of(name)) || !take_word(&words)))
+	words = text_of(name, &words_size);
+	has_words = words;
+	if (has_words && !take_word(&words))
 		fail(name);
 	do {
 		if (!run_process(image, size)) {
 			write_line("no end\n");
 			break;
 		}
-	} while (by_list ? take_word(&words) : next_word());
+	} while (has_words ? take_word(&words) : next_word());
 	write_line("done\n");
 	os_close(listing);
 	os_close(plain);
@@ -827,8 +866,9 @@ static int do_scripted(struct cmd_tbl *cmdtp, int flag, int argc, char *const ar
 	modern = !strcmp(argv[3], "modern");
 	if (modern)
 		choose_modern();
-	if (argc == 5)
-		read_list(argv[4]);
+	by_list = argc == 5 && read_list(argv[4]);
+	if (argc == 5 && !by_list)
+		own_lists = argv[4];
 	for (number = 1; number <= count; number++)
 		list_runs(number);
 	os_exit(0);
