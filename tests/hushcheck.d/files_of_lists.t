@@ -105,6 +105,9 @@ without a folder
   ! hushcheck: device list line 2: bad line
   [3]
 
-without a list the folder is not read
-  $ hushcheck --text env.txt --files nothing
-  bootcmd: ok
+without a list
+  $ hushcheck --text env.txt --files card
+  ! error: the argument '--files <FOLDER>' needs '--device-list <FILE>'
+  !
+  ! For more information, try '--help'.
+  [2]

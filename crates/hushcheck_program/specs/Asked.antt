@@ -1,6 +1,6 @@
 -- What the words of a call ask for, from the entries that `clap` finds in them. Ours; that `bootcmd` is the variable
 -- that boots is U-Boot's (doc/usage/environment).
-use Rattle.std.specs.Prelude.{◌∷◌, ◌||◌, is_some, Bool, false, List, [], Option, Some, None, Result, Ok, Err, codes, map, option_map, string_bytes, String, if◌then◌else◌}
+use Rattle.std.specs.Prelude.{◌∷◌, ◌||◌, ◌&&◌, not, is_some, Bool, false, List, [], Option, Some, None, Result, Ok, Err, codes, map, option_map, string_bytes, String, if◌then◌else◌}
 use Rattle.std.specs.Option.{option_map_or}
 use Rattle.std.specs.declared.alloc.Global.{Global}
 use Rattle.clap.specs.Words.{Row, Text, first_of}
@@ -43,6 +43,16 @@ is_mixed script (name ∷ names) = script
 abbrev pub is_mixed_in : List Row → Bool
 is_mixed_in rows = is_mixed (has_script rows) (values_of (codes "names") rows)
 
+-- a folder of files is asked for, and no device list, which would name them
+abbrev pub has_files : List Row → Bool
+has_files rows = is_some (first_of (codes "files") rows)
+
+abbrev pub has_list : List Row → Bool
+has_list rows = is_some (first_of (codes "device-list") rows)
+
+abbrev pub is_unlisted : List Row → Bool
+is_unlisted rows = has_files rows && not (has_list rows)
+
 -- the shell of a name, as one that is named; nothing if no shell has it
 abbrev pub some_shell : Text → Option (Option Shell)
 some_shell name = option_map (λ shell. Some shell) (shell_named name)
@@ -72,11 +82,12 @@ asked_with rows shell (Err error) = Err error
 abbrev pub asked_in : List Row → Option Shell → Result Asked OriginError
 asked_in rows shell = asked_with rows shell (origin_beside rows)
 
--- nothing is asked for if no shell has the name that is given, or if a variable is named beside a script, whatever names
--- the images
+-- nothing is asked for if a variable is named beside a script, if a folder of files is given without a device list, or if no
+-- shell has the name that is given, whatever names the images
 abbrev pub asked_of : List Row → Option (Result Asked OriginError)
 asked_of rows =
-    if is_mixed_in rows then None else option_map (asked_in rows) (shell_by (first_of (codes "shell") rows))
+    if is_mixed_in rows then None else if is_unlisted rows then None
+    else option_map (asked_in rows) (shell_by (first_of (codes "shell") rows))
 
 -- what the program's answer asks for
 abbrev pub asked_by : Origin → Option (String Global) → CheckAsk → ByteOrder → Asked

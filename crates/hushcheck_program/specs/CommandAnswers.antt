@@ -16,8 +16,8 @@ use Rattle.tool_words.specs.declared.ask.UseError.TheVariants.{Line, Memory, Mis
 abbrev pub asked : List Text → Option (Result Asked OriginError)
 asked words = asked_of (matches_of hushcheck words)
 
--- what is read of the entries: a line says that no shell has the name that is given, or that a variable is named beside a
--- script
+-- what is read of the entries: a line says that a variable is named beside a script, that a folder of files is given without
+-- a device list, or that no shell has the name that is given
 abbrev pub Says : Option (Result Asked OriginError) → Result Ask UseError → Type 0
 Says asked (Ok ask) = asked ≡ Some (Ok (asked_by ask.origin ask.devices_file ask.what ask.order))
 Says asked (Err (Line text)) = asked ≡ None
@@ -25,8 +25,8 @@ Says asked (Err (Misnamed error)) = asked ≡ Some (Err error)
 Says asked (Err Memory) = Unit {0}
 Says asked (Err error) = ⊥
 
--- The answer to words. A line without a mistake is that of a name that no shell has, or of a variable beside a script, which
--- `clap` accepts.
+-- The answer to words. A line without a mistake is that of a name that no shell has, of a variable beside a script, or of files
+-- without a device list, which `clap` accepts.
 abbrev pub Answers : List Text → Result (Answer Ask) UseError → Type 0
 Answers words (Ok (Asks ask)) =
     IsAccepted hushcheck words

@@ -4,7 +4,7 @@ ghost use Rattle.clap.specs.Words.{found_of, rows_of};
 ghost use Rattle.clap.specs.Words.{first_of};
 ghost use Rattle.hushcheck_program.specs.CommandAnswers.{Answers, Says};
 ghost use Rattle.hushcheck_program.specs.Asked as spec;
-ghost use Rattle.hushcheck_program.specs.Asked.{asked_of, has_script, is_mixed_in, or_bootcmd, shell_by};
+ghost use Rattle.hushcheck_program.specs.Asked.{asked_of, has_files, has_list, has_script, is_mixed_in, is_unlisted, or_bootcmd, shell_by};
 ghost use Rattle.tool_words.specs.Asked.{shell_named, values_of};
 ghost use Rattle.tool_words.specs.CommandAnswers.{IsUnread};
 
@@ -48,6 +48,33 @@ fn has_script(matches: &ArgMatches<'_>) -> bool
     }
 }
 
+/// Whether a folder of files is given.
+fn has_files(matches: &ArgMatches<'_>) -> bool
+    ensures { result ≡ has_files (rows_of (found_of matches.now)) }
+{
+    match matches.get_str("files") {
+        Some(_) => true,
+        None => false,
+    }
+}
+
+/// Whether a device list is given.
+fn has_list(matches: &ArgMatches<'_>) -> bool
+    ensures { result ≡ has_list (rows_of (found_of matches.now)) }
+{
+    match matches.get_str("device-list") {
+        Some(_) => true,
+        None => false,
+    }
+}
+
+/// Whether a folder of files is given without the device list that would name them.
+fn is_unlisted(matches: &ArgMatches<'_>) -> bool
+    ensures { result ≡ is_unlisted (rows_of (found_of matches.now)) }
+{
+    has_files(matches) && !has_list(matches)
+}
+
 /// The refusal of a variable that is named beside a script, which `clap` accepts. It reads as `clap` would
 /// refuse it.
 fn mixed(alloc: Global) -> UseError
@@ -56,6 +83,22 @@ fn mixed(alloc: Global) -> UseError
     let text = String::from_str(
         alloc,
         "error: the argument '--script <FILE>' cannot be used with '[NAME]...'\n\n\
+        For more information, try '--help'.\n",
+    );
+    match text {
+        Ok(text) => UseError::Line(text),
+        Err(_) => UseError::Memory,
+    }
+}
+
+/// The refusal of a folder of files without a device list, which `clap` accepts. It reads as `clap` would
+/// refuse it.
+fn unlisted(alloc: Global) -> UseError
+    ensures { IsUnread result }
+{
+    let text = String::from_str(
+        alloc,
+        "error: the argument '--files <FOLDER>' needs '--device-list <FILE>'\n\n\
         For more information, try '--help'.\n",
     );
     match text {
@@ -116,14 +159,17 @@ fn unnamed(alloc: Global, matches: &ArgMatches<'_>) -> UseError
     }
 }
 
-/// What the entries ask for. Errors: a variable is named beside a script, or no shell has the name that is
-/// given, each as a `Line`; then `Misnamed`, if the words that name the images do not go together; or memory ran
+/// What the entries ask for. Errors: a variable is named beside a script, a folder of files is given without a
+/// device list, or no shell has the name that is given, each as a `Line`; then `Misnamed`, if the words that name the images do not go together; or memory ran
 /// out.
 fn ask_of(alloc: Global, matches: &ArgMatches<'_>) -> Result<Ask, UseError>
     ensures { Says (asked_of (rows_of (found_of matches.now))) result }
 {
     if is_mixed(alloc, matches)? {
         return Err(mixed(alloc));
+    }
+    if is_unlisted(matches) {
+        return Err(unlisted(alloc));
     }
     let Some(shell) = shell_of(matches) else {
         return Err(unnamed(alloc, matches));
@@ -145,8 +191,8 @@ fn ask_of(alloc: Global, matches: &ArgMatches<'_>) -> Result<Ask, UseError>
 }
 
 /// Reads the words after the program's name. Errors: `clap` refuses the words, a variable is named beside a
-/// script, or no shell has the name that is given, each as a `Line`; then `Misnamed`, if the words that name the images do not go together; or
-/// memory ran out.
+/// script, a folder of files is given without a device list, or no shell has the name that is given, each as a
+/// `Line`; then `Misnamed`, if the words that name the images do not go together; or memory ran out.
 pub fn read_words<S: AsStr>(alloc: Global, words: &[S]) -> Result<Answer<Ask>, UseError>
     ensures { Answers (map S.text words.now) result }
 {
