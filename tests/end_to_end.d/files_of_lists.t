@@ -209,6 +209,16 @@ a file that is not there, a link, a pipe, a folder, a way out of the folder
   ! ubtool: cannot read card//boot.cmd
   [1]
 
+a name that is no UTF-8: no path may have it
+  $ cp card/boot.cmd "card/$(printf '\377')"; runs true "$(printf 'call source : runs \377')"
+  ! ubtool: device list line 1: bad line
+  [1]
+
+the first file of the list that cannot be read is named
+  $ runs true 'call source 1 : runs boot.cmd' 'call source 2 : runs second.cmd' 'call source 3 : runs first.cmd'
+  ! ubtool: cannot read card/second.cmd
+  [1]
+
 a file that is too long, and files that are too long together
   $ head -c 1048577 /dev/zero | tr '\0' '\n' >card/long.cmd
   $ runs true 'call source : runs long.cmd'
