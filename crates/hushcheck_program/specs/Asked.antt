@@ -31,9 +31,13 @@ abbrev pub or_bootcmd : (other : Bool) → List Text → List Text
 or_bootcmd other [] = if other then [] else codes "bootcmd" ∷ []
 or_bootcmd other (name ∷ names) = name ∷ names
 
+-- an option is given
+abbrev pub is_given : (option : Text) → List Row → Bool
+is_given option rows = is_some (first_of option rows)
+
 -- a script is asked for
 abbrev pub has_script : List Row → Bool
-has_script rows = is_some (first_of (codes "script") rows)
+has_script rows = is_given (codes "script") rows
 
 -- a script is asked for, and a variable by its name
 abbrev pub is_mixed : (script : Bool) → (names : List Text) → Bool
@@ -44,14 +48,8 @@ abbrev pub is_mixed_in : List Row → Bool
 is_mixed_in rows = is_mixed (has_script rows) (values_of (codes "names") rows)
 
 -- a folder of files is asked for, and no device list, which would name them
-abbrev pub has_files : List Row → Bool
-has_files rows = is_some (first_of (codes "files") rows)
-
-abbrev pub has_list : List Row → Bool
-has_list rows = is_some (first_of (codes "device-list") rows)
-
 abbrev pub is_unlisted : List Row → Bool
-is_unlisted rows = has_files rows && not (has_list rows)
+is_unlisted rows = is_given (codes "files") rows && not (is_given (codes "device-list") rows)
 
 -- the shell of a name, as one that is named; nothing if no shell has it
 abbrev pub some_shell : Text → Option (Option Shell)

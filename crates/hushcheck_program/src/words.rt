@@ -4,7 +4,7 @@ ghost use Rattle.clap.specs.Words.{found_of, rows_of};
 ghost use Rattle.clap.specs.Words.{first_of};
 ghost use Rattle.hushcheck_program.specs.CommandAnswers.{Answers, Says};
 ghost use Rattle.hushcheck_program.specs.Asked as spec;
-ghost use Rattle.hushcheck_program.specs.Asked.{asked_of, has_files, has_list, has_script, is_mixed_in, is_unlisted, or_bootcmd, shell_by};
+ghost use Rattle.hushcheck_program.specs.Asked.{asked_of, has_script, is_given, is_mixed_in, is_unlisted, or_bootcmd, shell_by};
 ghost use Rattle.tool_words.specs.Asked.{shell_named, values_of};
 ghost use Rattle.tool_words.specs.CommandAnswers.{IsUnread};
 
@@ -38,41 +38,28 @@ fn is_mixed(alloc: Global, matches: &ArgMatches<'_>) -> Result<bool, AllocError>
     Ok(!names.is_empty() && has_script(matches))
 }
 
+/// Whether an option is given.
+fn is_given(matches: &ArgMatches<'_>, option: &str) -> bool
+    ensures { result ≡ is_given option.now (rows_of (found_of matches.now)) }
+{
+    match matches.get_str(option) {
+        Some(_) => true,
+        None => false,
+    }
+}
+
 /// Whether a script is given.
 fn has_script(matches: &ArgMatches<'_>) -> bool
     ensures { result ≡ has_script (rows_of (found_of matches.now)) }
 {
-    match matches.get_str("script") {
-        Some(_) => true,
-        None => false,
-    }
-}
-
-/// Whether a folder of files is given.
-fn has_files(matches: &ArgMatches<'_>) -> bool
-    ensures { result ≡ has_files (rows_of (found_of matches.now)) }
-{
-    match matches.get_str("files") {
-        Some(_) => true,
-        None => false,
-    }
-}
-
-/// Whether a device list is given.
-fn has_list(matches: &ArgMatches<'_>) -> bool
-    ensures { result ≡ has_list (rows_of (found_of matches.now)) }
-{
-    match matches.get_str("device-list") {
-        Some(_) => true,
-        None => false,
-    }
+    is_given(matches, "script")
 }
 
 /// Whether a folder of files is given without the device list that would name them.
 fn is_unlisted(matches: &ArgMatches<'_>) -> bool
     ensures { result ≡ is_unlisted (rows_of (found_of matches.now)) }
 {
-    has_files(matches) && !has_list(matches)
+    is_given(matches, "files") && !is_given(matches, "device-list")
 }
 
 /// The refusal of a variable that is named beside a script, which `clap` accepts. It reads as `clap` would
