@@ -315,11 +315,11 @@ named = refl
 -- ---- values in a call
 
 sets_words : sets_in (codes "addr" ∷ codes "40" ∷ codes "r" ∷ []) ((Variable (codes "a"), ValueAt 1) ∷ (Variable (codes "b"), LastValue) ∷ (WordAt 2, ValueAt 0) ∷ [])
-    ≡ (codes "a", codes "40") ∷ (codes "b", codes "r") ∷ (codes "r", codes "addr") ∷ []
+    ≡ (codes "a", Some (codes "40")) ∷ (codes "b", Some (codes "r")) ∷ (codes "r", Some (codes "addr")) ∷ []
 sets_words = refl
 
 -- a word that is not there sets nothing
-no_word : sets_in (codes "addr" ∷ []) ((Variable (codes "a"), ValueAt 1) ∷ (Variable (codes "b"), Literal (codes "1")) ∷ []) ≡ (codes "b", codes "1") ∷ []
+no_word : sets_in (codes "addr" ∷ []) ((Variable (codes "a"), ValueAt 1) ∷ (Variable (codes "b"), Literal (codes "1")) ∷ []) ≡ (codes "b", Some (codes "1")) ∷ []
 no_word = refl
 
 no_words : sets_in [] ((Variable (codes "a"), LastValue) ∷ []) ≡ []

@@ -383,7 +383,7 @@ by_no_line = refl
 
 -- ---- what a call sets
 
-sets_the_last_word : sets_in (codes "list" ∷ codes "mmc" ∷ codes "v" ∷ []) ((LastWord, Literal (codes "1")) ∷ (WordAt 0, Literal (codes "2")) ∷ (Variable (codes "a"), Literal []) ∷ []) ≡ (codes "v", codes "1") ∷ (codes "list", codes "2") ∷ (codes "a", []) ∷ []
+sets_the_last_word : sets_in (codes "list" ∷ codes "mmc" ∷ codes "v" ∷ []) ((LastWord, Literal (codes "1")) ∷ (WordAt 0, Literal (codes "2")) ∷ (Variable (codes "a"), Literal []) ∷ []) ≡ (codes "v", Some (codes "1")) ∷ (codes "list", Some (codes "2")) ∷ (codes "a", Some []) ∷ []
 sets_the_last_word = refl
 
 -- a word that the call does not have, or that is not the name of a variable

@@ -1,16 +1,20 @@
 -- Worked examples of lines that name files, computed.
-use Rattle.std.proofs.Common.{◌≡◌, true, false, List, [], ◌∷◌, map, Some, None, Ok, Err, refl}
+use Rattle.std.proofs.Common.{◌≡◌, true, [], ◌∷◌, length, map, Some, None, Ok, Err, refl}
 use Rattle.std.specs.Prelude.{codes}
-use Rattle.device_list.specs.declared.finish.BoardEnd.TheVariants.{Boots}
-use Rattle.device_list.specs.CallLines.{Files, Pattern}
-use Rattle.device_list.specs.DeviceList.{Effect, Devices, Variable, Literal, only, with_files, effect_of, file_in, listed, listed_with, all_steady}
+use Rattle.text.specs.Lines.{Text}
+use Rattle.device_list.specs.CallLines.{FileText, Files}
+use Rattle.device_list.specs.DeviceList.{Effect, Devices, Variable, Literal, with_files, file_in, listed, listed_with, all_steady}
 use Rattle.device_list.specs.DeviceLaws.{quiet}
 use Rattle.device_list.specs.NamedFiles.{named_files}
 use Rattle.device_list.specs.declared.devices_error.DevicesError.TheVariants.{BadLine}
 
+-- a text that is no image
+abbrev plain : Text → FileText
+plain text = record { text = text; size = length text }
+
 -- a card with two scripts
 abbrev card : Files
-card = (codes "boot.scr", codes "bootm") ∷ (codes "b.scr", codes "reset") ∷ []
+card = (codes "boot.scr", plain (codes "bootm")) ∷ (codes "b.scr", plain (codes "reset")) ∷ []
 
 -- what `source` does on it
 abbrev one : Effect → Devices
@@ -48,7 +52,7 @@ texts : map (file_in (with_files card)) (codes "boot.scr" ∷ codes "b.scr" ∷ 
 texts = refl
 
 -- of two files of one name, the first
-first_of_two : file_in (with_files ((codes "a", codes "1") ∷ (codes "a", codes "2") ∷ [])) (codes "a") ≡ Some (codes "1")
+first_of_two : file_in (with_files ((codes "a", plain (codes "1")) ∷ (codes "a", plain (codes "2")) ∷ [])) (codes "a") ≡ Some (codes "1")
 first_of_two = refl
 
 steady_files : all_steady (one (record quiet { runs = Some (codes "b.scr") })) ≡ record (one (record quiet { stays = true; runs = Some (codes "b.scr") })) { test_stays = true }

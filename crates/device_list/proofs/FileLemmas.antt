@@ -1,16 +1,21 @@
 -- Lists that name no file: which files there are changes nothing.
-use Rattle.std.proofs.Common.{◌≡◌, ℕ, Bool, true, false, cond, List, [], ◌∷◌, ◌++◌, Option, Some, None, Result, Ok, Err, codes, take, drop, ◌+◌, refl, sym, ap, subst, ◌∙◌}
+use Rattle.std.proofs.Common.{◌≡◌, ℕ, Bool, true, false, cond, List, [], ◌∷◌, ◌++◌, Option, Some, None, Result, Ok, Err, codes, length, not, ◌==◌, take, drop, ◌+◌, refl, sym, ap, subst, ◌∙◌}
 use Rattle.std.specs.Str.{bytes_eq}
-use Rattle.std.specs.List.{list_any}
-use Rattle.builtins.specs.Builtins.{is_built_in}
+use Rattle.std.specs.List.{list_any, position}
+use Rattle.std.specs.Option.{option_map}
 use Rattle.text.specs.Lines.{Text, numbered_lines}
 use Rattle.text.specs.Words.{has_nul}
 use Rattle.device_list.specs.declared.clauses.Awaited.{Awaited}
-use Rattle.device_list.specs.declared.clauses.Awaited.TheVariants.{Clause, Status, Name, FirstWord, Expected, File}
+use Rattle.device_list.specs.declared.clauses.Awaited.TheVariants.{Clause, Status, Name, FirstWord, Expected, File, Import}
 use Rattle.device_list.specs.declared.devices_error.DevicesError.{DevicesError}
-use Rattle.device_list.specs.declared.devices_error.DevicesError.TheVariants.{BadLine, BuiltIn, ByteOrderMark}
-use Rattle.device_list.specs.CallLines.{Clauses, Call, Files, Pattern, no_clause, pattern_of, taken, with_clause, clauses_of, may_end, call_with, call_between, call_parts, call_line, call_said, absent_words, is_call, is_of_test, has_quote, lacks_colon, colon_place}
-use Rattle.device_list.specs.DeviceList.{Effect, Devices, DeviceLine, Effects, only, with_files, with_line, with_known, after_known, after_call, after_words, after_line, listed_lines, joined, joined_by, device_words, begins_comment, known_named, is_steady_test, line_of, heading_of, is_marked}
+use Rattle.device_list.specs.declared.devices_error.DevicesError.TheVariants.{BadLine, ByteOrderMark}
+use Rattle.device_list.specs.Settings.{LeftSide, RightSide, Literal, Setting, at_side, both_sides, call_setting, plain_side, right_side, size_of, sized_file, value_of_word, word_of_call}
+use Rattle.device_list.specs.Finishes.{finish_named}
+use Rattle.device_list.specs.declared.finish.BoardEnd.{BoardEnd}
+use Rattle.device_list.specs.Quotes.{unquoted}
+use Rattle.text.specs.Words.{is_equals}
+use Rattle.device_list.specs.CallLines.{Clauses, Call, Files, Pattern, has_answer, is_decided, is_plain, once, with_finish, with_first_word, with_needed, with_new, with_setting, no_clause, pattern_of, taken, with_clause, clauses_of, call_with, call_between, call_parts, call_line, call_said, absent_words, is_call, is_of_test, has_quote, lacks_colon, colon_place}
+use Rattle.device_list.specs.DeviceList.{Effect, Devices, DeviceLine, only, with_files, with_known, after_known, after_call, after_words, after_line, listed_lines, joined_by, device_words, begins_comment, known_named, is_steady_test, line_of, heading_of}
 use Rattle.device_list.specs.Quotes.{quoted_words}
 use Rattle.device_list.specs.DeviceLaws.{FilesChangeNothing}
 use Rattle.device_list.proofs.JoinedLines.{ok-same}
@@ -19,13 +24,86 @@ use Rattle.device_list.proofs.MarkLemmas.{unmarked, lines_of}
 module _ (files : Files) where
   -- ---- what a line of calls says
 
+  at-same : (which : Text) (right : RightSide) → at_side [] which ≡ Some right → at_side files which ≡ Some right
+  at-same which right e = by (sized_file which) e
+    where
+      by : (o : Option Text) → elim o [ Some name ↦ size_of [] name | None ↦ option_map value_of_word (word_of_call which) ] ≡ Some right
+          → elim o [ Some name ↦ size_of files name | None ↦ option_map value_of_word (word_of_call which) ] ≡ Some right
+      by None f = f
+      by (Some name) f = absurd (let g = f in cc)
+
+  right-same : (value : Text) (right : RightSide) → right_side [] value ≡ Some right → right_side files value ≡ Some right
+  right-same [] right e = e
+  right-same (b ∷ bytes) right e = by (bytes_eq (b ∷ []) (codes "@")) e
+    where
+      by : (word : Bool) → cond word (at_side [] bytes) (option_map Literal (unquoted (b ∷ bytes))) ≡ Some right → cond word (at_side files bytes) (option_map Literal (unquoted (b ∷ bytes))) ≡ Some right
+      by true f = at-same bytes right f
+      by false f = f
+
+  both-same : (left : Option LeftSide) (value : Text) (set : Setting) → both_sides left (right_side [] value) ≡ Some set → both_sides left (right_side files value) ≡ Some set
+  both-same None value set e = absurd (let f = e in cc)
+  both-same (Some left) value set e = by (right_side [] value) refl e
+    where
+      by : (o : Option RightSide) → right_side [] value ≡ o → option_map (λ v. (left, v)) o ≡ Some set → option_map (λ v. (left, v)) (right_side files value) ≡ Some set
+      by None is f = absurd (let g = f in cc)
+      by (Some right) is f = ap (option_map (λ (v : RightSide). (left, v))) (right-same value right is) ∙ f
+
+  setting-same : (word : Text) (set : Setting) → call_setting [] word ≡ Some set → call_setting files word ≡ Some set
+  setting-same word set e = by (position is_equals word) e
+    where
+      of : Files → Option ℕ → Option Setting
+      of given o = elim o [ None ↦ None | Some at ↦ both_sides (plain_side (take at word)) (right_side given (drop (at + 1) word)) ]
+
+      by : (o : Option ℕ) → of [] o ≡ Some set → of files o ≡ Some set
+      by None f = absurd (let g = f in cc)
+      by (Some at) f = both-same (plain_side (take at word)) (drop (at + 1) word) set f
+
+  finish-same : (clauses : Clauses) (finish : Option BoardEnd) (word : Text) (next : Clauses) → with_finish [] clauses finish word ≡ Some next → with_finish files clauses finish word ≡ Some next
+  finish-same clauses (Some finish) word next e = e
+  finish-same clauses None word next e = by (call_setting [] word) refl e
+    where
+      by : (o : Option Setting) → call_setting [] word ≡ o → with_setting clauses o ≡ Some next → with_setting clauses (call_setting files word) ≡ Some next
+      by None is f = absurd (let g = f in cc)
+      by (Some set) is f = ap (with_setting clauses) (setting-same word set is) ∙ f
+
+  new-same : (clauses : Clauses) (word : Text) (next : Clauses) → with_new [] clauses word ≡ Some next → with_new files clauses word ≡ Some next
+  new-same clauses word next e =
+      by (bytes_eq word (codes "steady")) (bytes_eq word (codes "always")) (bytes_eq word (codes "normal")) (bytes_eq word (codes "runs")) (bytes_eq word (codes "imports")) (bytes_eq word (codes "needs")) e
+    where
+      new : Files → (a b c d f g : Bool) → Option Clauses
+      new given a b c d f g =
+          cond a (once clauses.effect.stays (record clauses { effect = record clauses.effect { stays = true } }))
+          (cond b (once (has_answer clauses.effect) (record clauses { awaited = Status }))
+          (cond c (once (has_answer clauses.effect) (record clauses { awaited = Expected }))
+          (cond d (once (is_decided clauses.effect) (record clauses { awaited = File }))
+          (cond f (Some (record clauses { awaited = Import }))
+          (cond g (once (not (length clauses.effect.needs == 0)) (record clauses { awaited = Name })) (with_finish given clauses (finish_named word) word))))))
+
+      by : (a b c d f g : Bool) → new [] a b c d f g ≡ Some next → new files a b c d f g ≡ Some next
+      by true b c d f g h = h
+      by false true c d f g h = h
+      by false false true d f g h = h
+      by false false false true f g h = h
+      by false false false false true g h = h
+      by false false false false false true h = h
+      by false false false false false false h = finish-same clauses (finish_named word) word next h
+
+  first-same : (clauses : Clauses) (word : Text) (next : Clauses) → with_first_word [] clauses word ≡ Some next → with_first_word files clauses word ≡ Some next
+  first-same clauses word next e = by (is_plain word) e
+    where
+      by : (plain : Bool) → cond plain (Some (with_needed clauses word Clause)) (with_new [] (record clauses { awaited = Clause }) word) ≡ Some next
+          → cond plain (Some (with_needed clauses word Clause)) (with_new files (record clauses { awaited = Clause }) word) ≡ Some next
+      by true f = f
+      by false f = new-same (record clauses { awaited = Clause }) word next f
+
   taken-same : (awaited : Awaited) (clauses : Clauses) (word : Text) (next : Clauses) → taken [] awaited clauses word ≡ Some next → taken files awaited clauses word ≡ Some next
-  taken-same Clause clauses word next e = e
+  taken-same Clause clauses word next e = new-same clauses word next e
   taken-same Status clauses word next e = e
   taken-same Name clauses word next e = e
-  taken-same FirstWord clauses word next e = e
+  taken-same FirstWord clauses word next e = first-same clauses word next e
   taken-same Expected clauses word next e = e
   taken-same File clauses word next e = absurd (let f = e in cc)
+  taken-same Import clauses word next e = absurd (let f = e in cc)
 
   abbrev then_more : Files → List Text → Option Clauses → Option Clauses
   then_more given words o = elim o [ None ↦ None | Some next ↦ clauses_of given next words ]

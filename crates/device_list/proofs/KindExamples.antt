@@ -1,5 +1,5 @@
 -- Worked examples, computed: what each kind of a line is, and lists that are read with some kinds alone.
-use Rattle.std.proofs.Common.{◌≡◌, true, false, Some, [], ◌∷◌, Ok, Err, codes, map, None, refl}
+use Rattle.std.proofs.Common.{◌≡◌, true, false, Some, [], ◌∷◌, Ok, Err, codes, map, refl}
 use Rattle.device_list.specs.declared.finish.BoardEnd.TheVariants.{Boots, Restarts, Halts}
 use Rattle.device_list.specs.DeviceList.{Variable, Literal, Devices, only}
 use Rattle.device_list.specs.DeviceLaws.{quiet}

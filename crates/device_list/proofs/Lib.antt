@@ -4,7 +4,9 @@ mod KindExamples
 mod CalledExamples
 mod CallExamples
 mod FileExamples
+mod ImportExamples
 pub mod MarkLemmas
+pub mod ImportLemmas
 pub mod LineLemmas
 pub mod KindsOfLines
 pub mod UnusedKinds

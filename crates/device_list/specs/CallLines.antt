@@ -7,7 +7,9 @@ use Rattle.text.specs.Words.{is_equals}
 use Rattle.text.specs.Lines.{Text}
 use Rattle.builtins.specs.Builtins.{is_built_in}
 use Rattle.device_list.specs.declared.clauses.Awaited.{Awaited}
-use Rattle.device_list.specs.declared.clauses.Awaited.TheVariants.{Clause, Status, Name, FirstWord, Expected, File}
+use Rattle.device_list.specs.declared.clauses.Awaited.TheVariants.{Clause, Status, Name, FirstWord, Expected, File, Import}
+use Rattle.device_list.specs.Imports.{imported}
+pub use Rattle.device_list.specs.Settings.{FileText, Files}
 use Rattle.device_list.specs.Settings.{Setting, Effect, call_setting}
 use Rattle.device_list.specs.Finishes.{finish_named}
 use Rattle.device_list.specs.declared.finish.BoardEnd.{BoardEnd}
@@ -84,7 +86,7 @@ is_colon word = bytes_eq word (codes ":")
 -- ---- the clauses of a line
 
 -- the clauses so far, and what the next word may be: a clause; the `0` or the `1` behind `always`; the name behind `needs`;
--- the word behind that name, if it is no clause; the `1` behind `normal`; or the name of a file behind `runs`
+-- the word behind that name, if it is no clause; the `1` behind `normal`; or the name of a file behind `runs` or `imports`
 pub record Clauses : Type 0 where
   pub effect : Effect
   pub awaited : Awaited
@@ -128,27 +130,28 @@ abbrev pub is_decided : Effect → Bool
 is_decided effect = is_some effect.ends || is_some effect.runs
 
 -- another word is a setting
-abbrev pub with_finish : Clauses → Option BoardEnd → (word : Text) → Option Clauses
-with_finish clauses None word = with_setting clauses (call_setting word)
-with_finish clauses (Some finish) word =
+abbrev pub with_finish : Files → Clauses → Option BoardEnd → (word : Text) → Option Clauses
+with_finish files clauses None word = with_setting clauses (call_setting files word)
+with_finish files clauses (Some finish) word =
     once (is_decided clauses.effect) (record clauses { effect = record clauses.effect { ends = Some finish } })
 
 -- the clauses after a word that begins one
-abbrev pub with_new : Clauses → (word : Text) → Option Clauses
-with_new clauses word =
+abbrev pub with_new : Files → Clauses → (word : Text) → Option Clauses
+with_new files clauses word =
     if bytes_eq word (codes "steady")
     then once clauses.effect.stays (record clauses { effect = record clauses.effect { stays = true } })
     else (if bytes_eq word (codes "always") then once (has_answer clauses.effect) (record clauses { awaited = Status })
     else (if bytes_eq word (codes "normal") then once (has_answer clauses.effect) (record clauses { awaited = Expected })
     else (if bytes_eq word (codes "runs") then once (is_decided clauses.effect) (record clauses { awaited = File })
+    else (if bytes_eq word (codes "imports") then Some (record clauses { awaited = Import })
     else (if bytes_eq word (codes "needs")
     then once (not (length clauses.effect.needs == 0)) (record clauses { awaited = Name })
-    else with_finish clauses (finish_named word) word))))
+    else with_finish files clauses (finish_named word) word)))))
 
 -- the words of clauses
 abbrev pub is_clause_word : (word : Text) → Bool
 is_clause_word word = is_some (finish_named word)
-    || (list_any (bytes_eq word) (codes "steady" ∷ codes "always" ∷ codes "needs" ∷ codes "normal" ∷ codes "runs" ∷ []))
+    || (list_any (bytes_eq word) (codes "steady" ∷ codes "always" ∷ codes "needs" ∷ codes "normal" ∷ codes "runs" ∷ codes "imports" ∷ []))
 
 abbrev pub has_special : (word : Text) → Bool
 has_special word = list_any is_star word || (list_any is_quote word || list_any is_equals word)
@@ -167,14 +170,10 @@ abbrev pub with_name : Clauses → (word : Text) → Option Clauses
 with_name clauses word =
     if is_plain word && not (is_built_in word) then Some (with_needed clauses word FirstWord) else None
 
-abbrev pub with_first_word : Clauses → (word : Text) → Option Clauses
-with_first_word clauses word =
+abbrev pub with_first_word : Files → Clauses → (word : Text) → Option Clauses
+with_first_word files clauses word =
     if is_plain word then Some (with_needed clauses word Clause)
-    else with_new (record clauses { awaited = Clause }) word
-
--- the texts of the files that a line may name
-abbrev pub Files : Type 0
-Files = List (Text × Text)
+    else with_new files (record clauses { awaited = Clause }) word
 
 -- the file whose text runs is one of these
 abbrev pub with_file : Files → Clauses → (name : Text) → Option Clauses
@@ -182,19 +181,34 @@ with_file files clauses name =
     if is_some (lookup (bytes_eq name) files)
     then Some (record { effect = record clauses.effect { runs = Some name }; awaited = Clause }) else None
 
+-- A text that is imported is a plain one: no image, and without a NUL, at which the text of a script ends.
+abbrev pub imported_file : FileText → Option (List Setting)
+imported_file file = if nat_eq (length file.text) file.size then imported file.text else None
+
+abbrev pub with_imported : Clauses → Option (List Setting) → Option Clauses
+with_imported clauses None = None
+with_imported clauses (Some sets) =
+    Some (record { effect = record clauses.effect { sets = clauses.effect.sets ++ sets }; awaited = Clause })
+
+-- the variables of one of these files are set
+abbrev pub with_import : Files → Clauses → (name : Text) → Option Clauses
+with_import files clauses name =
+    elim (lookup (bytes_eq name) files) [ None ↦ None | Some file ↦ with_imported clauses (imported_file file) ]
+
 -- the clauses after one more word
 abbrev pub taken : Files → Awaited → Clauses → (word : Text) → Option Clauses
-taken files Clause clauses word = with_new clauses word
+taken files Clause clauses word = with_new files clauses word
 taken files Status clauses word = with_always clauses (answer_of word)
 taken files Name clauses word = with_name clauses word
-taken files FirstWord clauses word = with_first_word clauses word
+taken files FirstWord clauses word = with_first_word files clauses word
 taken files Expected clauses word = with_expected clauses (answer_of word)
 taken files File clauses word = with_file files clauses word
+taken files Import clauses word = with_import files clauses word
 
 abbrev pub with_clause : Files → Clauses → (word : Text) → Option Clauses
 with_clause files clauses word = taken files clauses.awaited clauses word
 
--- `always`, `needs`, `normal` and `runs` are not the last word
+-- `always`, `needs`, `normal`, `runs` and `imports` are not the last word
 abbrev pub may_end : Awaited → Bool
 may_end Clause = true
 may_end Status = false
@@ -202,6 +216,7 @@ may_end Name = false
 may_end FirstWord = true
 may_end Expected = false
 may_end File = false
+may_end Import = false
 
 abbrev pub clauses_of : Files → Clauses → List Text → Option Clauses
 clauses_of files clauses [] = if may_end clauses.awaited then Some clauses else None

@@ -1,8 +1,9 @@
 -- What a name calls (ours, as the device list is).
-use Rattle.std.specs.Prelude.{◌-◌, cond, List, [], ◌∷◌, ◌++◌, length, Option, Some, None, slice_get}
+use Rattle.std.specs.Prelude.{◌-◌, cond, List, [], ◌∷◌, ◌++◌, length, Option, Some, None, option_map, slice_get}
 use Rattle.builtins.specs.Builtins.{builtin_of}
 use Rattle.commands.specs.BuiltInCommands.{Deed, ChangesVariables, carried, deed_of}
-use Rattle.device_list.specs.DeviceList.{LeftSide, Variable, WordAt, LastWord, RightSide, Literal, ValueAt, LastValue, Setting, Effect, Devices, effect_of, computed_by}
+use Rattle.device_list.specs.Imports.{takes}
+use Rattle.device_list.specs.DeviceList.{LeftSide, Variable, WordAt, LastWord, Imported, RightSide, Literal, ValueAt, LastValue, Deleted, Setting, Effect, Devices, effect_of, computed_by}
 use Rattle.rehearse_terms.specs.State.{Text}
 use Rattle.commands.specs.VariableNames.{is_bad_name}
 
@@ -22,21 +23,24 @@ abbrev pub variable_of : LeftSide → List Text → Option Text
 variable_of (Variable name) words = Some name
 variable_of (WordAt place) words = named_by (slice_get words place)
 variable_of LastWord words = named_by (slice_get words (length words - 1))
+variable_of (Imported name reading first) words = cond (takes words name reading first) (Some name) None
 
--- the value that the right side of a setting means in a call with these words
-abbrev pub value_of : RightSide → List Text → Option Text
-value_of (Literal text) words = Some text
-value_of (ValueAt place) words = slice_get words place
-value_of LastValue words = slice_get words (length words - 1)
+-- the value that the right side of a setting means in a call with these words: none, if the variable is deleted
+abbrev pub value_of : RightSide → List Text → Option (Option Text)
+value_of (Literal text) words = Some (Some text)
+value_of (ValueAt place) words = option_map Some (slice_get words place)
+value_of LastValue words = option_map Some (slice_get words (length words - 1))
+value_of Deleted words = Some None
 
--- what one setting sets
-abbrev pub set_in : Option Text → Option Text → List (Text × Text)
+-- what one setting sets or deletes
+abbrev pub set_in : Option Text → Option (Option Text) → List (Text × Option Text)
 set_in None value = []
 set_in (Some name) None = []
 set_in (Some name) (Some value) = (name, value) ∷ []
 
--- what a call with these words sets; a word that names no variable sets nothing, nor does a word that is not there
-abbrev pub sets_in : List Text → List Setting → List (Text × Text)
+-- what a call with these words sets and deletes, in order; a word that names no variable sets nothing, nor does a word that is not
+-- there
+abbrev pub sets_in : List Text → List Setting → List (Text × Option Text)
 sets_in words [] = []
 sets_in words (set ∷ sets) = set_in (variable_of set.0 words) (value_of set.1 words) ++ sets_in words sets
 

@@ -13,6 +13,7 @@ use Rattle.device_list.specs.DevicesShown.{Bytes, setting_shown, settings_shown,
 use Rattle.device_list.specs.declared.listed.Effect.{Effect as LentEffect}
 use Rattle.device_list.specs.declared.listed.Listed.{Listed}
 use Rattle.device_list.specs.declared.clauses.Clauses.{Clauses}
+use Rattle.device_list.specs.declared.file_text.FileText.{FileText}
 use Rattle.device_list.specs.declared.call_line.CallLine.{CallLine}
 use Rattle.device_list.specs.declared.call_line.Call.{Call}
 
@@ -34,11 +35,11 @@ table_shown table = commands_shown table.entries
 abbrev pub subs_shown : {S : Type 0} → List (Bytes × IndexMap Bytes Listed S) → List (Text × Effects)
 subs_shown = map (λ c. (c.0.items, table_shown c.1))
 
--- the texts of files, each with its name
-abbrev pub text_shown : Bytes → Text
-text_shown v = v.items
+-- files, each with its name
+abbrev pub text_shown : FileText → calls.FileText
+text_shown f = record { text = f.text.items; size = f.size }
 
-abbrev pub files_shown : List (Bytes × Bytes) → List (Text × Text)
+abbrev pub files_shown : List (Bytes × FileText) → calls.Files
 files_shown = map (λ f. (f.0.items, text_shown f.1))
 
 -- ---- lines of calls

@@ -1,5 +1,5 @@
 -- The device list: which commands are device commands, and what each does on success. Ours.
-use Rattle.std.specs.Prelude.{ℕ, ◌==◌, nat_eq, ◌||◌, ◌&&◌, ◌++◌, not, Bool, true, false, List, [], ◌∷◌, length, map, filter, Option, Some, None, is_some, Result, Ok, Err, codes, if◌then◌else◌}
+use Rattle.std.specs.Prelude.{ℕ, ◌==◌, nat_eq, ◌||◌, ◌&&◌, ◌++◌, not, Bool, true, false, List, [], ◌∷◌, length, map, filter, Option, Some, None, is_some, option_map, Result, Ok, Err, codes, if◌then◌else◌}
 use Rattle.std.specs.Str.{bytes_eq}
 use Rattle.std.specs.List.{list_any, slice_split, starts_with}
 use Rattle.std.specs.Map.{lookup}
@@ -10,8 +10,8 @@ use Rattle.text.specs.Lines.{Text}
 use Rattle.builtins.specs.Builtins.{is_built_in}
 use Rattle.commands.specs.KnownCommands.{known_of}
 use Rattle.commands.specs.Computed.{Computed, computes}
-pub use Rattle.device_list.specs.Settings.{LeftSide, Variable, WordAt, LastWord, RightSide, Literal, ValueAt, LastValue, Setting, Effect, is_variable, is_decimal, word_of_call, left_side, setting, settings}
-pub use Rattle.device_list.specs.CallLines.{Pattern, Call, Files, first_fitting, call_said, is_call}
+pub use Rattle.device_list.specs.Settings.{LeftSide, Variable, WordAt, LastWord, Imported, RightSide, Literal, ValueAt, LastValue, Deleted, Setting, Effect, is_variable, is_decimal, word_of_call, left_side, setting, settings}
+pub use Rattle.device_list.specs.CallLines.{Pattern, Call, FileText, Files, first_fitting, call_said, is_call}
 use Rattle.device_list.specs.Finishes.{finish_named, first_finish}
 use Rattle.device_list.specs.declared.finish.BoardEnd.{BoardEnd}
 use Rattle.device_list.specs.declared.devices_error.DevicesError.{DevicesError}
@@ -26,7 +26,7 @@ effect_in effects name = lookup (bytes_eq name) effects
 
 -- what a list says of commands by their names, what its `sub` lines say of the calls of a name, and what its lines of calls
 -- say of those that fit a pattern; which commands are computed, each once, and whether the answers of `test -e` stay; and
--- the files whose texts may run, each with its text
+-- the files that lines may name
 pub record Devices : Type 0 where
   pub commands : Effects
   pub subs : List (Text × Effects)
@@ -75,7 +75,7 @@ computed_by devices name words =
 
 -- the text of a file
 abbrev pub file_in : Devices → (name : Text) → Option Text
-file_in devices name = lookup (bytes_eq name) devices.files
+file_in devices name = option_map (λ file. file.text) (lookup (bytes_eq name) devices.files)
 
 -- whether a line names the command
 abbrev pub is_listed : Devices → Text → Bool

@@ -1,6 +1,6 @@
 -- How a command that succeeds ends the run: the board boots, it restarts (cmd/boot.c of U-Boot, `reset`), or it halts
 -- (`poweroff`). The words are ours.
-use Rattle.std.specs.Prelude.{Bool, true, false, List, [], ◌∷◌, Option, Some, None, codes, if◌then◌else◌}
+use Rattle.std.specs.Prelude.{List, [], ◌∷◌, Option, Some, None, codes, if◌then◌else◌}
 use Rattle.std.specs.Str.{bytes_eq}
 use Rattle.text.specs.Lines.{Text}
 use Rattle.device_list.specs.declared.finish.BoardEnd.{BoardEnd}

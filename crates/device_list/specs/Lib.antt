@@ -1,5 +1,7 @@
 pub mod Quotes
 pub mod Settings
+pub mod Imports
+pub mod ImportsShown
 pub mod CallLines
 pub mod DeviceList
 pub mod Finishes

@@ -1,26 +1,31 @@
 -- What a device command does on success, and the settings of a line. Ours.
-use Rattle.std.specs.Prelude.{ℕ, ◌+◌, ◌-◌, ◌==◌, min, ◌&&◌, not, Bool, true, false, List, [], ◌∷◌, length, take, drop, Option, Some, None, option_map, codes, if◌then◌else◌}
+use Rattle.std.specs.Prelude.{ℕ, ◌+◌, ◌-◌, ◌==◌, nat_eq, min, ◌&&◌, not, Bool, true, false, List, [], ◌∷◌, length, take, drop, Option, Some, None, option_map, codes, if◌then◌else◌}
 use Rattle.std.specs.Str.{bytes_eq}
-use Rattle.std.specs.List.{list_any, position}
+use Rattle.std.specs.List.{list_any, position, starts_with}
+use Rattle.std.specs.Map.{lookup}
+use Rattle.std.specs.Fmt.{digits}
 use Rattle.text.specs.Bytes as ascii
 use Rattle.text.specs.Numbers.{are_digits, value_in}
 use Rattle.text.specs.Words.{is_equals}
 use Rattle.text.specs.Lines.{Text}
 use Rattle.device_list.specs.Quotes.{is_quote, unquoted}
 use Rattle.device_list.specs.declared.finish.BoardEnd.{BoardEnd}
+use Rattle.device_list.specs.declared.setting.Reading.{Reading}
 
 -- the left side of a setting: a variable, or the word of the call that names it; words are counted from 0, or it is the
--- last
+-- last; or a variable of a text that is imported, with its reading, and whether it is the first entry of this name there
 pub data LeftSide : Type 0 where
   Variable : Text → LeftSide
   WordAt : ℕ → LeftSide
   LastWord : LeftSide
+  Imported : Text → Reading → (first : Bool) → LeftSide
 
--- the right side: a text, or a word of the call
+-- the right side: a text, or a word of the call; or the variable is deleted
 pub data RightSide : Type 0 where
   Literal : Text → RightSide
   ValueAt : ℕ → RightSide
   LastValue : RightSide
+  Deleted : RightSide
 
 -- what is set, and its value
 abbrev pub Setting : Type 0
@@ -91,13 +96,40 @@ abbrev pub value_of_word : LeftSide → RightSide
 value_of_word (Variable name) = Literal name
 value_of_word (WordAt place) = ValueAt place
 value_of_word LastWord = LastValue
+value_of_word (Imported name reading first) = Literal name
+
+-- what is known of a file: the text that it has as a script, and its size in bytes
+pub record FileText : Type 0 where
+  pub text : Text
+  pub size : ℕ
+
+-- the files that a line may name
+abbrev pub Files : Type 0
+Files = List (Text × FileText)
+
+-- the file that `size(FILE)` names
+abbrev pub without_last : Text → Option Text
+without_last rest =
+    if bytes_eq (drop (length rest - 1) rest) (codes ")") then Some (take (length rest - 1) rest) else None
+
+abbrev pub sized_file : Text → Option Text
+sized_file which = if starts_with nat_eq which (codes "size(") then without_last (drop 5 which) else None
+
+-- the size of a file, in hexadecimal as U-Boot sets `filesize`
+abbrev pub size_of : Files → (name : Text) → Option RightSide
+size_of files name =
+    option_map (λ file. Literal (digits 16 false file.size)) (lookup (bytes_eq name) files)
+
+-- what follows an `@`: the size of a file, or a word of the call
+abbrev pub at_side : Files → (which : Text) → Option RightSide
+at_side files which =
+    elim (sized_file which) [ Some name ↦ size_of files name | None ↦ option_map value_of_word (word_of_call which) ]
 
 -- In a `call` line, an `@` starts a word of the call on the right side, too, and a value may have quotes.
-abbrev pub right_side : Text → Option RightSide
-right_side [] = Some (Literal [])
-right_side (b ∷ bytes) =
-    if bytes_eq (b ∷ []) (codes "@") then option_map value_of_word (word_of_call bytes)
-    else option_map Literal (unquoted (b ∷ bytes))
+abbrev pub right_side : Files → Text → Option RightSide
+right_side files [] = Some (Literal [])
+right_side files (b ∷ bytes) =
+    if bytes_eq (b ∷ []) (codes "@") then at_side files bytes else option_map Literal (unquoted (b ∷ bytes))
 
 -- and a name has none
 abbrev pub plain_side : (name : Text) → Option LeftSide
@@ -108,9 +140,9 @@ both_sides None right = None
 both_sides (Some left) right = option_map (λ value. (left, value)) right
 
 -- a setting of a `call` line
-abbrev pub call_setting : (word : Text) → Option Setting
-call_setting word =
+abbrev pub call_setting : Files → (word : Text) → Option Setting
+call_setting files word =
     elim (position is_equals word) [
       | None ↦ None
-      | Some at ↦ both_sides (plain_side (take at word)) (right_side (drop (at + 1) word))
+      | Some at ↦ both_sides (plain_side (take at word)) (right_side files (drop (at + 1) word))
     ]

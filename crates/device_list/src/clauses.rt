@@ -1,12 +1,15 @@
 //! The clauses of a list's lines of calls.
 ghost use Rattle.std.specs.Prelude.{◌≡◌, not, true, map, option_map, IfOk, OnOk};
-ghost use Rattle.device_list.specs.CallLines.{answer_of, clauses_of, has_answer, is_decided, effect_said, is_clause_word, is_plain, has_special, may_end, no_clause, with_clause, with_file, with_first_word, with_name, with_needed, with_new};
-ghost use Rattle.device_list.specs.CommandsShown.{clauses_shown, files_shown, listed_shown, IsTaken};
+ghost use Rattle.device_list.specs.CallLines.{answer_of, clauses_of, has_answer, is_decided, effect_said, is_clause_word, imported_file, is_plain, has_special, may_end, no_clause, with_clause, with_file, with_first_word, with_import, with_name, with_needed, with_new};
+ghost use Rattle.device_list.specs.DevicesShown.{settings_shown};
+ghost use Rattle.device_list.specs.CommandsShown.{clauses_shown, files_shown, listed_shown, text_shown, IsTaken};
 
 use crate::call_line::{has_star, is_colon};
 use crate::device_line::has_equals;
 use crate::device_tables::FileTexts;
+use crate::file_text::FileText;
 use crate::finish::{BoardEnd, finish_named};
+use crate::imports::imported;
 use crate::listed::Listed;
 use crate::quotes::has_quote;
 use crate::setting::{Setting, call_setting};
@@ -28,6 +31,8 @@ pub(crate) enum Awaited {
     Expected,
     /// The name of a file behind `runs`.
     File,
+    /// The name of a file behind `imports`.
+    Import,
 }
 
 /// The clauses so far.
@@ -49,7 +54,8 @@ fn may_end(awaited: Awaited) -> bool
 {
     match awaited {
         Awaited::Clause | Awaited::FirstWord => true,
-        Awaited::Status | Awaited::Name | Awaited::Expected | Awaited::File => false,
+        Awaited::Status | Awaited::Name | Awaited::Expected | Awaited::File | Awaited::Import =>
+            false,
     }
 }
 
@@ -63,6 +69,7 @@ fn is_clause_word(word: &[u8]) -> bool
         || word == b"needs".as_slice()
         || word == b"normal".as_slice()
         || word == b"runs".as_slice()
+        || word == b"imports".as_slice()
 }
 
 /// Whether a word has a byte that no word behind `needs` has.
@@ -101,6 +108,16 @@ fn set_once(flag: &mut bool) -> bool
     !before
 }
 
+/// What a file that is imported sets, if it may be imported. Errors: memory ran out.
+fn imported_file(alloc: Global, file: &FileText) -> Result<Option<Vec<Setting>>, AllocError>
+    ensures { IfOk result (λ sets. option_map settings_shown sets ≡ imported_file (text_shown file.now)) }
+{
+    if file.text.len() as u64 != file.size {
+        return Ok(None);
+    }
+    imported(alloc, &file.text)
+}
+
 impl Clauses {
     /// No clause. Takes no memory.
     fn new(alloc: Global) -> Self
@@ -123,21 +140,42 @@ impl Clauses {
         ensures { IfOk result (IsTaken (with_clause (files_shown files.now.entries) (clauses_shown self.old) word.now) (clauses_shown self.new)) }
     {
         match self.awaited {
-            Awaited::Clause => self.add_new(alloc, word),
+            Awaited::Clause => self.add_new(alloc, files, word),
             Awaited::Status => {
                 self.awaited = Awaited::Clause;
                 self.always = answer_of(word);
                 Ok(self.always.is_some())
             }
             Awaited::Name => self.add_name(alloc, word),
-            Awaited::FirstWord => self.add_first_word(alloc, word),
+            Awaited::FirstWord => self.add_first_word(alloc, files, word),
             Awaited::Expected => {
                 self.awaited = Awaited::Clause;
                 self.normal = true;
                 Ok(matches!(answer_of(word), Some(false)))
             }
             Awaited::File => self.add_file(alloc, files, word),
+            Awaited::Import => self.add_import(alloc, files, word),
         }
+    }
+
+    /// Takes the name of a file, if it may be imported: what it sets is set. Errors: memory ran out.
+    fn add_import(
+        &mut self,
+        alloc: Global,
+        files: &FileTexts,
+        name: &[u8],
+    ) -> Result<bool, AllocError>
+        ensures { IfOk result (IsTaken (with_import (files_shown files.now.entries) (clauses_shown self.old) name.now) (clauses_shown self.new)) }
+    {
+        let Some(file) = files.get(name) else {
+            return Ok(false);
+        };
+        let Some(mut sets) = imported_file(alloc, file)? else {
+            return Ok(false);
+        };
+        self.awaited = Awaited::Clause;
+        self.sets.append(&mut sets)?;
+        Ok(true)
     }
 
     /// Takes the name of a file, if there is such a file: its text runs.
@@ -180,15 +218,20 @@ impl Clauses {
     }
 
     /// Takes the word behind that name, or else a word that begins a clause.
-    fn add_first_word(&mut self, alloc: Global, word: &[u8]) -> Result<bool, AllocError>
-        ensures { IfOk result (IsTaken (with_first_word (clauses_shown self.old) word.now) (clauses_shown self.new)) }
+    fn add_first_word(
+        &mut self,
+        alloc: Global,
+        files: &FileTexts,
+        word: &[u8],
+    ) -> Result<bool, AllocError>
+        ensures { IfOk result (IsTaken (with_first_word (files_shown files.now.entries) (clauses_shown self.old) word.now) (clauses_shown self.new)) }
     {
         if is_plain(word) {
             self.add_needed(alloc, word, Awaited::Clause)?;
             return Ok(true);
         }
         self.awaited = Awaited::Clause;
-        self.add_new(alloc, word)
+        self.add_new(alloc, files, word)
     }
 
     /// Whether `always` or `normal` was there.
@@ -206,8 +249,8 @@ impl Clauses {
     }
 
     /// Takes a word that begins a clause. Returns whether it does.
-    fn add_new(&mut self, alloc: Global, word: &[u8]) -> Result<bool, AllocError>
-        ensures { IfOk result (IsTaken (with_new (clauses_shown self.old) word.now) (clauses_shown self.new)) }
+    fn add_new(&mut self, alloc: Global, files: &FileTexts, word: &[u8]) -> Result<bool, AllocError>
+        ensures { IfOk result (IsTaken (with_new (files_shown files.now.entries) (clauses_shown self.old) word.now) (clauses_shown self.new)) }
     {
         if word == b"steady".as_slice() {
             return Ok(set_once(&mut self.stays));
@@ -226,6 +269,10 @@ impl Clauses {
             self.awaited = Awaited::File;
             return Ok(!self.is_decided());
         }
+        if word == b"imports".as_slice() {
+            self.awaited = Awaited::Import;
+            return Ok(true);
+        }
         if word == b"needs".as_slice() {
             self.awaited = Awaited::Name;
             return Ok(self.needs.is_empty());
@@ -235,7 +282,7 @@ impl Clauses {
             self.ends = Some(finish);
             return Ok(first);
         }
-        let Some(set) = call_setting(alloc, word)? else {
+        let Some(set) = call_setting(alloc, files, word)? else {
             return Ok(false);
         };
         self.sets.push(set)?;

@@ -12,6 +12,7 @@ ghost use Rattle.device_list.specs.NamedPlaces.{at_place};
 use crate::call_line::{Call, CallLine, call_said, first_fitting, is_call};
 use crate::device_line::{begins_comment, device_words, heading_of, is_steady_test, known_named};
 use crate::devices_error::DevicesError;
+use crate::file_text::FileText;
 use crate::finish::first_finish;
 use crate::listed::{Effect, Listed};
 use crate::setting::settings;
@@ -40,8 +41,8 @@ const BYTE_ORDER_MARK: [u8; 3] = [0xEF, 0xBB, 0xBF];
 /// A map by the names of a list, found by a hash whose key is made from the list.
 pub type ByName<V> = IndexMap<Vec<u8>, V, KeyedHash>;
 
-/// The texts of files, by their names.
-pub type FileTexts = ByName<Vec<u8>>;
+/// The files that lines may name, by their names.
+pub type FileTexts = ByName<FileText>;
 
 /// What the list says of each name.
 type Table = ByName<Listed>;
@@ -84,7 +85,7 @@ pub struct DeviceTables {
     known: Vec<Vec<u8>>,
     /// Whether the answers of `test -e` stay.
     test_stays: bool,
-    /// The texts of files, by their names.
+    /// The files that lines may name.
     files: FileTexts,
 }
 
@@ -135,7 +136,7 @@ fn value_at<V>(table: &ByName<V>, place: Option<usize>) -> Option<&V>
 }
 
 /// Whether a name is one of these.
-fn is_among(names: &[Vec<u8>], name: &[u8]) -> bool
+pub(crate) fn is_among(names: &[Vec<u8>], name: &[u8]) -> bool
     ensures { result ≡ list_any (λ one. bytes_eq name.now one.items) names.now }
 {
     names.iter().any(|one| name == one.as_slice())
@@ -164,7 +165,8 @@ impl DeviceTables {
     ghost use Rattle.device_list.specs.DeviceListAnswers.{Adds, AddsLine, IsListedWith};
     ghost use Rattle.device_list.specs.NamedPlaces.{IsPlaced, ArePlaced, in_sub, placed_sub, placed_call, placed_line, placed_effect};
 
-    /// A list of no command, whose lines may name these files, and whose names will be found by this hash. Takes no memory.
+    /// A list of no command, whose lines may name these files, and whose names will be found by this hash.
+    /// Takes no memory.
     fn new(alloc: Global, files: FileTexts, hasher: KeyedHash) -> Self
         ensures { result ≡ with_files (files_shown files.entries) }
     {
@@ -179,8 +181,8 @@ impl DeviceTables {
         }
     }
 
-    /// The commands of a device list whose lines may name these files, or its first fault: `Devices::parse` says what
-    /// its lines are.
+    /// The commands of a device list whose lines may name these files, or its first fault: `Devices::parse`
+    /// says what its lines are.
     pub fn parse(alloc: Global, text: &[u8], files: FileTexts) -> Result<Self, DevicesError>
         ensures { IsListedWith (files_shown files.entries) text.now result }
     {
@@ -282,8 +284,8 @@ impl DeviceTables {
     pub fn file(&self, name: &[u8]) -> Option<&[u8]>
         ensures { option_bytes result ≡ file_in self.now name.now }
     {
-        let text = self.files.get(name)?;
-        Some(text)
+        let file = self.files.get(name)?;
+        Some(&file.text)
     }
 
     /// Whether the list has a command computed. Takes no memory.

@@ -55,33 +55,34 @@ fn places_at(names: &ByName<Places>, name: &[u8], place: usize) -> Option<Places
 }
 
 impl Devices {
-    /// The commands of a device list, a line each: `NAME SETTINGS`, or `final NAME SETTINGS` for one
-    /// that ends the run; `sub NAME WORD SETTINGS` and `final sub NAME WORD SETTINGS` speak of the calls
-    /// of NAME whose first word is WORD. `steady`, before all of that or after `final`, has the answers
-    /// stay: asked again with the same words in one run, the command answers as before. `steady test`
-    /// says so of `test -e`. `known NAME` has the calls of NAME computed, where its words can
-    /// be; NAME is `env`, `itest` or `setexpr`. `call PATTERN : CLAUSES` is about the calls of a command that
-    /// fit a pattern: its name, and then the words of the call, of which `*` is any one, one that ends with
-    /// `*` each that starts so, and a last `**` any number. Clauses are `final`, `steady`, `always 0` and
-    /// `always 1` (the only status of the call, which then takes no outcome), `needs NAME` and
-    /// `needs NAME WORD` (the call fails without an outcome, unless a call of NAME, whose first word is
-    /// WORD, succeeded before in the run), `normal 1` (a failure is what is expected of the call), and
-    /// settings, in any order;
-    /// there, `VAR=@N` and `VAR=@last` have a word of the call as the value, and a value may have parts in
-    /// single quotes, with blanks in them. `absent NAME` is `call NAME ** : always 1`. Spaces, tabs and
-    /// carriage returns round a line are dropped; spaces and tabs separate its words. Lines without a word, and lines that begin with `#`, are
-    /// skipped. The first word is the name, unless it is `final` or `steady` and a word without `=`
-    /// follows, or `sub` and two such words follow. Each further word is a setting: a variable, the first
-    /// `=`, and a value that may be empty. In a `sub` line, `@N` and `@last` stand for the variable that
-    /// the Nth or the last word of the call names. Lines of one name, and `sub` lines of one name and
-    /// word, are joined: final if one of them is, steady if one of them is, settings in their order.
+    /// The commands of a device list, a line each: `NAME SETTINGS`, or `final NAME SETTINGS` for one that
+    /// ends the run; `sub NAME WORD SETTINGS` and `final sub NAME WORD SETTINGS` speak of the calls of NAME
+    /// whose first word is WORD. `steady`, before all of that or after `final`, has the answers stay: asked
+    /// again with the same words in one run, the command answers as before. `steady test` says so of `test
+    /// -e`. `known NAME` has the calls of NAME computed, where its words can be; NAME is `env`, `itest` or
+    /// `setexpr`. `call PATTERN : CLAUSES` is about the calls of a command that fit a pattern: its name,
+    /// and then the words of the call, of which `*` is any one, one that ends with `*` each that starts so,
+    /// and a last `**` any number. Clauses are `final`, `steady`, `always 0` and `always 1` (the only
+    /// status of the call, which then takes no outcome), `needs NAME` and `needs NAME WORD` (the call fails
+    /// without an outcome, unless a call of NAME, whose first word is WORD, succeeded before in the run),
+    /// `normal 1` (a failure is what is expected of the call), and settings, in any order; there, `VAR=@N`
+    /// and `VAR=@last` have a word of the call as the value, and a value may have parts in single quotes,
+    /// with blanks in them. `absent NAME` is `call NAME ** : always 1`. Spaces, tabs and carriage returns
+    /// round a line are dropped; spaces and tabs separate its words. Lines without a word, and lines that
+    /// begin with `#`, are skipped. The first word is the name, unless it is `final` or `steady` and a word
+    /// without `=` follows, or `sub` and two such words follow. Each further word is a setting: a variable,
+    /// the first `=`, and a value that may be empty. In a `sub` line, `@N` and `@last` stand for the
+    /// variable that the Nth or the last word of the call names. Lines of one name, and `sub` lines of one
+    /// name and word, are joined: final if one of them is, steady if one of them is, settings in their
+    /// order.
     ///
     /// A list that begins with UTF-8's byte order mark is refused for it: `ByteOrderMark`. Otherwise the
-    /// first faulty line is refused: `BadLine` where it holds NUL, or a further word has no `=`, an
-    /// empty variable, one that begins with `-`, or in a `sub` line one that begins with `@` and is no
-    /// word of the call; in a line of calls, where a clause is none or is there twice, a quote is not closed or
-    /// stands in no value, the name is missing or holds `*`, `needs` has no name behind it, `normal` no `1`, `runs` no file, both `always` and `normal` are there, or `**` is not last; else `BuiltIn` where its name is that of
-    /// a built-in command.
+    /// first faulty line is refused: `BadLine` where it holds NUL, or a further word has no `=`, an empty
+    /// variable, one that begins with `-`, or in a `sub` line one that begins with `@` and is no word of
+    /// the call; in a line of calls, where a clause is none or is there twice, a quote is not closed or
+    /// stands in no value, the name is missing or holds `*`, `needs` has no name behind it, `normal` no
+    /// `1`, `runs` no file, both `always` and `normal` are there, or `**` is not last; else `BuiltIn` where
+    /// its name is that of a built-in command.
     pub fn parse(alloc: Global, text: &[u8]) -> Result<Self, DevicesError>
         ensures { IsListed text.now result }
     {
@@ -92,8 +93,13 @@ impl Devices {
         )
     }
 
-    /// The same of a list whose lines may name these files: a line of calls may have the clause `runs FILE`, and then the
-    /// text of this file runs after a success. A line that names another file is a `BadLine`.
+    /// The same of a list whose lines may name these files. A line of calls may have the clause
+    /// `runs FILE`: then the text of this file runs after a success. It may have `imports FILE`, also more
+    /// than once: then the variables of this file are set after a success, in their place among the
+    /// settings, as `env import -t` reads a text, with `-r` if the call has it, and only the names of the
+    /// call, if it has any. Its settings may have the value `@size(FILE)`, the size of this file in
+    /// hexadecimal. A line that names another file is a `BadLine`, and so is one that imports a file which
+    /// is a script image or holds NUL, or in which `env import` finds an empty name.
     pub fn parse_with(alloc: Global, text: &[u8], files: FileTexts) -> Result<Self, DevicesError>
         ensures { IsListedWith (files_shown files.entries) text.now result }
     {

@@ -1,13 +1,29 @@
 //! The settings of a device command: what it sets on success.
-ghost use Rattle.std.specs.Prelude.{◌≡◌, ◌==◌, map, option_map, IfOk, OnOk};
+ghost use Rattle.std.specs.Prelude.{◌≡◌, ◌==◌, false, map, option_map, IfOk, OnOk};
 ghost use Rattle.std.specs.List.{position};
 ghost use Rattle.text.specs.Words.{is_equals};
-ghost use Rattle.device_list.specs.Settings.{is_variable, is_decimal, word_of_call, left_side, setting, settings, value_of_word, right_side, plain_side, call_setting};
+ghost use Rattle.std.specs.Fmt.{digits};
+ghost use Rattle.text.specs.TextsShown.{option_bytes};
+ghost use Rattle.device_list.specs.CommandsShown.{files_shown};
+ghost use Rattle.device_list.specs.Settings.{is_variable, is_decimal, word_of_call, left_side, setting, settings, value_of_word, sized_file, size_of, at_side, right_side, plain_side, call_setting};
 ghost use Rattle.device_list.specs.DevicesShown.{left_shown, right_shown, setting_shown, settings_shown};
 
+use crate::device_tables::FileTexts;
 use crate::quotes::{has_quote, unquoted};
 use std::alloc::{AllocError, Global};
 use text::{are_digits, value_in};
+
+/// In which reading of a text that is imported an entry is: `env import -r` leaves out the carriage
+/// returns in front of newlines.
+#[derive(Clone, Copy, Debug)]
+pub enum Reading {
+    /// In both.
+    Both,
+    /// In that without `-r`.
+    WithReturns,
+    /// In that with `-r`.
+    WithoutReturns,
+}
 
 /// The left side of a setting.
 #[derive(Debug, Drop)]
@@ -18,6 +34,15 @@ pub enum LeftSide {
     WordAt(u64),
     /// The variable that the last word of the call names.
     LastWord,
+    /// An environment variable of a text that is imported, if the call takes this entry.
+    Imported {
+        /// Its name.
+        name: Vec<u8>,
+        /// The reading of the text.
+        reading: Reading,
+        /// Whether it is the first entry of this name.
+        first: bool,
+    },
 }
 
 /// The right side of a setting.
@@ -29,6 +54,8 @@ pub enum RightSide {
     ValueAt(u64),
     /// The last word of the call.
     LastValue,
+    /// None: the variable is deleted.
+    Deleted,
 }
 
 /// What a device command sets on success.
@@ -41,7 +68,7 @@ pub struct Setting {
 }
 
 /// The place of the first `=`.
-fn equals_at(word: &[u8]) -> Option<usize>
+pub(crate) fn equals_at(word: &[u8]) -> Option<usize>
     ensures { result ≡ position is_equals word.now }
 {
     word.iter().position(|byte| *byte == b'=')
@@ -117,21 +144,70 @@ fn value_of_word(word: LeftSide) -> RightSide
     ensures { right_shown result ≡ value_of_word (left_shown word) }
 {
     match word {
-        LeftSide::Variable(name) => RightSide::Literal(name),
+        LeftSide::Variable(name) | LeftSide::Imported { name, .. } => RightSide::Literal(name),
         LeftSide::WordAt(place) => RightSide::ValueAt(place),
         LeftSide::LastWord => RightSide::LastValue,
     }
 }
 
-/// The right side of a setting of a `call` line, if it is one: an `@` starts a word of the call.
-fn right_side(alloc: Global, value: &[u8]) -> Result<Option<RightSide>, AllocError>
-    ensures { IfOk result (λ right. option_map right_shown right ≡ right_side value.now) }
+/// The file that `size(FILE)` names.
+pub(crate) fn sized_file(which: &[u8]) -> Option<&[u8]>
+    ensures { option_bytes result ≡ sized_file which.now }
+{
+    let [b's', b'i', b'z', b'e', b'(', rest @ ..] = which else {
+        return None;
+    };
+    let [name @ .., b')'] = rest else {
+        return None;
+    };
+    Some(name)
+}
+
+/// A number in hexadecimal. Errors: memory ran out.
+fn hexadecimal(alloc: Global, number: u64) -> Result<Vec<u8>, AllocError>
+    ensures { IfOk result (λ text. text.items ≡ digits 16 false number) }
+{
+    let text = format!(in alloc; "{number:x}")?;
+    Vec::from_slice(alloc, text.as_bytes())
+}
+
+/// The size of a file, if there is such a file. Errors: memory ran out.
+fn size_of(alloc: Global, files: &FileTexts, name: &[u8]) -> Result<Option<RightSide>, AllocError>
+    ensures { IfOk result (λ right. option_map right_shown right
+        ≡ size_of (files_shown files.now.entries) name.now) }
+{
+    match files.get(name) {
+        Some(file) => Ok(Some(RightSide::Literal(hexadecimal(alloc, file.size)?))),
+        None => Ok(None),
+    }
+}
+
+/// What follows an `@` on the right side: the size of a file, or a word of the call.
+fn at_side(alloc: Global, files: &FileTexts, which: &[u8]) -> Result<Option<RightSide>, AllocError>
+    ensures { IfOk result (λ right. option_map right_shown right
+        ≡ at_side (files_shown files.now.entries) which.now) }
+{
+    if let Some(name) = sized_file(which) {
+        return size_of(alloc, files, name);
+    }
+    let Some(word) = word_of_call(which) else {
+        return Ok(None);
+    };
+    Ok(Some(value_of_word(word)))
+}
+
+/// The right side of a setting of a `call` line, if it is one: an `@` starts a word of the call, or the
+/// size of a file.
+fn right_side(
+    alloc: Global,
+    files: &FileTexts,
+    value: &[u8],
+) -> Result<Option<RightSide>, AllocError>
+    ensures { IfOk result (λ right. option_map right_shown right
+        ≡ right_side (files_shown files.now.entries) value.now) }
 {
     if let [b'@', which @ ..] = value {
-        let Some(word) = word_of_call(which) else {
-            return Ok(None);
-        };
-        return Ok(Some(value_of_word(word)));
+        return at_side(alloc, files, which);
     }
     let Some(value) = unquoted(alloc, value)? else {
         return Ok(None);
@@ -151,8 +227,13 @@ fn plain_side(alloc: Global, name: &[u8]) -> Result<Option<LeftSide>, AllocError
 
 /// The setting that a word of a `call` line is, if it is one.
 #[tactic(auto, using(crate::proofs::DeviceLemmas::cuts))]
-pub(crate) fn call_setting(alloc: Global, word: &[u8]) -> Result<Option<Setting>, AllocError>
-    ensures { IfOk result (λ s. option_map setting_shown s ≡ call_setting word.now) }
+pub(crate) fn call_setting(
+    alloc: Global,
+    files: &FileTexts,
+    word: &[u8],
+) -> Result<Option<Setting>, AllocError>
+    ensures { IfOk result (λ s. option_map setting_shown s
+        ≡ call_setting (files_shown files.now.entries) word.now) }
 {
     let Some(at) = equals_at(word) else {
         return Ok(None);
@@ -160,7 +241,7 @@ pub(crate) fn call_setting(alloc: Global, word: &[u8]) -> Result<Option<Setting>
     let Some(left) = plain_side(alloc, &word[..at])? else {
         return Ok(None);
     };
-    let Some(value) = right_side(alloc, &word[at + 1..])? else {
+    let Some(value) = right_side(alloc, files, &word[at + 1..])? else {
         return Ok(None);
     };
     Ok(Some(Setting { left, value }))

@@ -1,4 +1,4 @@
-use Rattle.std.proofs.Common.{◌∙◌, ap, sym, Bool, true, false, Option, Some, None, cond}
+use Rattle.std.proofs.Common.{◌∙◌, ap, sym, Bool, true, false, Some, None, cond}
 use Rattle.text.specs.Lines.{Text}
 use Rattle.device_list.specs.CallLines as calls
 use Rattle.device_list.specs.CommandsShown.{clauses_shown, text_shown}
