@@ -1,7 +1,7 @@
 -- Worked examples, computed: device commands that hand over to the text of a file.
-use Rattle.std.proofs.Common.{◌≡◌, true, List, [], ◌∷◌, Some, None, codes, refl, map, replicate}
+use Rattle.std.proofs.Common.{◌≡◌, true, List, [], ◌∷◌, Some, None, codes, length, refl, map, replicate}
 use Rattle.device_list.specs.declared.finish.BoardEnd.TheVariants.{Boots}
-use Rattle.device_list.specs.DeviceList.{Variable, Literal, Effect, Devices, only}
+use Rattle.device_list.specs.DeviceList.{FileText, Variable, Literal, Effect, Devices, only}
 use Rattle.device_list.specs.DeviceLaws.{quiet}
 use Rattle.rehearse_terms.specs.State.{Text}
 use Rattle.rehearse_terms.specs.declared.shell.Shell.TheVariants.{Profile, Old2023, Old2025, Modern2025}
@@ -13,9 +13,13 @@ use Rattle.rehearse_rules.proofs.ExampleRehearsals.{limits, bootcmd, z, listed, 
 abbrev source : Effect
 source = record quiet { runs = Some (codes "boot.scr") }
 
+-- a text that is no image
+abbrev plain : Text → FileText
+plain text = record { text = text; size = length text }
+
 -- a device list of `source`, and the text of the file
 abbrev sources : Effect → Text → Devices
-sources effect file = record (only ((codes "source", effect) ∷ [])) { files = (codes "boot.scr", file) ∷ [] }
+sources effect file = record (only ((codes "source", effect) ∷ [])) { files = (codes "boot.scr", plain file) ∷ [] }
 
 -- a text is rehearsed, with this file
 abbrev sourcing : Effect → (file text : Text) → Task

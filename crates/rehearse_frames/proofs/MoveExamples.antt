@@ -1,5 +1,5 @@
 -- What single moves of the machine read and write, and what is to come after a device command, computed.
-use Rattle.std.proofs.Common.{◌≡◌, refl, true, false, List, [], ◌∷◌, Some, None, codes}
+use Rattle.std.proofs.Common.{◌≡◌, refl, true, false, List, [], ◌∷◌, length, Some, None, codes}
 use Rattle.std.specs.Fmt.{digits}
 use Rattle.hushlang.specs.Expansion.{fields, joined, atoms}
 use Rattle.hushlang.specs.Tree as tree
@@ -7,6 +7,7 @@ use Rattle.hushlang.specs.Tree.{Script}
 use Rattle.hushlang.specs.Trees.{tree_of}
 use Rattle.hushlang_old.specs.Defaults.{behind_variable}
 use Rattle.device_list.specs.DeviceList.{Devices, only}
+use Rattle.device_list.specs.Settings as known
 use Rattle.device_list.specs.DeviceLaws.{quiet}
 use Rattle.rehearse_terms.specs.Outcomes.{OutcomeWord, Success, Failure}
 use Rattle.rehearse_terms.specs.State.{Text, State, LoggedCommand, start}
@@ -20,9 +21,13 @@ use Rattle.rehearse_frames.specs.ToCome.{of_next}
 
 -- ---- what they are computed with
 
+-- a text that is no image
+abbrev plain : Text → known.FileText
+plain text = record { text = text; size = length text }
+
 abbrev devices : Devices
 devices = record (only ((codes "load", quiet) ∷ (codes "stay", record quiet { stays = true }) ∷ [])) {
-  files = (codes "boot.scr", codes "echo $a") ∷ (codes "empty", []) ∷ (codes "no script", codes "fi") ∷ [];
+  files = (codes "boot.scr", plain (codes "echo $a")) ∷ (codes "empty", plain []) ∷ (codes "no script", plain (codes "fi")) ∷ [];
 }
 
 abbrev limits : Limits

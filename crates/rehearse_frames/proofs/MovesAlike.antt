@@ -174,7 +174,7 @@ module _ (limits : Limits) (i j : ℕ) (k l : List LoggedCommand) where
   answers_over : (outcome : Outcome) (request : Request) (fs : List Frame) (known : List Key) (s t : State) → Near known s t → with_file t.memory.status request.effect.runs fs ≡ with_file s.memory.status request.effect.runs fs
       → NextAlike (known_after known (outcome_writes outcome request)) (answered outcome request fs s) (answered outcome request fs t)
   answers_over Success request fs known s t near e =
-      let sets : List (Text × Text) = sets_in request.words request.effect.sets in
+      let sets : List (Text × Option Text) = sets_in request.words request.effect.sets in
       let here : State = set_environment sets (logged Success request s) in
       let there : State = set_environment sets (logged Success request t) in
       let after : List Key = known_after (Status ∷ known) (names_written (map (λ e. e.0) sets)) in

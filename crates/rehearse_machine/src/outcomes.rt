@@ -1,6 +1,6 @@
 //! Outcomes of device commands.
-ghost use Rattle.std.specs.Prelude.{◌≡◌, ◌∷◌, [], false, map, option_map, if◌then◌else◌};
-ghost use Rattle.text.specs.TextsShown.{bytes_of_words};
+ghost use Rattle.std.specs.Prelude.{◌≡◌, ◌∷◌, [], false, Some, map, option_map, if◌then◌else◌};
+ghost use Rattle.text.specs.TextsShown.{bytes_of_words, option_bytes};
 ghost use Rattle.device_list.specs.Called.{named_by, variable_of, value_of, sets_in};
 ghost use Rattle.device_list.specs.DevicesShown.{left_shown, right_shown, setting_shown};
 ghost use Rattle.rehearse_terms.specs.Outcomes.{Outcome};
@@ -15,7 +15,7 @@ use crate::file_moves::hand_over;
 use crate::told::told;
 use bootstore_state::{LogEntry, Store, StoreError};
 use commands::is_bad_name;
-use device_list::{Effect, LeftSide, RightSide, Setting};
+use device_list::{Effect, LeftSide, RightSide, Setting, takes};
 use rehearse_rules::Halt;
 use rehearse_terms::RunBounds;
 use std::alloc::Global;
@@ -131,7 +131,7 @@ fn set_all<S: Store>(store: &mut S, words: &[Vec<u8>], sets: &[Setting]) -> Resu
     Ok(())
 }
 
-/// Makes one setting in a call with these words.
+/// Makes one setting in a call with these words: the variable is set or deleted.
 fn set_one<S: Store>(store: &mut S, words: &[Vec<u8>], set: &Setting) -> Result<(), StoreError>
     ensures { Changed result (S.record_of store.old) (S.record_of store.new)
         (λ m. record m {
@@ -145,28 +145,31 @@ fn set_one<S: Store>(store: &mut S, words: &[Vec<u8>], set: &Setting) -> Result<
     let Some(value) = value_of(&set.value, words) else {
         return Ok(());
     };
-    store.set_env(name, Some(value))?;
+    store.set_env(name, value)?;
     Ok(())
 }
 
-/// The value that the right side of a setting means in a call with these words.
-pub fn value_of<'a>(right: &'a RightSide, words: &'a [Vec<u8>]) -> Option<&'a [u8]>
-    ensures { option_map (λ v. v.now) result ≡ value_of (right_shown right.now)
+/// The value that the right side of a setting means in a call with these words: none inside, if the
+/// variable is deleted.
+pub fn value_of<'a>(right: &'a RightSide, words: &'a [Vec<u8>]) -> Option<Option<&'a [u8]>>
+    ensures { option_map option_bytes result ≡ value_of (right_shown right.now)
         (bytes_of_words words.now) }
 {
     match right {
-        RightSide::Literal(text) => Some(text),
+        RightSide::Literal(text) => Some(Some(text)),
         RightSide::ValueAt(place) => bytes_of_word(words.get(*place as usize)),
         RightSide::LastValue => bytes_of_word(words.last()),
+        RightSide::Deleted => Some(None),
     }
 }
 
 /// The bytes of a word, if there is one.
-fn bytes_of_word(word: Option<&Vec<u8>>) -> Option<&[u8]>
-    ensures { option_map (λ v. v.now) result ≡ option_map (λ w. w.now.items) word.entry }
+fn bytes_of_word(word: Option<&Vec<u8>>) -> Option<Option<&[u8]>>
+    ensures { option_map option_bytes result
+        ≡ option_map Some (option_map (λ w. w.now.items) word.entry) }
 {
     let word = word?;
-    Some(word)
+    Some(Some(word))
 }
 
 /// The variable that the left side of a setting means in a call with these words.
@@ -178,6 +181,17 @@ pub fn variable_of<'a>(left: &'a LeftSide, words: &'a [Vec<u8>]) -> Option<&'a [
         LeftSide::Variable(name) => Some(name),
         LeftSide::WordAt(place) => named_by(words.get(*place as usize)),
         LeftSide::LastWord => named_by(words.last()),
+        LeftSide::Imported {
+            name,
+            reading,
+            first,
+        } => {
+            if takes(words, name, *reading, *first) {
+                Some(name)
+            } else {
+                None
+            }
+        }
     }
 }
 

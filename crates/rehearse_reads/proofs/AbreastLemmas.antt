@@ -1,5 +1,5 @@
 -- States that agree go on to agree when both are changed alike.
-use Rattle.std.proofs.Common.{◌≡◌, ◌∙◌, refl, sym, ap, subst, ℕ, suc, Bool, true, false, ◌||◌, cond, List, [], ◌∷◌, ◌++◌, map, append_assoc, arith, inl, inr, is_some, Option, if◌then◌else◌}
+use Rattle.std.proofs.Common.{◌≡◌, ◌∙◌, refl, sym, ap, subst, ℕ, suc, Bool, true, false, ◌||◌, cond, List, [], ◌∷◌, ◌++◌, map, append_assoc, arith, inl, inr, is_some, Option, Some, None, if◌then◌else◌}
 use Rattle.commands.specs.BuiltInCommands.{changed_by, text_written, deletions, setenv, carried}
 use Rattle.commands.specs.Computed.{Computed, Gives, Exists, Sets, Deletes, SetsNumber}
 use Rattle.commands.specs.VariableNames.{is_bad_name}
@@ -11,7 +11,7 @@ use Rattle.rehearse_terms.specs.declared.shell.Shell.{Shell}
 use Rattle.rehearse_rules.specs.ByShell.{is_refused, status_of_text}
 use Rattle.rehearse_rules.specs.Needs.{has_succeeded}
 use Rattle.rehearse_rules.proofs.NeedsLemmas.{succeeded_on}
-use Rattle.rehearse_rules.specs.Execution.{Limits, Request, remember, set_status, set_local, assign_local, set_environment, logged, succeeds, text_failed}
+use Rattle.rehearse_rules.specs.Execution.{Limits, Request, remember, set_status, set_local, assign_local, changed, set_environment, logged, succeeds, text_failed}
 use Rattle.rehearse_reads.specs.Keys.{Key, Environment, Local, AnswerTo, Succeeded, Status, IsAmong, AgreeAt, Writes, ReadsWithin, known_after}
 use Rattle.rehearse_reads.specs.Accesses.{names_written, setenv_accesses, deletion_accesses, computed_accesses, local_accesses}
 use Rattle.rehearse_reads.specs.Alike.{HaveFurther, AreAbreast}
@@ -169,9 +169,17 @@ module _ (limits : Limits) (i j : ℕ) (k l : List LoggedCommand) where
 
   -- ---- settings of a device command, one after another
 
-  pub near_set : (known : List Key) (s t : State) (sets : List (Text × Text)) → Near known s t → Near (known_after known (names_written (map (λ e. e.0) sets))) (set_environment sets s) (set_environment sets t)
+  pub near_set : (known : List Key) (s t : State) (sets : List (Text × Option Text)) → Near known s t → Near (known_after known (names_written (map (λ e. e.0) sets))) (set_environment sets s) (set_environment sets t)
   near_set known s t [] near = near
-  near_set known s t (e ∷ sets) near = near_set (Environment e.0 ∷ known) (put e.0 e.1 s) (put e.0 e.1 t) sets (near_put known s t e.0 e.1 near)
+  near_set known s t (e ∷ sets) near = by e.1 (λ known s t near. near_set known s t sets near)
+    where
+      one : Option Text → State → State
+      one value = remember (λ m. record m { environment = changed m.environment e.0 value })
+
+      by : (value : Option Text) → ((known : List Key) (s t : State) → Near known s t → Near (known_after known (names_written (map (λ e. e.0) sets))) (set_environment sets s) (set_environment sets t))
+          → Near (known_after (Environment e.0 ∷ known) (names_written (map (λ e. e.0) sets))) (set_environment sets (one value s)) (set_environment sets (one value t))
+      by None rest = rest (Environment e.0 ∷ known) (left_out e.0 s) (left_out e.0 t) (near_left_out known s t e.0 near)
+      by (Some value) rest = rest (Environment e.0 ∷ known) (put e.0 value s) (put e.0 value t) (near_put known s t e.0 value near)
 
   -- ---- assignments
 

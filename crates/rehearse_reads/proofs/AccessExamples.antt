@@ -1,33 +1,39 @@
 -- What each kind of command and each part of a script reads and writes, computed from the script's text.
-use Rattle.std.proofs.Common.{◌≡◌, refl, true, false, List, [], ◌∷◌, map, Some, None, codes}
+use Rattle.std.proofs.Common.{◌≡◌, refl, true, false, List, [], ◌∷◌, length, map, Some, None, codes}
 use Rattle.std.specs.Fmt.{digits}
 use Rattle.hushlang.specs.Expansion.{fields, joined, atoms}
 use Rattle.hushlang.specs.Trees.{tree_of}
-use Rattle.hushlang_old.specs.OldTrees.{has_fault, old_tree_of}
+use Rattle.hushlang_old.specs.OldTrees.{has_fault, lacks_end, old_tree_of}
 use Rattle.hushlang_old.specs.Defaults.{variable_of, behind_variable}
 use Rattle.hushlang_old.specs.OldFields.{old_fields, old_turns, inserted, word_text, command_text, read, reread}
+use Rattle.hushlang_modern.specs.ModernFields.{expanded, modern_fields}
+use Rattle.hushlang_modern.specs.ModernTrees.{modern_text}
 use Rattle.hushlang_shells.specs.TreesByShell.{TextRead, Runs, Fails, Panics, Unread, first_in}
-use Rattle.device_list.specs.DeviceList.{Variable, Literal, Devices, only}
+use Rattle.device_list.specs.DeviceList.{FileText, Variable, Literal, Devices, only}
 use Rattle.device_list.specs.DeviceLaws.{quiet}
 use Rattle.rehearse_terms.specs.Outcomes.{OutcomeWord, Success, Failure}
 use Rattle.rehearse_terms.specs.State.{Text, Variables, State, LoggedCommand, start}
 use Rattle.rehearse_terms.specs.declared.written.Written.TheVariants.{Kept}
 use Rattle.rehearse_terms.specs.declared.shell.Shell.{Shell}
-use Rattle.rehearse_terms.specs.declared.shell.Shell.TheVariants.{Profile, Old2023, Old2025}
+use Rattle.rehearse_terms.specs.declared.shell.Shell.TheVariants.{Profile, Old2023, Old2025, Modern2025}
 use Rattle.rehearse_rules.specs.Execution.{Limits}
 use Rattle.rehearse_reads.specs.Keys.{Key, Environment, Local, AnswerTo, Succeeded, Status, Access, Reads, Writes, keys_in_front, keys_read}
 use Rattle.rehearse_reads.specs.Accesses.{accesses}
 
 -- ---- what they are computed with
 
+-- a text that is no image
+abbrev plain : Text → FileText
+plain text = record { text = text; size = length text }
+
 -- `load` is asked each time, `stay` once, `set` sets the variable b, `file` runs a file, and `boot` needs `load`
 abbrev devices : Devices
 devices = record (only ((codes "load", quiet) ∷ (codes "stay", record quiet { stays = true })
     ∷ (codes "set", record quiet { sets = (Variable (codes "b"), Literal (codes "1")) ∷ [] })
-    ∷ (codes "file", record quiet { runs = Some (codes "boot.scr") }) ∷ (codes "none", record quiet { runs = Some (codes "none") }) ∷ [])) {
+    ∷ (codes "file", record quiet { runs = Some (codes "boot.scr") }) ∷ (codes "none", record quiet { runs = Some (codes "none") }) ∷ (codes "left", record quiet { runs = Some (codes "left.scr") }) ∷ [])) {
       calls = (codes "boot", (record { words = []; more = true }, record quiet { needs = codes "load" ∷ [] }) ∷ []) ∷ [];
       known = codes "env" ∷ [];
-      files = (codes "boot.scr", codes "echo $a") ∷ [];
+      files = (codes "boot.scr", plain (codes "echo $a")) ∷ (codes "left.scr", plain (codes "exit 2")) ∷ [];
     }
 
 abbrev limits : Shell → Limits
@@ -42,7 +48,7 @@ before word = start Kept variables word
 
 -- what a text reads and writes in a shell, from a state
 unfoldable reached_in : Shell → State → Text → List Access
-unfolding tree_of old_tree_of has_fault fields joined atoms digits old_fields old_turns inserted variable_of behind_variable word_text command_text read reread
+unfolding tree_of old_tree_of has_fault lacks_end fields joined atoms digits old_fields old_turns inserted variable_of behind_variable word_text command_text read reread modern_text modern_fields expanded
 reached_in shell s text = elim (first_in shell text) [ Runs t ↦ accesses (limits shell) 5 t s | Fails ↦ [] | Panics ↦ [] | Unread ↦ [] ]
 
 -- with a word of successes, in ubtool's own shell
@@ -161,6 +167,12 @@ sets_nothing_on_failure = refl
 file_that_runs : reached (codes "file") ≡ Reads Status ∷ Writes Status ∷ Reads Status ∷ Writes Status ∷ Reads a ∷ Writes Status ∷ Reads Status ∷ []
 unfolding reached_in
 file_that_runs = refl
+
+-- an `exit` in the text of a file reads the status in the modern shell alone, where the run ends with it
+file_that_is_left : map (λ shell. reached_in shell (before (Success ∷ [])) (codes "left")) (Old2025 ∷ Modern2025 ∷ [])
+    ≡ (Reads Status ∷ Writes Status ∷ Reads Status ∷ Writes Status ∷ Writes Status ∷ Reads Status ∷ []) ∷ (Reads Status ∷ Writes Status ∷ Reads Status ∷ Writes Status ∷ Writes Status ∷ Reads Status ∷ []) ∷ []
+unfolding reached_in
+file_that_is_left = refl
 
 file_after_a_failure : reached_in Profile (before (Failure ∷ [])) (codes "file") ≡ Reads Status ∷ Writes Status ∷ Reads Status ∷ []
 unfolding reached_in

@@ -67,7 +67,7 @@ module _ (limits : Limits) (i j : ℕ) (k l : List LoggedCommand) where
 
   writes_alike : (request : Request) (d : Outcome) (known : List Key) (s t : State) → Near known s t → Is (known_after known (outcome_writes d request)) (with_outcome d request s) (with_outcome d request t)
   writes_alike request Success known s t near =
-      let sets : List (Text × Text) = sets_in request.words request.effect.sets in
+      let sets : List (Text × Option Text) = sets_in request.words request.effect.sets in
       finish_alike (known_after (Status ∷ known) (names_written (map (λ e. e.0) sets))) request.effect.ends request.name (set_environment sets (logged Success request s)) (set_environment sets (logged Success request t))
       (near_set limits i j k l (Status ∷ known) (logged Success request s) (logged Success request t) sets (near_logged limits i j k l known s t Success request near))
   writes_alike request Failure known s t near = normal_alike limits i j k l (Status ∷ known) (logged Failure request s) (logged Failure request t) (near_logged limits i j k l known s t Failure request near)

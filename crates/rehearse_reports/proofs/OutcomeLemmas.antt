@@ -35,7 +35,7 @@ use Rattle.rehearse_reports.specs.Looping.{HasFrames}
 use Rattle.rehearse_reports.proofs.ReportLemmas.{reports_nothing, reports_then}
 use Rattle.rehearse_reports.proofs.FollowingLemmas.{at_end, follows_asking, follows_ended, follows_outcome, leads_then, reported_for}
 
-abbrev names_of : List (Text × Text) → List Access
+abbrev names_of : List (Text × Option Text) → List Access
 names_of sets = names_written (map (λ e. e.0) sets)
 
 -- what one setting writes
@@ -51,14 +51,14 @@ no_value (Some name) = refl
 
 pub sets_no_value : (old : List Access) (words : List Text) (set : says.Setting) → None ≡ value_of set.1 words → Reports old old (names_of (sets_in words (set ∷ [])))
 sets_no_value old words set e =
-    subst (λ (o : Option Text). Reports old old (names_of (set_in (variable_of set.0 words) o ++ []))) e (subst (Reports old old) (sym (no_value (variable_of set.0 words))) (reports_nothing old))
+    subst (λ (o : Option (Option Text)). Reports old old (names_of (set_in (variable_of set.0 words) o ++ []))) e (subst (Reports old old) (sym (no_value (variable_of set.0 words))) (reports_nothing old))
 
-pub sets_one : (old new : List Access) (words : List Text) (set : says.Setting) (name value written : Text) → Some name ≡ variable_of set.0 words → Some value ≡ value_of set.1 words → written ≡ name → Reports old new (Writes (Environment written) ∷ []) → Reports old new (names_of (sets_in words (set ∷ [])))
+pub sets_one : (old new : List Access) (words : List Text) (set : says.Setting) (name : Text) (value : Option Text) (written : Text) → Some name ≡ variable_of set.0 words → Some value ≡ value_of set.1 words → written ≡ name → Reports old new (Writes (Environment written) ∷ []) → Reports old new (names_of (sets_in words (set ∷ [])))
 sets_one old new words set name value written e f is h =
     subst (λ (o : Option Text). Reports old new (names_of (set_in o (value_of set.1 words) ++ []))) e
-    (subst (λ (o : Option Text). Reports old new (names_of (set_in (Some name) o ++ []))) f (subst (λ (n : Text). Reports old new (Writes (Environment n) ∷ [])) is h))
+    (subst (λ (o : Option (Option Text)). Reports old new (names_of (set_in (Some name) o ++ []))) f (subst (λ (n : Text). Reports old new (Writes (Environment n) ∷ [])) is h))
 
-names_joined : (xs ys : List (Text × Text)) → names_of (xs ++ ys) ≡ names_of (xs ++ []) ++ names_of ys
+names_joined : (xs ys : List (Text × Option Text)) → names_of (xs ++ ys) ≡ names_of (xs ++ []) ++ names_of ys
 names_joined [] ys = refl
 names_joined (x ∷ xs) ys = ap (λ (zs : List Access). Writes (Environment x.0) ∷ zs) (names_joined xs ys)
 

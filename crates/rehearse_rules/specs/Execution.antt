@@ -9,7 +9,7 @@ use Rattle.hushlang.specs.declared.tree.Op.{Op}
 use Rattle.hushlang.specs.declared.tree.Op.TheVariants.{And, Or}
 use Rattle.rehearse_terms.specs.Outcomes.{Outcome, Success, Failure, OutcomeWord}
 use Rattle.hushlang_shells.specs.TreesByShell.{TextRead, Runs, Fails, Panics, Unread, first_in, started_in, sourced_in}
-use Rattle.rehearse_terms.specs.State.{Text, Variables, get, with_value, Memory, LoggedCommand, answer_in, State}
+use Rattle.rehearse_terms.specs.State.{Text, Variables, get, with_value, without, Memory, LoggedCommand, answer_in, State}
 use Rattle.rehearse_terms.specs.declared.shell.Shell.{Shell}
 use Rattle.rehearse_terms.specs.declared.shell.Shell.TheVariants.{Profile, Old2023, Old2025, Modern2025}
 use Rattle.rehearse_rules.specs.Needs.{effect_now}
@@ -132,12 +132,17 @@ logged outcome request s =
       } ∷ [];
     })
 
-abbrev pub with_all : List (Text × Text) → Variables → Variables
-with_all [] variables = variables
-with_all (e ∷ es) variables = with_all es (with_value variables e.0 e.1)
+-- a variable is set, or without a value deleted
+abbrev pub changed : Variables → Text → Option Text → Variables
+changed variables name None = without variables name
+changed variables name (Some value) = with_value variables name value
 
--- sets environment variables, one after another
-abbrev pub set_environment : List (Text × Text) → State → State
+abbrev pub with_all : List (Text × Option Text) → Variables → Variables
+with_all [] variables = variables
+with_all (e ∷ es) variables = with_all es (changed variables e.0 e.1)
+
+-- sets and deletes environment variables, one after another
+abbrev pub set_environment : List (Text × Option Text) → State → State
 set_environment sets = remember (λ m. record m { environment = with_all sets m.environment })
 
 -- a command that ends the run, or another one
@@ -211,7 +216,7 @@ left_to_prompt (Ended ending s) = Ended ending s
 left_to_prompt (Dry s) = Dry s
 
 -- what the text of a file comes to, by what is in it: `exit` ends this text alone, in the modern shell the run, as it sets the input
--- of the shell to the console (; `parse_and_run_stream`, `setup_file_in_str`)
+-- of the shell to the console (`parse_and_run_stream`, `setup_file_in_str`)
 abbrev pub sourced : Shell → Answer → Answer
 sourced Profile a = a
 sourced Old2023 a = a

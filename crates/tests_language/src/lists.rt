@@ -15,6 +15,7 @@ fn value_of(alloc: Global, value: &RightSide) -> Result<String, AllocError> {
             format!(in alloc; "@{at}")
         }
         RightSide::LastValue => String::from_str(alloc, "@last"),
+        RightSide::Deleted => String::from_str(alloc, ""),
     }
 }
 
@@ -22,7 +23,7 @@ fn value_of(alloc: Global, value: &RightSide) -> Result<String, AllocError> {
 fn setting_of(alloc: Global, setting: &Setting) -> Result<String, AllocError> {
     let value = value_of(alloc, &setting.value)?;
     match &setting.left {
-        LeftSide::Variable(name) => {
+        LeftSide::Variable(name) | LeftSide::Imported { name, .. } => {
             let name = shown(alloc, name)?;
             format!(in alloc; " {name}={value}")
         }
