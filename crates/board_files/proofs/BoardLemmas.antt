@@ -1,10 +1,9 @@
 -- What a rehearsal of a board is read from.
-use Rattle.std.proofs.Common.{◌≡◌, ℕ, refl, sym, subst, List, [], Option, Some, None, Ok, Err, inl, inr}
-use Rattle.std.specs.Prelude.{Result, Vec, option_map}
-use Rattle.std.specs.declared.alloc.Global.{Global}
+use Rattle.std.proofs.Common.{◌≡◌, ℕ, sym, subst, List, Option, Some, None, Ok, Err, inl, inr}
+use Rattle.std.specs.Prelude.{option_map}
 use Rattle.board_files.proofs.FileLemmas as named
-use Rattle.board_files.specs.BoardFiles.{AreAllRead, AreUnnamed, IsNotRead, ReadsBoard, list_of, list_read}
-use Rattle.board_files.specs.NamedFiles.{HaveReadNamed, IsNamedFilesFault, ReadsNamedFiles}
+use Rattle.board_files.specs.BoardFiles.{AreAllRead, ReadsBoard, list_of, list_read}
+use Rattle.board_files.specs.NamedFiles.{HaveReadNamed, IsNamedFilesFault}
 use Rattle.board_files.specs.declared.board_files.BoardFiles.{BoardFiles}
 use Rattle.board_start.specs.Boards.{ListRead}
 use Rattle.device_list.specs.CallLines.{Files}
@@ -16,7 +15,7 @@ use Rattle.tool_files.specs.Told.{Stored, Told}
 use Rattle.tool_images.specs.declared.fault.Fault.{Fault}
 use Rattle.tool_steps.proofs.SourceLemmas as sources
 use Rattle.tool_steps.specs.Images.{Copy, copies}
-use Rattle.tool_steps.specs.Sources.{AreRead, ReadsSources}
+use Rattle.tool_steps.specs.Sources.{ReadsSources}
 use Rattle.tool_steps.specs.declared.sources.Sources.{Sources}
 use Rattle.tool_words.specs.Asked.{InputsShown}
 
@@ -65,11 +64,11 @@ pub board-unread : (inputs : InputsShown) (x z : Told) (f : Fault) → ReadsSour
 board-unread inputs x z f h = (h.0, inl h)
 
 pub board-unnamed : (inputs : InputsShown) (source : Sources) (x y z : Told) (f : Fault) → ReadsSources inputs x y (Ok source)
-    → OnlyReads y z × IsNamedFilesFault inputs.files y.stored f → ReadsBoard inputs x z (Err f)
+    → OnlyReads y z × IsNamedFilesFault inputs.files (named_files source.device_list.items) y.stored f → ReadsBoard inputs x z (Err f)
 board-unnamed inputs source x y z f read h =
     let reads = sources.only-read inputs source x y read in
-    let refused : IsNamedFilesFault inputs.files x.stored f = subst (λ (s : Stored). IsNamedFilesFault inputs.files s f) reads.stored h.1 in
-    (OnlyReads-then x y z reads h.0, inr (record { middle = y; read = sources.so-of-sources inputs source x y (λ found text script. IsNamedFilesFault inputs.files x.stored f) read refused }))
+    let refused = subst (λ (s : Stored). IsNamedFilesFault inputs.files (named_files source.device_list.items) s f) reads.stored h.1 in
+    (OnlyReads-then x y z reads h.0, inr (record { middle = y; read = sources.so-of-sources inputs source x y (λ found text script. IsNamedFilesFault inputs.files (named_files text) x.stored f) read refused }))
 
 pub board-read : (inputs : InputsShown) (source : Sources) (board : BoardFiles) (x y z : Told) → board.images ≡ source.images → board.device_list ≡ source.device_list → board.script ≡ source.script
     → ReadsSources inputs x y (Ok source) → HaveReadNamed inputs.files (named_files source.device_list.items) y z (files_shown board.files.entries) → ReadsBoard inputs x z (Ok board)

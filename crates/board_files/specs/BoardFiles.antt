@@ -29,7 +29,7 @@ pub record AreAllRead (inputs : InputsShown) (old new : Told) (IsSo : List Copy 
 -- All but the files that the list names was read, and one of these is refused for this.
 pub record AreUnnamed (inputs : InputsShown) (old : Told) (fault : Fault) : Type 0 where
   pub middle : Told
-  pub read : AreRead inputs old middle (λ found text script. IsNamedFilesFault inputs.files old.stored fault)
+  pub read : AreRead inputs old middle (λ found text script. IsNamedFilesFault inputs.files (named_files text) old.stored fault)
 
 -- why not all is read: files were only read
 abbrev pub IsNotRead : InputsShown → (old new : Told) → Fault → Type 0

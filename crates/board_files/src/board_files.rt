@@ -13,23 +13,24 @@ use tool_images::Fault;
 use tool_steps::{Images, Sources, read_sources};
 use tool_words::Inputs;
 
-/// The images, the text of a device list, the texts of the files that it names, and the script that runs in place of a
-/// variable.
+/// The images, the text of a device list, the texts and sizes of the files that it names, and the script that runs in
+/// place of a variable.
 #[derive(Drop)]
 pub struct BoardFiles {
     /// The images.
     pub images: Images,
     /// The text of the device list.
     pub device_list: Vec<u8>,
-    /// The texts of the files that it names, if a folder is named.
+    /// The texts and sizes of the files that it names, if a folder is named.
     pub files: FileTexts,
     /// The script, if one is named.
     pub script: Option<Vec<u8>>,
 }
 
 /// A copy of a path, if there is one. Errors: memory ran out.
-fn copied(path: &Option<String>) -> Result<Option<String>, AllocError>
-    ensures { IfOk result (λ copy. option_map string_bytes copy ≡ option_map string_bytes path.now) }
+pub fn copied_path(path: &Option<String>) -> Result<Option<String>, AllocError>
+    ensures { IfOk result
+        (λ copy. option_map string_bytes copy ≡ option_map string_bytes path.now) }
 {
     match path {
         Some(path) => Ok(Some(path.clone()?)),
@@ -37,8 +38,8 @@ fn copied(path: &Option<String>) -> Result<Option<String>, AllocError>
     }
 }
 
-/// Reads the images, then the device list, then the script, if one is named, and then the files that the list names, if a folder
-/// is named.
+/// Reads the images, then the device list, then the script, if one is named, and then the files that the list names,
+/// if a folder is named.
 pub fn read_board<F: Files>(
     alloc: Global,
     files: &mut F,
@@ -50,7 +51,7 @@ pub fn read_board<F: Files>(
     ensures told { IfTold (F.told files.old) (F.told files.new)
         (λ old new. ReadsBoard (inputs_shown inputs) old new result) }
 {
-    let Ok(folder) = copied(&inputs.files) else {
+    let Ok(folder) = copied_path(&inputs.files) else {
         return Err(Fault::Memory);
     };
     let sources = read_sources(alloc, files, inputs)?;

@@ -4,5 +4,5 @@
 mod board_files;
 mod named_files;
 
-pub use board_files::{BoardFiles, read_board};
+pub use board_files::{BoardFiles, copied_path, read_board};
 pub use named_files::copied_texts;

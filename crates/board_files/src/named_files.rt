@@ -1,20 +1,20 @@
-//! Reads the texts of the files that a device list names.
+//! Reads the texts and sizes of the files that a device list names.
 ghost use Rattle.std.specs.Prelude.{◌≡◌, ◌≤◌, vec_len, ◌++◌, ◌∷◌, [], false, true, IfErr, IfOk, MatchOption, OnOk, option_map, string_bytes};
 ghost use Rattle.board_files.specs.NamedFiles.{IsNew, ReadsFiles, ReadsNamedFiles, ReadsOne, ReadsWithin, path_below};
 ghost use Rattle.commands.specs.TextsShown.{texts as texts_shown};
-ghost use Rattle.device_list.specs.CommandsShown.{files_shown};
+ghost use Rattle.device_list.specs.CommandsShown.{files_shown, text_shown};
 ghost use Rattle.device_list.specs.NamedFiles.{named_files};
 ghost use Rattle.envimage.specs.Config.{is_text};
 ghost use Rattle.tool_files.specs.Told.{IfTold};
 ghost use Rattle.tool_steps.specs.Faults.{CountsTold, IsScriptReadFault};
 
-use device_list::{FileTexts, named_files};
+use device_list::{FileText, FileTexts, named_files};
 use indexmap::IndexMap;
 use keyed_hash::KeyedHash;
 use std::alloc::{AllocError, Global};
 use tool_files::{FileFault, Files};
 use tool_images::Fault;
-use tool_steps::read_script_below;
+use tool_steps::{SizedScript, read_script_below};
 
 /// The most bytes that the texts have together.
 const MOST_BYTES: usize = 16_777_216;
@@ -41,7 +41,7 @@ fn path_below(alloc: Global, folder: &str, name: &str) -> Result<String, AllocEr
     Ok(path)
 }
 
-/// Reads the script of a file below a folder, which has at most `room` bytes. Errors: those of `read_script_below`, and
+/// Reads a file below a folder, whose script has at most `room` bytes. Errors: those of `read_script_below`, and
 /// `FileTooLong`.
 fn read_within<F: Files>(
     alloc: Global,
@@ -49,11 +49,11 @@ fn read_within<F: Files>(
     folder: &str,
     name: &str,
     room: usize,
-) -> Result<Vec<u8>, Fault>
+) -> Result<FileText, Fault>
     ensures count { CountsTold (F.faults files.old) (F.faults files.new) result }
     ensures lock { F.locked files.new ≡ F.locked files.old }
     ensures fault { IfErr result IsScriptReadFault }
-    ensures room { IfOk result (λ text. vec_len text ≤ room) }
+    ensures room { IfOk result (λ file. vec_len file.text ≤ room) }
     ensures told { IfTold (F.told files.old) (F.told files.new)
         (λ old new. ReadsWithin (path_below folder.now name.now) room old new result) }
 {
@@ -63,28 +63,32 @@ fn read_within<F: Files>(
     let Ok(told) = path.clone() else {
         return Err(Fault::Memory);
     };
-    let text = read_script_below(alloc, files, path, folder.len())?;
-    if text.len() > room {
+    let script = read_script_below(alloc, files, path, folder.len())?;
+    if script.text.len() > room {
         return Err(Fault::of_read(told, FileFault::TooLong));
     }
-    Ok(text)
+    let SizedScript { text, size } = script;
+    Ok(FileText {
+        text,
+        size: size as u64,
+    })
 }
 
-/// A copy of the texts of files. Errors: memory ran out.
+/// A copy of the texts and sizes of files. Errors: memory ran out.
 pub fn copied_texts(texts: &FileTexts) -> Result<FileTexts, AllocError>
     ensures { IfOk result (λ copy. files_shown copy.entries ≡ files_shown texts.now.entries) }
 {
     Ok(texts.clone()?)
 }
 
-/// Keeps the text of a file. Errors: memory ran out.
-fn keep(alloc: Global, texts: &mut FileTexts, name: &[u8], text: Vec<u8>) -> Result<(), AllocError>
+/// Keeps what is known of a file. Errors: memory ran out.
+fn keep(alloc: Global, texts: &mut FileTexts, name: &[u8], file: FileText) -> Result<(), AllocError>
     requires { IsNew (files_shown texts.old.entries) name.now }
     ensures { OnOk result (files_shown texts.new.entries
-        ≡ files_shown texts.old.entries ++ (name.now, text.items) ∷ []) }
+        ≡ files_shown texts.old.entries ++ (name.now, text_shown file) ∷ []) }
 {
     let name = Vec::from_slice(alloc, name)?;
-    texts.insert(name, text)?;
+    texts.insert(name, file)?;
     Ok(())
 }
 
@@ -111,9 +115,9 @@ fn read_one<F: Files>(
     if texts.contains_key(name) {
         return Ok(());
     }
-    let text = read_within(alloc, files, folder, inside, *room)?;
-    *room -= text.len();
-    match keep(alloc, texts, name, text) {
+    let file = read_within(alloc, files, folder, inside, *room)?;
+    *room -= file.text.len();
+    match keep(alloc, texts, name, file) {
         Ok(()) => Ok(()),
         Err(_) => Err(Fault::Memory),
     }
@@ -141,8 +145,8 @@ fn read_files<F: Files>(
     Ok(texts)
 }
 
-/// Reads the texts of the files that a device list names, below a folder; without a folder, none. Each is read once, in the
-/// order in which they are named. Errors: those of `read_files`.
+/// Reads the texts and sizes of the files that a device list names, below a folder; without a folder, none. Each is
+/// read once, in the order in which they are named. Errors: those of `read_files`.
 pub(crate) fn read_named_files<F: Files>(
     alloc: Global,
     files: &mut F,
@@ -153,7 +157,8 @@ pub(crate) fn read_named_files<F: Files>(
     ensures lock { F.locked files.new ≡ F.locked files.old }
     ensures fault { IfErr result IsScriptReadFault }
     ensures told { IfTold (F.told files.old) (F.told files.new)
-        (λ old new. ReadsNamedFiles (option_map string_bytes folder) (named_files list.now) old new result) }
+        (λ old new. ReadsNamedFiles (option_map string_bytes folder) (named_files list.now)
+        old new result) }
 {
     let texts = IndexMap::with_hasher(alloc, KeyedHash::of(list));
     let Some(folder) = folder else {

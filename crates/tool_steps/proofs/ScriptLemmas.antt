@@ -1,5 +1,5 @@
 -- The script of a file that was read.
-use Rattle.std.proofs.Common.{◌≡◌, ℕ, refl, sym, subst, List, Option, Ok, Err}
+use Rattle.std.proofs.Common.{◌≡◌, ℕ, refl, sym, subst, List, length, Option, Ok, Err}
 use Rattle.std.specs.Prelude.{IsSomeAnd, Result, Vec}
 use Rattle.std.specs.declared.alloc.Global.{Global}
 use Rattle.script_file.specs.ScriptFiles.{script_in}
@@ -9,7 +9,7 @@ use Rattle.tool_files.specs.declared.files.Action.TheVariants.{ReadAll}
 use Rattle.tool_images.specs.declared.fault.Fault.{Fault}
 use Rattle.tool_images.specs.declared.fault.Fault.TheVariants as fault
 use Rattle.tool_steps.specs.ReadingFiles.{ReadsText}
-use Rattle.tool_steps.specs.Scripts.{MakesScript, ReadsScript}
+use Rattle.tool_steps.specs.Scripts.{MakesScript, ReadsScript, ReadsSized, sized_of}
 
 -- what is made of the bytes that were read is what the file holds
 pub script-made : (path : List ℕ) (bytes : Vec ℕ Global) (r : Result (Vec ℕ Global) Fault) → MakesScript path bytes.items r → (old new : Told) → ReadsText path old new (Ok bytes) → ReadsScript path old new r
@@ -31,3 +31,9 @@ script-made path bytes (Err fault.UnequalSizes) made old new read = absurd made
 script-made path bytes (Err fault.CannotReadInput) made old new read = absurd made
 script-made path bytes (Err fault.InputTooLong) made old new read = absurd made
 script-made path bytes (Err (fault.InputCutOff line)) made old new read = absurd made
+
+-- and with the size of the file
+pub sized-made : (path : List ℕ) (bytes : Vec ℕ Global) (r : Result (Vec ℕ Global) Fault) → MakesScript path bytes.items r → (old new : Told) → ReadsText path old new (Ok bytes)
+    → ReadsSized path old new (sized_of r (length bytes.items))
+sized-made path bytes (Ok script) made old new read = record { bytes = bytes.items; read = read; holds = made; sized = refl }
+sized-made path bytes (Err fault) made old new read = script-made path bytes (Err fault) made old new read

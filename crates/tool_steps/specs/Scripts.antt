@@ -1,5 +1,5 @@
 -- The script of a file, which runs, or is checked, in place of a variable's text. The order of work is ours.
-use Rattle.std.specs.Prelude.{◌≡◌, IsSomeAnd, ℕ, List, Option, Some, None, Result, Ok, Err, Vec}
+use Rattle.std.specs.Prelude.{◌≡◌, IsSomeAnd, ℕ, List, length, Option, Some, None, Result, Ok, Err, Vec}
 use Rattle.std.specs.declared.alloc.Global.{Global}
 use Rattle.script_file.specs.ScriptFiles.{script_in}
 use Rattle.tool_files.specs.CallOrder.{OnlyReads}
@@ -8,6 +8,7 @@ use Rattle.tool_files.specs.declared.files.Action.TheVariants.{ReadAll}
 use Rattle.tool_images.specs.FileFaults.{IsPathOf}
 use Rattle.tool_images.specs.declared.fault.Fault.{Fault}
 use Rattle.tool_images.specs.declared.fault.Fault.TheVariants.{Memory, NoScript}
+use Rattle.tool_steps.specs.declared.script.SizedScript.{SizedScript}
 use Rattle.tool_steps.specs.ReadingFiles.{IsTextFault, Reads}
 
 -- the script of a file's bytes, or why there is none; the fault names the file
@@ -33,6 +34,24 @@ IsScriptFault path file fault = IsTextFault path file fault
 abbrev pub ReadsScript : List ℕ → Told → Told → Result (Vec ℕ Global) Fault → Type 0
 ReadsScript path old new (Ok script) = HasReadScript path old new script.items
 ReadsScript path old new (Err fault) = OnlyReads old new × IsScriptFault path (file_at path old.stored) fault
+
+-- ---- a script with the size of its file
+
+abbrev pub sized_of : Result (Vec ℕ Global) Fault → (size : ℕ) → Result SizedScript Fault
+sized_of (Ok script) size = Ok (record { text = script; size = size })
+sized_of (Err fault) size = Err fault
+
+-- The file was read: this is its script, and the file has this size.
+pub record HasReadSized (path : List ℕ) (old new : Told) (script : List ℕ) (size : ℕ) : Type 0 where
+  pub bytes : List ℕ
+  pub read : Reads (path, ReadAll) (file_at path old.stored) old new bytes
+  pub holds : script_in bytes ≡ Ok script
+  pub sized : size ≡ length bytes
+
+-- the script was read, or refused, and files were only read
+abbrev pub ReadsSized : List ℕ → Told → Told → Result SizedScript Fault → Type 0
+ReadsSized path old new (Ok script) = HasReadSized path old new script.text.items script.size
+ReadsSized path old new (Err fault) = OnlyReads old new × IsScriptFault path (file_at path old.stored) fault
 
 -- ---- a script that may be named
 

@@ -27,7 +27,7 @@ pub use one_copy::{ImageSource, read_source};
 pub use origin::read_origin;
 pub use print::{print_files, slices_of};
 pub use read::{SoughtCopy, StoredCopy, read_list, read_text};
-pub use script::{read_named_script, read_script, read_script_below};
+pub use script::{SizedScript, read_named_script, read_script, read_script_below};
 pub use set::set_files;
 pub use showing::{show_help, show_version};
 pub use sources::{Sources, read_sources};

@@ -1,4 +1,4 @@
-use Rattle.std.proofs.Common.{◌≡◌, ◌∙◌, ap, sym, subst, refl, option_map, string_bytes, Err, List, ℕ, Option, Result}
+use Rattle.std.proofs.Common.{◌∙◌, ap, sym, subst, refl, option_map, string_bytes, Err, List, ℕ, Option}
 use Rattle.std.proofs.lemmas.Result.{err_from_is_err_and}
 use Rattle.board_files.proofs.BoardLemmas.{board-read, board-unread, board-unnamed}
 use Rattle.tool_files.proofs.ToldLemmas.{IfTold-then}
@@ -32,7 +32,8 @@ returns-in_err-named-clause-told g c =
     let fault = c.in_err-named.field-0.0 in
     let p = err_from_is_err_and c.from_residual-in_err-named.result c.from_residual-in_err-named.ensures.1 in
     subst (λ r. IfTold a d (λ old new. ReadsBoard inputs old new r)) (sym (p.1 ∙ ap Err p.2))
-    (IfTold-then a b d (λ x y z h i. board-unnamed inputs c.in_ok-sources.sources x y z fault h (subst (λ (folder : Option (List ℕ)). OnlyReads y z × IsNamedFilesFault folder y.stored fault) c.in-Ok.ensures i)) c.in_ok-sources.ensures.told c.in_err-named.ensures.told)
+    (IfTold-then a b d (λ x y z h i. board-unnamed inputs c.in_ok-sources.sources x y z fault h (subst (λ (folder : Option (List ℕ)). OnlyReads y z × IsNamedFilesFault folder (named_files c.in_ok-sources.sources.device_list.items) y.stored fault) c.in-Ok.ensures
+    (subst (λ (list : List ℕ). OnlyReads y z × IsNamedFilesFault (option_map string_bytes c.in-Ok.folder) (named_files list) y.stored fault) c.deref.ensures.value i))) c.in_ok-sources.ensures.told c.in_err-named.ensures.told)
 
 pub returns-clause-told : goal.returns-clause-told
 returns-clause-told g c =
