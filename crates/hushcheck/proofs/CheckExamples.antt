@@ -11,7 +11,7 @@ use Rattle.hushlang.specs.WordPieces.{pieces}
 use Rattle.hushlang.specs.Parsing.{whole, script, command, simple, keyword, next, behind, sees, expect, joined, joined_all, and_or, lists, lists_all, block, arm, arms, arms_all, if_command, body_of, loop_command, for_command, name, name_next, expect_in, in_next, all_words, separators, separator_next, closes_next, op_next, refusal, missing, at_last, word_next, assignment_next, assignments}
 use Rattle.hushlang.specs.declared.token.SyntaxError.TheVariants.{Unexpected}
 use Rattle.device_list.specs.CallLines.{Exactly, Pattern}
-use Rattle.device_list.specs.DeviceList.{Devices, Effect}
+use Rattle.device_list.specs.DeviceList.{Devices, Effect, FileText}
 use Rattle.hushcheck.specs.Names.{Text, read_in, run_by_read}
 use Rattle.hushcheck.specs.Order.{File, IsOrder, IsReached, Turn, Variable, called_by, files_after, is_asked, is_file, is_run, run_by, variables_after, variables_in}
 use Rattle.hushcheck.specs.Place.{place_in}
@@ -123,6 +123,10 @@ anything = record { words = []; more = true }
 abbrev runs_file : Text → Effect
 runs_file name = record { ends = None; stays = false; always = None; needs = []; normal = false; runs = Some name; sets = [] }
 
+-- a file that is no image
+abbrev file : Text → FileText
+file text = record { text = text; size = length text }
+
 abbrev list : Devices
 list = record {
   commands = [];
@@ -130,7 +134,7 @@ list = record {
   calls = (codes "source", (record { words = Exactly (codes "2") ∷ []; more = false }, runs_file (codes "g")) ∷ (anything, runs_file (codes "f")) ∷ []) ∷ [];
   known = [];
   test_stays = false;
-  files = (codes "f", codes "run a\ntrue\nfi") ∷ (codes "g", codes "true") ∷ (codes "h", codes "run a; source 2 3") ∷ [];
+  files = (codes "f", file (codes "run a\ntrue\nfi")) ∷ (codes "g", file (codes "true")) ∷ (codes "h", file (codes "run a; source 2 3")) ∷ [];
 }
 
 abbrev with_files : Rules

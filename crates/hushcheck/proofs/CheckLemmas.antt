@@ -1,5 +1,5 @@
 -- One turn of a check: what is reached so far, what was reported of it, and how much is left.
-use Rattle.std.proofs.Common.{◌≡◌, ℕ, zero, suc, ◌+◌, ◌-◌, ◌<◌, ◌≤◌, ◌⊎◌, inl, inr, Bool, true, false, ◌&&◌, ◌||◌, List, [], ◌∷◌, ◌++◌, length, take, drop, get_or, Contains, Option, Some, None, refl, sym, ap, subst, ◌∙◌, append_assoc, arith, nat_lt}
+use Rattle.std.proofs.Common.{◌≡◌, ℕ, zero, suc, ◌+◌, ◌-◌, ◌<◌, ◌≤◌, ◌⊎◌, inl, inr, Bool, true, false, ◌&&◌, ◌||◌, List, [], ◌∷◌, ◌++◌, length, map, take, drop, get_or, Contains, Option, Some, None, option_map, refl, sym, ap, subst, ◌∙◌, append_assoc, arith, nat_lt}
 use Rattle.std.specs.Cmp.Lexicographic.{bytes_decides, nat_list_eq_equiv}
 use Rattle.std.proofs.Math.Bool.{and_assoc}
 use Rattle.std.proofs.lemmas.Bool.{cases_Bool, cases_lt, lt-ltb, ltb-true}
@@ -12,7 +12,7 @@ use Rattle.std.specs.Map.{lookup}
 use Rattle.std.specs.Str.{bytes_eq}
 use Rattle.envimage.specs.Data.{Pair}
 use Rattle.envtools.specs.Environment.{same, value_of}
-use Rattle.device_list.specs.DeviceList.{Devices}
+use Rattle.device_list.specs.DeviceList.{Devices, FileText, Files}
 use Rattle.hushcheck.specs.Calls.{files_by_value}
 use Rattle.hushcheck.specs.Names.{Text, run_by_value}
 use Rattle.hushcheck.specs.Rules.{Rules}
@@ -182,16 +182,19 @@ module _ (cost : Option Text → ℕ) (none : cost None ≡ 0) where
             rw (other, e, away) (omega (arith, one, rest))
       ]
 
--- the files of a device list, as a table
+-- the texts of the files of a device list, as a table
+abbrev pub texts_of : Files → List Pair
+texts_of files = map (λ file. (file.0, file.1.text)) files
+
 abbrev pub files_of : Option Devices → List Pair
 files_of None = []
-files_of (Some devices) = devices.files
+files_of (Some devices) = texts_of devices.files
 
-looked-up : (table : List Pair) (name : Text) → lookup (bytes_eq name) table ≡ value_of table name
+looked-up : (files : Files) (name : Text) → option_map (λ (file : FileText). file.text) (lookup (bytes_eq name) files) ≡ value_of (texts_of files) name
 looked-up [] name = refl
-looked-up (p ∷ table) name = elim (cases_Bool (same name p.0)) [
+looked-up (f ∷ files) name = elim (cases_Bool (same name f.0)) [
   | inl is ↦ rw is refl
-  | inr other ↦ rw other (looked-up table name)
+  | inr other ↦ rw other (looked-up files name)
 ]
 
 file_text-is : (devices : Option Devices) (name : Text) → file_text devices name ≡ value_of (files_of devices) name

@@ -1,6 +1,6 @@
 -- What calls set, and which variables nothing sets, computed.
 use Rattle.std.proofs.Common.{◌≡◌, true, false, [], ◌∷◌, Some, None, refl}
-use Rattle.std.specs.Prelude.{List, codes}
+use Rattle.std.specs.Prelude.{List, Option, option_map, codes}
 use Rattle.std.specs.Fmt.{digits}
 use Rattle.envimage.specs.Data.{Pair}
 use Rattle.hushlang.specs.Grammar.{reserved_of, assignment, name_in, name_of, is_in_word}
@@ -10,6 +10,7 @@ use Rattle.hushlang.specs.Words.{reserved}
 use Rattle.hushlang.specs.WordPieces.{pieces}
 use Rattle.hushlang.specs.Parsing.{whole, script, command, simple, keyword, next, behind, sees, expect, joined, joined_all, and_or, lists, lists_all, block, arm, arms, arms_all, if_command, body_of, loop_command, for_command, name, name_next, expect_in, in_next, all_words, separators, separator_next, closes_next, op_next, refusal, missing, at_last, word_next, assignment_next, assignments}
 use Rattle.device_list.specs.DeviceList.{Devices, Effect, Setting, Variable, WordAt, LastWord, Literal}
+use Rattle.device_list.specs.Imports.{imported}
 use Rattle.hushcheck.specs.CallSets.{Sets, set_by_call}
 use Rattle.hushcheck.specs.Names.{Text}
 use Rattle.hushcheck.specs.Report.{lacks_set, last_lines}
@@ -83,6 +84,30 @@ by_held = refl
 
 by_none : set_by_call (Some list) (Some (codes "part")) (word (codes "uuid") ∷ []) ≡ known (codes "uuid" ∷ [])
 by_none = refl
+
+-- ---- a text that is imported
+
+abbrev importing : List Setting → Devices
+importing sets = record list { commands = (codes "get", effect sets) ∷ (codes "env", effect sets) ∷ [] }
+
+abbrev by_import : (command text : Text) → Option Sets
+by_import command text =
+    option_map (λ sets. set_by_call (Some (importing sets)) (Some command) (word (codes "import") ∷ [])) (imported text)
+
+-- its names are set, and one that it deletes is not
+imports_text : by_import (codes "get") (codes "a=1\nb=\nc\nd=2\n") ≡ Some (known (codes "a" ∷ codes "d" ∷ []))
+imports_text = refl
+
+-- a name that is set and deleted counts as set; and each reading sets its names
+deletes_again : by_import (codes "get") (codes "a=1\na=\n") ≡ Some (known (codes "a" ∷ []))
+deletes_again = refl
+
+in_readings : by_import (codes "get") (codes "a=1\nb=\r\n") ≡ Some (known (codes "a" ∷ codes "b" ∷ codes "a" ∷ []))
+in_readings = refl
+
+-- `env import` may set others
+imports_more : by_import (codes "env") (codes "a=1\n") ≡ Some (record { names = codes "a" ∷ []; more = true; runs = None })
+imports_more = refl
 
 -- ---- whole texts, in an environment that has `a`
 

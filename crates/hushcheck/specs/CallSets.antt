@@ -6,7 +6,7 @@ use Rattle.std.specs.List.{fold}
 use Rattle.text.specs.Bytes as ascii
 use Rattle.envtools.specs.Environment.{same}
 use Rattle.hushlang.specs.Tree.{Word, Bytes, Mark, Var, Status}
-use Rattle.device_list.specs.DeviceList.{Devices, Effect, LeftSide, Variable, WordAt, LastWord, effect_of}
+use Rattle.device_list.specs.DeviceList.{Devices, Effect, LeftSide, Variable, WordAt, LastWord, Imported, RightSide, Literal, ValueAt, LastValue, Deleted, Setting, effect_of}
 use Rattle.hushcheck.specs.Names.{Text, written_out}
 use Rattle.hushcheck.specs.Seats.{starts_with}
 
@@ -79,16 +79,28 @@ abbrev pub with_word : Sets → Option (Option Text) → Sets
 with_word s None = s
 with_word s (Some word) = with_set s word
 
--- what the left side of a setting names in a call with these words
+-- what the left side of a setting names in a call with these words; a variable of a text that is imported counts in
+-- each reading of the text
 abbrev pub set_by_side : List (Option Text) → Sets → LeftSide → Sets
 set_by_side words s (Variable name) = with_set s (Some name)
 set_by_side words s (WordAt place) = with_word s (slice_get words place)
 set_by_side words s LastWord = with_word s (slice_get words (length words - 1))
+set_by_side words s (Imported name reading first) = with_set s (Some name)
+
+abbrev pub is_deletion : RightSide → Bool
+is_deletion (Literal text) = false
+is_deletion (ValueAt place) = false
+is_deletion LastValue = false
+is_deletion Deleted = true
+
+-- a deletion sets nothing
+abbrev pub set_by_setting : List (Option Text) → Sets → Setting → Sets
+set_by_setting words s setting = if is_deletion setting.1 then s else set_by_side words s setting.0
 
 abbrev pub set_by_effect : Sets → List (Option Text) → Option Effect → Sets
 set_by_effect s words None = s
 set_by_effect s words (Some effect) =
-    record (fold (λ t setting. set_by_side words t setting.0) s effect.sets) { runs = effect.runs }
+    record (fold (set_by_setting words) s effect.sets) { runs = effect.runs }
 
 -- The list is asked for the call with what is written out of its words.
 abbrev pub set_by_list : Sets → Option Devices → (command : Text) → List Word → Sets

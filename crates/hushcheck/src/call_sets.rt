@@ -2,7 +2,7 @@
 ghost use Rattle.std.specs.Prelude.{◌≡◌, map, option_map, Some, IfOk, OnOk};
 ghost use Rattle.std.specs.List.{fold};
 ghost use Rattle.std.specs.Option.{option_copied};
-ghost use Rattle.device_list.specs.DevicesShown.{left_shown, setting_shown};
+ghost use Rattle.device_list.specs.DevicesShown.{left_shown, right_shown, setting_shown};
 ghost use Rattle.hushlang.specs.TreesShown as view;
 ghost use Rattle.text.specs.TextsShown.{option_bytes};
 ghost use Rattle.hushcheck.specs.CallSets as spec;
@@ -11,7 +11,7 @@ ghost use Rattle.hushcheck.specs.Names.{written_out};
 
 use crate::seat::starts_with;
 use crate::walk::written_out;
-use device_list::{Devices, LeftSide, Setting};
+use device_list::{Devices, LeftSide, RightSide, Setting};
 use hushlang::{Piece, Word};
 use std::alloc::{AllocError, Global};
 use std::marker::Model;
@@ -83,6 +83,13 @@ fn takes_names(word: &[u8]) -> bool
     ensures { result ≡ spec.takes_names word.now }
 {
     word == b"import".as_slice() || word == b"default".as_slice() || word == b"load".as_slice()
+}
+
+/// Whether a setting with this right side deletes its variable.
+fn is_deletion(side: &RightSide) -> bool
+    ensures { result ≡ spec.is_deletion (right_shown side.now) }
+{
+    matches!(side, RightSide::Deleted)
 }
 
 /// What is set.
@@ -229,10 +236,25 @@ impl Sets {
             ≡ spec.set_by_side (shown.all_written words.now) self.old (left_shown side.now)) }
     {
         match side {
-            LeftSide::Variable(name) => self.add_name(name),
+            LeftSide::Variable(name) | LeftSide::Imported { name, .. } => self.add_name(name),
             LeftSide::WordAt(place) => self.add_word(words.get(*place as usize)),
             LeftSide::LastWord => self.add_word(words.last()),
         }
+    }
+
+    /// Adds what a setting sets in a call with these words: a deletion sets nothing. Errors: memory ran out.
+    fn add_setting(
+        &mut self,
+        words: &[Option<Vec<u8>>],
+        setting: &Setting,
+    ) -> Result<(), AllocError>
+        ensures { OnOk result (self.new ≡ spec.set_by_setting (shown.all_written words.now)
+            self.old (setting_shown setting.now)) }
+    {
+        if is_deletion(&setting.value) {
+            return Ok(());
+        }
+        self.add_side(words, &setting.left)
     }
 
     /// Adds what settings set in a call with these words. Errors: memory ran out.
@@ -242,11 +264,11 @@ impl Sets {
         settings: &[Setting],
     ) -> Result<(), AllocError>
         ensures { OnOk result (self.new
-            ≡ fold (λ t setting. spec.set_by_side (shown.all_written words.now) t setting.0)
+            ≡ fold (spec.set_by_setting (shown.all_written words.now))
             self.old (map setting_shown settings.now)) }
     {
         for setting in settings {
-            self.add_side(words, &setting.left)?;
+            self.add_setting(words, setting)?;
         }
         Ok(())
     }

@@ -17,7 +17,7 @@ ghost use Rattle.tool_words.specs.CommandAnswers.{inputs_shown};
 
 use crate::ask::CheckAsk;
 use crate::fault::CheckFault;
-use board_files::{BoardFiles, read_board};
+use board_files::{BoardFiles, copied_path, read_board};
 use board_start::{Board, BoardError};
 use device_list::{Devices, FileTexts};
 use envimage::ByteOrder;
@@ -269,16 +269,6 @@ fn read_script_at<F: Files>(
     read_named_script(alloc, files, Some(path))
 }
 
-/// A copy of a path, if there is one. Errors: memory ran out.
-fn copied(path: &Option<String>) -> Result<Option<String>, AllocError>
-    ensures { IfOk result (λ copy. option_map string_bytes copy ≡ option_map string_bytes path.now) }
-{
-    match path {
-        Some(path) => Ok(Some(path.clone()?)),
-        None => Ok(None),
-    }
-}
-
 /// What a rehearsal reads, too, for this device list. Errors: memory ran out.
 fn inputs_of(origin: Origin, list: String, what: &CheckAsk) -> Result<Inputs, AllocError>
     ensures { (order : ByteOrder) → IfOk result (λ inputs. inputs_shown inputs
@@ -291,8 +281,8 @@ fn inputs_of(origin: Origin, list: String, what: &CheckAsk) -> Result<Inputs, Al
             steady: false,
             alternative: None,
         },
-        script: copied(&what.script)?,
-        files: copied(&what.files)?,
+        script: copied_path(&what.script)?,
+        files: copied_path(&what.files)?,
     })
 }
 
