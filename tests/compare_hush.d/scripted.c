@@ -33,6 +33,7 @@
 #include <env_internal.h>
 #include <fs.h>
 #include <malloc.h>
+#include <mapmem.h>
 #include <membuff.h>
 #include <os.h>
 #include <search.h>
@@ -66,8 +67,8 @@ struct device_line {
 	/* how a success ends the run, and a space; NULL if it does not */
 	const char *ends;
 	bool steady, call;
-	/* the file whose text runs after a success; NULL if there is none */
-	const char *runs;
+	/* the file whose text runs after a success, and the one whose variables it sets; NULL if there is none */
+	const char *runs, *imports;
 	char always, *needs, *needs_word, *name, *sub, *pattern[MOST_WORDS + 1], *settings[MOST_WORDS + 1];
 };
 
@@ -399,6 +400,48 @@ static int run_file(const char *file)
 	return status;
 }
 
+/* `env`, `itest` and `setexpr`, what they do in U-Boot, and whether the list has them computed. */
+static struct {
+	struct cmd_tbl *command;
+	int (*own)(struct cmd_tbl *cmdtp, int flag, int argc, char *const argv[]);
+	bool known;
+} computed[3];
+
+/* Where a text lies that is imported. */
+#define IMPORT_ADDRESS 0x1000
+
+/*
+ * Imports the text of a file by U-Boot's `env import`: with the flags and the names of the call, if it is one of `env import`, and
+ * with the address and the size of the text in place of its own.
+ */
+static void import_file(const char *file, int argc, char *const argv[])
+{
+	char name[LARGEST_NAME], address[20], length[20], *words[MOST_ARGUMENTS + 4] = { "env", "import" }, *content;
+	int size, i = 1, count = 2, past, env = 0;
+
+	snprintf(name, sizeof(name), "%d.files/%s", image_number, file);
+	content = text_of(name, &size);
+	if (!content)
+		fail(name);
+	memcpy(map_sysmem(IMPORT_ADDRESS, size), content, size);
+	free(content);
+	if (argc > 1 && !strcmp(argv[1], "import"))
+		while (++i < argc && *argv[i] == '-')
+			words[count++] = argv[i];
+	if (count == 2)
+		words[count++] = "-t";
+	snprintf(address, sizeof(address), "%x", IMPORT_ADDRESS);
+	snprintf(length, sizeof(length), "%x", size);
+	words[count++] = address;
+	words[count++] = length;
+	for (past = i + 2; i > 1 && past < argc; past++)
+		words[count++] = argv[past];
+	while (strcmp(computed[env].command->name, "env"))
+		env++;
+	if (computed[env].own(computed[env].command, 0, count, words))
+		fail("a text is not imported");
+}
+
 /* A command of the device list. */
 static int do_listed(struct cmd_tbl *cmdtp, int flag, int argc, char *const argv[])
 {
@@ -412,6 +455,8 @@ static int do_listed(struct cmd_tbl *cmdtp, int flag, int argc, char *const argv
 		if (met < 0 ? ask(argc, argv, false, 0, '1') : ask(argc, argv, line->steady, met, line->always))
 			return 1;
 		set_by_line(line, argc, argv);
+		if (line->imports)
+			import_file(line->imports, argc, argv);
 		if (line->ends)
 			end_run(line->ends, argv[0]);
 		return line->runs ? run_file(line->runs) : 0;
@@ -453,13 +498,6 @@ static bool is_computed(int argc, char *const argv[])
 		return false;
 	return argc < 5 || (*argv[4] != '*' && (hextoul(argv[4], NULL) || !strchr("/%", *argv[3])));
 }
-
-/* The three of these, what they do in U-Boot, and whether the list has them computed. */
-static struct {
-	struct cmd_tbl *command;
-	int (*own)(struct cmd_tbl *cmdtp, int flag, int argc, char *const argv[]);
-	bool known;
-} computed[3];
 
 static int do_computed(struct cmd_tbl *cmdtp, int flag, int argc, char *const argv[])
 {
@@ -547,7 +585,7 @@ static const char *ending_of(const char *word)
 static bool begins_clause(const char *word)
 {
 	return ending_of(word) || !strcmp(word, "steady") || !strcmp(word, "always") || !strcmp(word, "runs") ||
-	       !strcmp(word, "normal") || strchr(word, '=');
+	       !strcmp(word, "imports") || !strcmp(word, "normal") || strchr(word, '=');
 }
 
 /* Reads the words of a `call` line: its name and pattern, `:`, and what it says of these calls. */
@@ -568,6 +606,8 @@ static void read_call(struct device_line *line, char **at)
 			line->always = **++at;
 		else if (!strcmp(*at, "runs"))
 			line->runs = *++at;
+		else if (!strcmp(*at, "imports"))
+			line->imports = *++at;
 		else if (!strcmp(*at, "normal"))
 			++at;
 		else if (!strcmp(*at, "needs")) {
