@@ -111,3 +111,12 @@ without a list
   !
   ! For more information, try '--help'.
   [2]
+
+a variable that an imported file sets is set, and one that it deletes is not
+  $ printf 'a=1\nb\n' >card/uEnv.txt
+  $ printf '%s\n' 'call fetch : imports uEnv.txt' 'call load : filesize=@size(uEnv.txt)' >list
+  $ checked 'bootcmd=fetch; load; echo $a $b $filesize'
+  bootcmd: ok
+  bootcmd:1:22: warning: nothing sets b
+  fetch; load; echo $a $b $filesize
+                       ^
