@@ -55,7 +55,7 @@ of open questions
 
 of a script
   $ sed -n '/^## A script in a file/,/^#### Debian/p' "$page" | calls
-  2
+  3
   $ cmp found shown
 
 of a menu
