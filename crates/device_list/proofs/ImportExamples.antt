@@ -1,5 +1,5 @@
 -- Worked examples of texts that are imported, computed. Each reading is that of U-Boot's sandbox.
-use Rattle.std.proofs.Common.{◌≡◌, Bool, true, false, List, [], ◌∷◌, length, map, Option, Some, None, Ok, Err, refl}
+use Rattle.std.proofs.Common.{◌≡◌, Bool, true, false, List, [], ◌∷◌, ◌++◌, length, map, Option, Some, None, Ok, Err, refl}
 use Rattle.std.specs.Prelude.{codes}
 use Rattle.std.specs.Fmt.{digits}
 use Rattle.text.specs.Lines.{Text}
@@ -7,10 +7,11 @@ use Rattle.device_list.specs.Called.{sets_in}
 use Rattle.device_list.specs.CallLines.{FileText, Files}
 use Rattle.device_list.specs.DeviceList.{Devices, Effect, Setting, Imported, Variable, Literal, Deleted, listed, listed_with, with_files}
 use Rattle.device_list.specs.DeviceLaws.{quiet}
-use Rattle.device_list.specs.Imports.{Entry, entries_in, imported, moved_entries, takes, without_returns}
+use Rattle.device_list.specs.Imports.{Entry, entries_in, imported, moved_entries, takes, unsized_room, without_returns}
 use Rattle.device_list.specs.NamedFiles.{named_files}
 use Rattle.device_list.specs.declared.devices_error.DevicesError.TheVariants.{BadLine}
-use Rattle.device_list.specs.declared.setting.Reading.TheVariants.{Both, WithReturns, WithoutReturns}
+use Rattle.device_list.specs.declared.setting.Reading.{Reading}
+use Rattle.device_list.specs.declared.setting.Reading.TheVariants.{Both, WithReturns, WithoutReturns, Unsized}
 
 -- ---- the entries of a text
 
@@ -56,7 +57,11 @@ faults = refl
 -- ---- with `-r`
 
 abbrev moved : Text → Option (List Entry)
-moved text = moved_entries (without_returns text) text
+moved text = moved_entries (length (without_returns text)) (without_returns text) text
+
+-- of a call that names no size
+abbrev moved_unsized : Text → Option (List Entry)
+moved_unsized text = moved_entries (unsized_room (without_returns text) text) (without_returns text) text
 
 -- carriage returns in front of newlines are left out, and others are bytes as any
 returns : map without_returns (codes "a\r\nb\r\n" ∷ codes "\r\r\n" ∷ codes "a\rb\r" ∷ []) ≡ codes "a\nb\n" ∷ codes "\r\n" ∷ codes "a\rb\r" ∷ []
@@ -72,15 +77,26 @@ last_bytes : map moved (codes "a=1\r\nb=23" ∷ codes "a=1\r\nb=2\r\nc" ∷ code
     ∷ Some (gone (codes "b") ∷ is (codes "c") (codes "1") ∷ []) ∷ Some (gone (codes "c") ∷ gone (codes "\r") ∷ []) ∷ []
 last_bytes = refl
 
+-- Without a size one more entry begins in the last bytes, and each of them if no newline ends the text.
+unsized : map moved_unsized (codes "a=1\r\nb=2\r\n" ∷ codes "a=1\r\nb=2\n" ∷ codes "a=1\r\nb=23" ∷ codes "a\r\nb\r\nc\r\nd=1\r\ne" ∷ [])
+    ≡ Some (is (codes "a") (codes "1") ∷ is (codes "b") (codes "2") ∷ gone (codes "\r") ∷ []) ∷ Some (is (codes "a") (codes "1") ∷ is (codes "b") (codes "2") ∷ [])
+    ∷ Some (is (codes "a") (codes "1") ∷ is (codes "b") (codes "233") ∷ [])
+    ∷ Some (gone (codes "a") ∷ gone (codes "b") ∷ gone (codes "c") ∷ is (codes "d") (codes "1") ∷ gone (codes "e1\r") ∷ gone (codes "e") ∷ []) ∷ []
+unsized = refl
+
+sized : moved (codes "a\r\nb\r\nc\r\nd=1\r\ne") ≡ Some (gone (codes "a") ∷ gone (codes "b") ∷ gone (codes "c") ∷ is (codes "d") (codes "1") ∷ gone (codes "e1\r") ∷ [])
+sized = refl
+
 -- ---- the settings
 
 first_of_a_name : imported (codes "a=1\nb\na=2") ≡ Some ((Imported (codes "a") Both true, Literal (codes "1")) ∷ (Imported (codes "b") Both true, Deleted) ∷ (Imported (codes "a") Both false, Literal (codes "2")) ∷ [])
 first_of_a_name = refl
 
-two_readings : imported (codes "a=1\r\na=2\n")
+three_readings : imported (codes "a=1\r\na=2\n")
     ≡ Some ((Imported (codes "a") WithReturns true, Literal (codes "1\r")) ∷ (Imported (codes "a") WithReturns false, Literal (codes "2"))
-    ∷ (Imported (codes "a") WithoutReturns true, Literal (codes "1")) ∷ (Imported (codes "a") WithoutReturns false, Literal (codes "2")) ∷ [])
-two_readings = refl
+    ∷ (Imported (codes "a") WithoutReturns true, Literal (codes "1")) ∷ (Imported (codes "a") WithoutReturns false, Literal (codes "2"))
+    ∷ (Imported (codes "a") Unsized true, Literal (codes "1")) ∷ (Imported (codes "a") Unsized false, Literal (codes "2")) ∷ [])
+three_readings = refl
 
 -- a fault of one reading is enough
 no_settings : map imported (codes "=1" ∷ codes "a\r\n=" ∷ []) ≡ None ∷ None ∷ []
@@ -92,29 +108,34 @@ abbrev import : List Text → List Text
 import words = codes "import" ∷ words
 
 abbrev taken : List Text → List Bool
-taken words = takes words (codes "a") Both true ∷ takes words (codes "a") Both false ∷ takes words (codes "a") WithReturns true ∷ takes words (codes "a") WithoutReturns true ∷ []
+taken words = map (λ (way : Reading). takes words (codes "a") way true) (Both ∷ WithReturns ∷ WithoutReturns ∷ Unsized ∷ []) ++ takes words (codes "a") Both false ∷ []
 
 all_names : map taken (import (codes "-t" ∷ codes "40" ∷ codes "9" ∷ []) ∷ import (codes "40" ∷ []) ∷ import (codes "-t" ∷ codes "40" ∷ []) ∷ [])
-    ≡ (true ∷ true ∷ true ∷ false ∷ []) ∷ (true ∷ true ∷ true ∷ false ∷ []) ∷ (true ∷ true ∷ true ∷ false ∷ []) ∷ []
+    ≡ (true ∷ true ∷ false ∷ false ∷ true ∷ []) ∷ (true ∷ true ∷ false ∷ false ∷ true ∷ []) ∷ (true ∷ true ∷ false ∷ false ∷ true ∷ []) ∷ []
 all_names = refl
 
-option_r : map taken (import (codes "-r" ∷ codes "40" ∷ []) ∷ import (codes "-tr" ∷ codes "40" ∷ []) ∷ import (codes "-t" ∷ codes "-r" ∷ codes "40" ∷ []) ∷ import (codes "-t" ∷ codes "40" ∷ codes "-r" ∷ []) ∷ [])
-    ≡ (true ∷ true ∷ false ∷ true ∷ []) ∷ (true ∷ true ∷ false ∷ true ∷ []) ∷ (true ∷ true ∷ false ∷ true ∷ []) ∷ (true ∷ true ∷ true ∷ false ∷ []) ∷ []
+-- a call that names the size, by a word that is no `-`, takes other entries than one that does not
+option_r : map taken (import (codes "-r" ∷ codes "40" ∷ codes "9" ∷ []) ∷ import (codes "-tr" ∷ codes "40" ∷ codes "9" ∷ []) ∷ import (codes "-t" ∷ codes "-r" ∷ codes "40" ∷ codes "9" ∷ []) ∷ import (codes "-t" ∷ codes "40" ∷ codes "-r" ∷ []) ∷ [])
+    ≡ (true ∷ false ∷ true ∷ false ∷ true ∷ []) ∷ (true ∷ false ∷ true ∷ false ∷ true ∷ []) ∷ (true ∷ false ∷ true ∷ false ∷ true ∷ []) ∷ (true ∷ true ∷ false ∷ false ∷ true ∷ []) ∷ []
 option_r = refl
+
+no_size : map taken (import (codes "-r" ∷ codes "40" ∷ []) ∷ import (codes "-tr" ∷ codes "40" ∷ codes "-" ∷ []) ∷ import (codes "-tr" ∷ codes "40" ∷ codes "-" ∷ codes "a" ∷ []) ∷ import (codes "-r" ∷ []) ∷ [])
+    ≡ (true ∷ false ∷ false ∷ true ∷ true ∷ []) ∷ (true ∷ false ∷ false ∷ true ∷ true ∷ []) ∷ (true ∷ false ∷ false ∷ true ∷ false ∷ []) ∷ (true ∷ false ∷ false ∷ true ∷ true ∷ []) ∷ []
+no_size = refl
 
 -- of a name that is asked for the first entry, and no other name
 asked_names : map taken (import (codes "-t" ∷ codes "40" ∷ codes "9" ∷ codes "b" ∷ codes "a" ∷ []) ∷ import (codes "-t" ∷ codes "40" ∷ codes "-" ∷ codes "a" ∷ []) ∷ import (codes "-t" ∷ codes "40" ∷ codes "9" ∷ codes "b" ∷ []) ∷ import (codes "40" ∷ codes "a" ∷ []) ∷ [])
-    ≡ (true ∷ false ∷ true ∷ false ∷ []) ∷ (true ∷ false ∷ true ∷ false ∷ []) ∷ (false ∷ false ∷ false ∷ false ∷ []) ∷ (true ∷ true ∷ true ∷ false ∷ []) ∷ []
+    ≡ (true ∷ true ∷ false ∷ false ∷ false ∷ []) ∷ (true ∷ true ∷ false ∷ false ∷ false ∷ []) ∷ (false ∷ false ∷ false ∷ false ∷ false ∷ []) ∷ (true ∷ true ∷ false ∷ false ∷ true ∷ []) ∷ []
 asked_names = refl
 
 -- other formats, and a text that replaces all
 no_text : map taken (import (codes "-b" ∷ codes "40" ∷ []) ∷ import (codes "-c" ∷ codes "40" ∷ codes "9" ∷ []) ∷ import (codes "-t" ∷ codes "-d" ∷ codes "40" ∷ []) ∷ [])
-    ≡ (false ∷ false ∷ false ∷ false ∷ []) ∷ (false ∷ false ∷ false ∷ false ∷ []) ∷ (false ∷ false ∷ false ∷ false ∷ []) ∷ []
+    ≡ (false ∷ false ∷ false ∷ false ∷ false ∷ []) ∷ (false ∷ false ∷ false ∷ false ∷ false ∷ []) ∷ (false ∷ false ∷ false ∷ false ∷ false ∷ []) ∷ []
 no_text = refl
 
 -- a call that is no `import`
 other_calls : map taken ([] ∷ (codes "load" ∷ codes "-r" ∷ []) ∷ (codes "-r" ∷ codes "40" ∷ codes "9" ∷ codes "b" ∷ []) ∷ [])
-    ≡ (true ∷ true ∷ true ∷ false ∷ []) ∷ (true ∷ true ∷ true ∷ false ∷ []) ∷ (true ∷ true ∷ true ∷ false ∷ []) ∷ []
+    ≡ (true ∷ true ∷ false ∷ false ∷ true ∷ []) ∷ (true ∷ true ∷ false ∷ false ∷ true ∷ []) ∷ (true ∷ true ∷ false ∷ false ∷ true ∷ []) ∷ []
 other_calls = refl
 
 abbrev sets_of : Text → List Setting

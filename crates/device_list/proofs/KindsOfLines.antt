@@ -237,7 +237,7 @@ module _ (kinds : List Kind) where
         by true false e = ap (with_line devices) (unread e)
         by false false e = ap (with_line devices) (unread e)
 
-    -- what a line comes to that is not one of calls
+    -- the result of a line that is not one of calls
     abbrev read_other : (first : Text) → List Text → Result Devices DevicesError
     read_other first words = after_known devices (cond (has kinds Known) (known_named first words) None) (has kinds Steady && is_steady_test first words) (said first words)
 

@@ -5,6 +5,7 @@ mod CalledExamples
 mod CallExamples
 mod FileExamples
 mod ImportExamples
+mod FilledExamples
 pub mod MarkLemmas
 pub mod ImportLemmas
 pub mod LineLemmas
@@ -19,3 +20,4 @@ pub mod SteadyLemmas
 pub mod WordLemmas
 pub mod QuoteLemmas
 pub mod FileLemmas
+pub mod FilledLemmas

@@ -1,5 +1,5 @@
 -- The lines of a device list that are about the calls which fit a pattern. Ours.
-use Rattle.std.specs.Prelude.{ℕ, ◌+◌, ◌-◌, ◌==◌, nat_eq, nat_le, ◌&&◌, ◌||◌, not, Bool, true, false, List, [], ◌∷◌, ◌++◌, length, take, drop, Option, Some, None, is_some, option_map, Result, Ok, Err, codes, slice_get, if◌then◌else◌}
+use Rattle.std.specs.Prelude.{ℕ, ◌+◌, ◌-◌, ◌==◌, nat_eq, nat_le, nat_lt, ◌&&◌, ◌||◌, not, Bool, true, false, List, [], ◌∷◌, ◌++◌, length, map, take, drop, slice_range, Option, Some, None, is_some, unwrap_or, option_map, Result, Ok, Err, codes, slice_get, if◌then◌else◌}
 use Rattle.std.specs.Str.{bytes_eq}
 use Rattle.std.specs.List.{list_any, starts_with}
 use Rattle.std.specs.Map.{lookup}
@@ -82,6 +82,36 @@ pattern_of words =
 
 abbrev pub is_colon : (word : Text) → Bool
 is_colon word = bytes_eq word (codes ":")
+
+-- ---- words of a pattern that name a variable
+
+-- the name in `${NAME}`
+abbrev pub name_in : Text → Option Text
+name_in text =
+    if nat_lt 2 (length text) && (starts_with nat_eq text (codes "${") && bytes_eq (drop (length text - 1) text) (codes "}"))
+    then Some (slice_range text 2 (length text - 1)) else None
+
+abbrev pub unless_empty : Option Text → Option Text
+unless_empty None = None
+unless_empty (Some value) = if length value == 0 then None else Some value
+
+-- the value of the variable that a word names, if it names one that has a value
+abbrev pub value_for : (values : Text → Option Text) → Text → Option Text
+value_for values text = elim (name_in text) [ None ↦ None | Some name ↦ unless_empty (values name) ]
+
+-- that value in the place of the word
+abbrev pub filled_text : (values : Text → Option Text) → Text → Text
+filled_text values text = unwrap_or (value_for values text) text
+
+abbrev pub filled_word : (values : Text → Option Text) → PatternWord → PatternWord
+filled_word values (Exactly text) = Exactly (filled_text values text)
+filled_word values (Starting text) = Starting (filled_text values text)
+
+abbrev pub filled_pattern : (values : Text → Option Text) → Pattern → Pattern
+filled_pattern values pattern = record pattern { words = map (filled_word values) pattern.words }
+
+abbrev pub filled_line : (values : Text → Option Text) → Pattern × Effect → Pattern × Effect
+filled_line values line = (filled_pattern values line.0, line.1)
 
 -- ---- the clauses of a line
 

@@ -11,7 +11,7 @@ use Rattle.builtins.specs.Builtins.{is_built_in}
 use Rattle.commands.specs.KnownCommands.{known_of}
 use Rattle.commands.specs.Computed.{Computed, computes}
 pub use Rattle.device_list.specs.Settings.{LeftSide, Variable, WordAt, LastWord, Imported, RightSide, Literal, ValueAt, LastValue, Deleted, Setting, Effect, is_variable, is_decimal, word_of_call, left_side, setting, settings}
-pub use Rattle.device_list.specs.CallLines.{Pattern, Call, FileText, Files, first_fitting, call_said, is_call}
+pub use Rattle.device_list.specs.CallLines.{Pattern, Call, FileText, Files, first_fitting, filled_line, call_said, is_call}
 use Rattle.device_list.specs.Finishes.{finish_named, first_finish}
 use Rattle.device_list.specs.declared.finish.BoardEnd.{BoardEnd}
 use Rattle.device_list.specs.declared.devices_error.DevicesError.{DevicesError}
@@ -67,7 +67,7 @@ fails_normally devices [] = false
 fails_normally devices (name ∷ words) =
     elim (call_effect devices name words) [ Some effect ↦ effect.normal | None ↦ false ]
 
--- what a call comes to, if the list has its command computed and its words can be
+-- the result of a call, if the list has its command computed and its words can be
 abbrev pub computed_by : Devices → (name : Text) → (words : List Text) → Option Computed
 computed_by devices name words =
     if list_any (bytes_eq name) devices.known
@@ -309,3 +309,12 @@ all_steady devices = record devices {
 
 abbrev pub steady_if : Bool → Devices → Devices
 steady_if steady devices = if steady then all_steady devices else devices
+
+-- ---- a list whose patterns name variables
+
+abbrev pub filled_calls : (values : Text → Option Text) → List (Text × List (Pattern × Effect)) → List (Text × List (Pattern × Effect))
+filled_calls values = map (λ c. (c.0, map (filled_line values) c.1))
+
+-- the same list, with values in the places of the words that name variables
+abbrev pub filled : (values : Text → Option Text) → Devices → Devices
+filled values devices = record devices { calls = filled_calls values devices.calls }

@@ -1,6 +1,6 @@
 -- What `env import -t` sets from a text (U-Boot, cmd/nvedit.c, `do_env_import`, and lib/hashtable.c, `himport_r`). That an entry
 -- is made a setting is ours.
-use Rattle.std.specs.Prelude.{ℕ, zero, suc, ◌==◌, nat_eq, ◌&&◌, ◌||◌, not, Bool, true, false, List, [], ◌∷◌, ◌++◌, length, drop, Option, Some, None, option_map, codes, if◌then◌else◌}
+use Rattle.std.specs.Prelude.{ℕ, ◌+◌, ◌-◌, zero, suc, ◌==◌, nat_eq, ◌&&◌, ◌||◌, not, Bool, true, false, List, [], ◌∷◌, ◌++◌, length, drop, Option, Some, None, option_map, codes, if◌then◌else◌}
 use Rattle.std.specs.Str.{bytes_eq}
 use Rattle.std.specs.List.{list_any}
 use Rattle.text.specs.Bytes as ascii
@@ -10,7 +10,7 @@ use Rattle.device_list.specs.Settings.{Imported, RightSide, Literal, Deleted, Se
 use Rattle.device_list.specs.declared.imports.Part.{Part}
 use Rattle.device_list.specs.declared.imports.Part.TheVariants.{Start, Blanks, Comment, Name, Value, Escape}
 use Rattle.device_list.specs.declared.setting.Reading.{Reading}
-use Rattle.device_list.specs.declared.setting.Reading.TheVariants.{Both, WithReturns, WithoutReturns}
+use Rattle.device_list.specs.declared.setting.Reading.TheVariants.{Both, WithReturns, WithoutReturns, Unsized}
 
 -- ---- the entries of a text
 
@@ -127,9 +127,16 @@ without_returns (b ∷ c ∷ bytes) =
     if is_return_newline b c then without_returns (c ∷ bytes) else b ∷ without_returns (c ∷ bytes)
 
 -- U-Boot moves the bytes to the front and leaves the last ones where they are, so an entry that ends in no newline goes on in
--- them
-abbrev pub moved_entries : (kept : Text) → Text → Option (List Entry)
-moved_entries kept text = entries_in (length kept) (kept ++ drop (length kept) text)
+-- them. Entries begin there only if the call names no size, and U-Boot looks for a NUL.
+abbrev pub moved_entries : (room : ℕ) → (kept : Text) → Text → Option (List Entry)
+moved_entries room kept text = entries_in room (kept ++ drop (length kept) text)
+
+-- Without a size U-Boot takes the bytes up to a newline and a NUL, of which none is behind the text.
+abbrev pub ends_line : Text → Bool
+ends_line text = bytes_eq (drop (length text - 1) text) (codes "\n")
+
+abbrev pub unsized_room : (kept text : Text) → ℕ
+unsized_room kept text = if ends_line text then length kept + 1 else length text
 
 -- ---- the settings
 
@@ -147,16 +154,20 @@ settings_from reading seen [] = []
 settings_from reading seen (e ∷ entries) =
     (Imported e.0 reading (not (list_any (bytes_eq e.0) seen)), side_of e.1) ∷ settings_from reading (with_seen seen e.0) entries
 
-abbrev pub both_read : Option (List Entry) → Option (List Entry) → Option (List Setting)
-both_read None without = None
-both_read (Some with) without = option_map (λ w. settings_from WithReturns [] with ++ settings_from WithoutReturns [] w) without
+abbrev pub joined_settings : Option (List Setting) → Option (List Setting) → Option (List Setting)
+joined_settings None more = None
+joined_settings (Some settings) more = option_map (λ m. settings ++ m) more
+
+abbrev pub read_as : Reading → Option (List Entry) → Option (List Setting)
+read_as reading = option_map (settings_from reading [])
 
 abbrev pub settings_with : (kept text : Text) → Option (List Setting)
 settings_with kept text =
-    if nat_eq (length kept) (length text) then option_map (settings_from Both []) (entries_in (length text) text)
-    else both_read (entries_in (length text) text) (moved_entries kept text)
+    if nat_eq (length kept) (length text) then read_as Both (entries_in (length text) text)
+    else joined_settings (read_as WithReturns (entries_in (length text) text))
+    (joined_settings (read_as WithoutReturns (moved_entries (length kept) kept text)) (read_as Unsized (moved_entries (unsized_room kept text) kept text)))
 
--- what the text sets by both readings, if none of them finds a fault in it
+-- what the text sets by each reading, if none of them finds a fault in it
 abbrev pub imported : Text → Option (List Setting)
 imported text = settings_with (without_returns text) text
 
@@ -203,10 +214,17 @@ abbrev pub reads_text : List Text → Bool
 reads_text words =
     not (has_letter letter_b words || (has_letter letter_c words || has_letter letter_d words))
 
-abbrev pub is_of : Reading → (option : Bool) → Bool
-is_of Both option = true
-is_of WithReturns option = not option
-is_of WithoutReturns option = option
+abbrev pub is_of : Reading → (option named : Bool) → Bool
+is_of Both option named = true
+is_of WithReturns option named = not option
+is_of WithoutReturns option named = option && named
+is_of Unsized option named = option && not named
+
+-- whether the word behind the address is a size, and not a `-` in its place
+abbrev pub names_size : (behind : List Text) → Bool
+names_size [] = false
+names_size (address ∷ []) = false
+names_size (address ∷ size ∷ names) = not (bytes_eq size (codes "-"))
 
 -- of the entries of a name that is asked for the first one alone is taken
 abbrev pub is_asked : List Text → (name : Text) → (first : Bool) → Bool
@@ -215,7 +233,7 @@ is_asked (n ∷ names) name first = first && list_any (bytes_eq name) (n ∷ nam
 
 abbrev pub takes_behind : (words : List Text) → (name : Text) → Reading → (first : Bool) → Bool
 takes_behind words name reading first =
-    reads_text words && (is_of reading (has_letter letter_r words) && is_asked (names_asked words) name first)
+    reads_text words && (is_of reading (has_letter letter_r words) (names_size (behind_flags words)) && is_asked (names_asked words) name first)
 
 -- whether a call with these words takes an entry
 abbrev pub takes : (words : List Text) → (name : Text) → Reading → (first : Bool) → Bool

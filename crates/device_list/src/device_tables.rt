@@ -1,23 +1,26 @@
 //! What the lines of a device list say, by the names of the commands.
 ghost use Rattle.std.specs.Prelude.{◌≡◌, [], map, OnOk, IfOk, Some, is_some, option_map, ◌||◌};
 ghost use Rattle.text.specs.TextsShown.{option_bytes};
-ghost use Rattle.device_list.specs.DeviceList.{file_in, with_files, changed_at, with_fitting, joined_in, joined_behind, joined_by, effect_at, sub_effect, call_effect, fails_normally, line_effect, effect_of, computed_by, with_known, is_listed, after_known, known_named, is_steady_test, line_of, heading_of};
+ghost use Rattle.device_list.specs.DeviceList.{file_in, filled, with_files, changed_at, with_fitting, joined_in, joined_behind, joined_by, effect_at, sub_effect, call_effect, fails_normally, line_effect, effect_of, computed_by, with_known, is_listed, after_known, known_named, is_steady_test, line_of, heading_of};
 ghost use Rattle.device_list.specs.CommandsShown.{commands_shown, subs_shown, calls_shown, files_shown, said_shown, listed_shown, found_shown};
 ghost use Rattle.std.specs.List.{list_any};
 ghost use Rattle.std.specs.Map.{lookup};
 ghost use Rattle.std.specs.Str.{bytes_eq};
 ghost use Rattle.commands.specs.TextsShown.{texts};
+ghost use Rattle.envtools.specs.Environment.{value_of};
 ghost use Rattle.device_list.specs.NamedPlaces.{at_place};
 
 use crate::call_line::{Call, CallLine, call_said, first_fitting, is_call};
 use crate::device_line::{begins_comment, device_words, heading_of, is_steady_test, known_named};
 use crate::devices_error::DevicesError;
 use crate::file_text::FileText;
+use crate::filled::fill_calls;
 use crate::finish::first_finish;
 use crate::listed::{Effect, Listed};
 use crate::setting::settings;
 use builtins::is_built_in;
 use commands::{Computed, computes, known_of};
+use envtools::Env;
 use indexmap::IndexMap;
 use keyed_hash::KeyedHash;
 use std::alloc::{AllocError, Global};
@@ -165,6 +168,13 @@ impl DeviceTables {
     ghost use Rattle.device_list.specs.DeviceListAnswers.{Adds, AddsLine, IsListedWith};
     ghost use Rattle.device_list.specs.NamedPlaces.{IsPlaced, ArePlaced, in_sub, placed_sub, placed_call, placed_line, placed_effect};
 
+    /// Puts the values of variables in the places of words of patterns that name one. Errors: memory ran out.
+    pub fn fill(&mut self, env: &Env) -> Result<(), AllocError>
+        ensures { OnOk result (self.new ≡ filled (value_of env.now) self.old) }
+    {
+        fill_calls(self.alloc, &mut self.calls, env)
+    }
+
     /// A list of no command, whose lines may name these files, and whose names will be found by this hash.
     /// Takes no memory.
     fn new(alloc: Global, files: FileTexts, hasher: KeyedHash) -> Self
@@ -261,7 +271,7 @@ impl DeviceTables {
         Some(listed.effect())
     }
 
-    /// What a call comes to, if the list has its command computed and its words can be. It takes no
+    /// The result of a call, if the list has its command computed and its words can be. It takes no
     /// memory.
     pub fn computed<'w>(&self, name: &[u8], words: &'w [Vec<u8>]) -> Option<Computed<'w>>
         ensures { call_shown result ≡ computed_by self.now name.now (texts words.now) }

@@ -1,23 +1,25 @@
 //! The device list: which commands are device commands, and what each does on success.
-ghost use Rattle.std.specs.Prelude.{◌≡◌, IfSome, option_map};
+ghost use Rattle.std.specs.Prelude.{◌≡◌, IfOk, IfSome, option_map};
 ghost use Rattle.std.specs.List.{list_any};
 ghost use Rattle.std.specs.Str.{bytes_eq};
 ghost use Rattle.text.specs.TextsShown.{option_bytes};
-ghost use Rattle.device_list.specs.DeviceList.{effect_of, file_in, fails_normally, computed_by, is_listed, all_steady};
+ghost use Rattle.device_list.specs.DeviceList.{effect_of, file_in, fails_normally, computed_by, is_listed, all_steady, filled};
 ghost use Rattle.device_list.specs.DeviceListAnswers.{IsListed, IsListedWith};
 ghost use Rattle.device_list.specs.CommandsShown.{files_shown, lent_effect};
 ghost use Rattle.commands.specs.ComputedShown.{call_shown};
 ghost use Rattle.device_list.specs.DeviceList as spec;
 ghost use Rattle.device_list.specs.NamedPlaces.{ArePlaced, IsPlaced};
 ghost use Rattle.commands.specs.TextsShown.{texts};
+ghost use Rattle.envtools.specs.Environment.{value_of};
 
 use crate::device_tables::{ByName, DeviceTables, FileTexts, Places};
 use crate::devices_error::DevicesError;
 use crate::listed::Effect;
 use commands::Computed;
+use envtools::Env;
 use indexmap::IndexMap;
 use keyed_hash::KeyedHash;
-use std::alloc::Global;
+use std::alloc::{AllocError, Global};
 use std::marker::Model;
 
 /// The device commands of a device list, each with what its calls do on success.
@@ -123,6 +125,25 @@ impl Devices {
         }
     }
 
+    /// The same list, but each word of a pattern that is `${NAME}`, also one that a `*` ends, is the value of NAME
+    /// in an environment, where that is not empty. Errors: memory ran out.
+    pub fn filled(self, env: &Env) -> Result<Self, AllocError>
+        ensures { IfOk result (λ devices. devices ≡ filled (value_of env.now) self) }
+    {
+        let Devices {
+            mut tables,
+            names: _,
+            all_steady,
+        } = self;
+        tables.fill(env)?;
+        let names = tables.names()?;
+        Ok(Devices {
+            tables,
+            names,
+            all_steady,
+        })
+    }
+
     /// Whether a line names a command. Takes no memory.
     pub fn has(&self, name: &[u8]) -> bool
         ensures { result ≡ is_listed self.now name.now }
@@ -175,7 +196,7 @@ impl Devices {
         self.names.get_index_of(name).unwrap_or(place)
     }
 
-    /// What a call comes to, if the list has its command computed and its words can be. It takes no
+    /// The result of a call, if the list has its command computed and its words can be. It takes no
     /// memory.
     pub fn computed<'w>(&self, name: &[u8], words: &'w [Vec<u8>]) -> Option<Computed<'w>>
         ensures { call_shown result ≡ computed_by self.now name.now (texts words.now) }

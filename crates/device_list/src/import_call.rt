@@ -80,14 +80,25 @@ fn reads_text(words: &[Vec<u8>]) -> bool
     !(has_letter(words, b'b') || has_letter(words, b'c') || has_letter(words, b'd'))
 }
 
-/// Whether an entry is one of the reading with or without `-r`.
-fn is_of(reading: Reading, option: bool) -> bool
-    ensures { result ≡ spec.is_of reading option }
+/// Whether an entry is one of the reading with or without `-r`, of a call that names a size or not.
+fn is_of(reading: Reading, option: bool, named: bool) -> bool
+    ensures { result ≡ spec.is_of reading option named }
 {
     match reading {
         Reading::Both => true,
         Reading::WithReturns => !option,
-        Reading::WithoutReturns => option,
+        Reading::WithoutReturns => option && named,
+        Reading::Unsized => option && !named,
+    }
+}
+
+/// Whether the word behind the address is a size, and not a `-` in its place.
+fn names_size(behind: &[Vec<u8>]) -> bool
+    ensures { result ≡ spec.names_size (texts behind.now) }
+{
+    match behind {
+        [_, size, ..] => size.as_slice() != b"-".as_slice(),
+        _ => false,
     }
 }
 
@@ -108,6 +119,10 @@ pub fn takes(words: &[Vec<u8>], name: &[u8], reading: Reading, first: bool) -> b
 {
     let words = behind_import(words);
     reads_text(words)
-        && is_of(reading, has_letter(words, b'r'))
+        && is_of(
+            reading,
+            has_letter(words, b'r'),
+            names_size(behind_flags(words)),
+        )
         && is_asked(names_asked(words), name, first)
 }

@@ -1,11 +1,10 @@
 //! What `env import -t` sets from a text.
-ghost use Rattle.std.specs.Prelude.{◌≡◌, ◌≤◌, ◌++◌, [], length, option_map, vec_len, IfOk, OnOk};
+ghost use Rattle.std.specs.Prelude.{◌≡◌, ◌<◌, ◌≤◌, ◌++◌, [], length, option_map, vec_len, IfOk, OnOk};
 ghost use Rattle.text.specs.TextsShown.{option_items};
 ghost use Rattle.device_list.specs.DevicesShown.{right_shown, setting_shown, settings_shown};
 ghost use Rattle.device_list.specs.Settings.{Imported};
-ghost use Rattle.device_list.specs.Imports.{both_read, entries_in, imported, is_newline, is_return_newline, is_start, moved_entries, settings_from, settings_with, side_of, without_returns};
-ghost use Rattle.device_list.specs.declared.setting.Reading.TheVariants.{WithReturns, WithoutReturns};
-ghost use Rattle.device_list.specs.ImportsShown.{all_entries};
+ghost use Rattle.device_list.specs.Imports.{entries_in, imported, is_newline, is_return_newline, is_start, moved_entries, settings_from, read_as, side_of, unsized_room, without_returns};
+ghost use Rattle.device_list.specs.ImportsShown.{all_entries, IsRead};
 
 use crate::setting::{LeftSide, Reading, RightSide, Setting};
 use indexmap::IndexSet;
@@ -53,7 +52,7 @@ struct Entries {
 
 impl Model for Entries {
     ghost use Rattle.device_list.specs.Imports as spec;
-    ghost use Rattle.device_list.specs.ImportsShown.{all_entries};
+    ghost use Rattle.device_list.specs.ImportsShown.{all_entries, IsRead};
 
     ghost Value = { spec.Entries };
 
@@ -282,59 +281,75 @@ fn add_settings(
     Ok(())
 }
 
-/// The settings of both readings of a text, which differ. Errors: memory ran out.
-fn both_settings(
-    alloc: Global,
-    with: &[Entry],
-    without: &[Entry],
-    hasher: KeyedHash,
-) -> Result<Vec<Setting>, AllocError>
-    ensures { IfOk result (λ settings. settings_shown settings
-        ≡ settings_from WithReturns [] (all_entries with.now) ++ settings_from WithoutReturns [] (all_entries without.now)) }
-{
-    let mut settings = Vec::new(alloc);
-    add_settings(alloc, &mut settings, Reading::WithReturns, with, hasher)?;
-    add_settings(
-        alloc,
-        &mut settings,
-        Reading::WithoutReturns,
-        without,
-        hasher,
-    )?;
-    Ok(settings)
-}
-
-/// The entries with `-r` of a text that has these bytes without its carriage returns. Errors: memory ran out.
+/// The entries with `-r` of a text that has these bytes without its carriage returns, of which none begins behind
+/// `room` bytes. Errors: memory ran out.
 fn moved_entries(
     alloc: Global,
-    mut kept: Vec<u8>,
+    room: usize,
+    kept: &[u8],
     text: &[u8],
 ) -> Result<Option<Vec<Entry>>, AllocError>
-    requires { vec_len kept ≤ length text.now }
+    requires { length kept.now ≤ length text.now }
     ensures { IfOk result (λ all. option_map (λ v. all_entries v.items) all
-        ≡ moved_entries kept.items text.now) }
+        ≡ moved_entries room kept.now text.now) }
 {
-    let room = kept.len();
-    kept.extend_from_slice(&text[room..])?;
-    entries_in(alloc, &kept, room)
+    let mut moved = Vec::from_slice(alloc, kept)?;
+    moved.extend_from_slice(&text[kept.len()..])?;
+    entries_in(alloc, &moved, room)
 }
 
-/// What a text sets, by each of the two readings, if none of them finds a fault in it. Errors: memory ran out.
+/// How many bytes entries may begin in if a call names no size.
+fn unsized_room(kept: &[u8], text: &[u8]) -> usize
+    requires { length kept.now < length text.now }
+    ensures { result ≡ unsized_room kept.now text.now }
+{
+    match text.last() {
+        Some(b'\n') => kept.len() + 1,
+        _ => text.len(),
+    }
+}
+
+/// Adds the settings of one reading of a text, if it has no fault. Returns whether it has none. Errors: memory
+/// ran out.
+fn add_reading(
+    alloc: Global,
+    settings: &mut Vec<Setting>,
+    reading: Reading,
+    entries: Option<Vec<Entry>>,
+    hasher: KeyedHash,
+) -> Result<bool, AllocError>
+    ensures { IfOk result (λ sound. IsRead (read_as reading (option_map (λ v. all_entries v.items) entries))
+        (settings_shown settings.old) (settings_shown settings.new) sound) }
+{
+    let Some(entries) = entries else {
+        return Ok(false);
+    };
+    add_settings(alloc, settings, reading, &entries, hasher)?;
+    Ok(true)
+}
+
+/// What a text sets, by each of the readings, if none of them finds a fault in it. Errors: memory ran out.
 pub(crate) fn imported(alloc: Global, text: &[u8]) -> Result<Option<Vec<Setting>>, AllocError>
     ensures { IfOk result (λ settings. option_map settings_shown settings ≡ imported text.now) }
 {
     let kept = without_returns(alloc, text)?;
     let hasher = KeyedHash::of(text);
-    let Some(with) = entries_in(alloc, text, text.len())? else {
-        return Ok(None);
-    };
+    let mut settings = Vec::new(alloc);
+    let whole = entries_in(alloc, text, text.len())?;
     if kept.len() == text.len() {
-        let mut settings = Vec::new(alloc);
-        add_settings(alloc, &mut settings, Reading::Both, &with, hasher)?;
+        if add_reading(alloc, &mut settings, Reading::Both, whole, hasher)? {
+            return Ok(Some(settings));
+        }
+        return Ok(None);
+    }
+    let sized = moved_entries(alloc, kept.len(), &kept, text)?;
+    let room = unsized_room(&kept, text);
+    let other = moved_entries(alloc, room, &kept, text)?;
+    if add_reading(alloc, &mut settings, Reading::WithReturns, whole, hasher)?
+        && add_reading(alloc, &mut settings, Reading::WithoutReturns, sized, hasher)?
+        && add_reading(alloc, &mut settings, Reading::Unsized, other, hasher)?
+    {
         return Ok(Some(settings));
     }
-    let Some(without) = moved_entries(alloc, kept, text)? else {
-        return Ok(None);
-    };
-    Ok(Some(both_settings(alloc, &with, &without, hasher)?))
+    Ok(None)
 }

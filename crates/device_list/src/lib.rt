@@ -10,6 +10,7 @@ mod devices;
 mod devices_error;
 mod file_names;
 mod file_text;
+mod filled;
 mod finish;
 mod import_call;
 mod imports;

@@ -1,9 +1,12 @@
 //! The patterns that a list's lines of calls begin with.
-ghost use Rattle.std.specs.Prelude.{◌≡◌, map, option_map, IfOk};
-ghost use Rattle.device_list.specs.CallLines.{fits_word, fits, is_rest, pattern_word, pattern_words, ends_in_rest, fixed_words, pattern_of};
+ghost use Rattle.std.specs.Prelude.{◌≡◌, map, option_map, IfOk, OnOk};
+ghost use Rattle.device_list.specs.CallLines.{filled_pattern, fits_word, fits, is_rest, pattern_word, pattern_words, ends_in_rest, fixed_words, pattern_of};
 ghost use Rattle.device_list.specs.DevicesShown.{word_shown, pattern_shown};
 ghost use Rattle.commands.specs.TextsShown.{texts};
+ghost use Rattle.envtools.specs.Environment.{value_of};
 
+use crate::filled::fill_words;
+use envtools::Env;
 use std::alloc::{AllocError, Global};
 
 /// A word of a pattern.
@@ -34,6 +37,13 @@ fn fits_word(pattern: &PatternWord, word: &[u8]) -> bool
 }
 
 impl Pattern {
+    /// Puts the values in the places of words that name a variable. Errors: memory ran out.
+    pub(crate) fn fill(&mut self, alloc: Global, env: &Env) -> Result<(), AllocError>
+        ensures { OnOk result (pattern_shown self.new ≡ filled_pattern (value_of env.now) (pattern_shown self.old)) }
+    {
+        fill_words(alloc, &mut self.words, env)
+    }
+
     /// Whether a call with these words fits. Takes no memory.
     pub(crate) fn fits(&self, words: &[Vec<u8>]) -> bool
         ensures { result ≡ fits (pattern_shown self.now) (texts words.now) }

@@ -21,8 +21,10 @@ pub enum Reading {
     Both,
     /// In that without `-r`.
     WithReturns,
-    /// In that with `-r`.
+    /// In that with `-r`, of a call that names the size of the text.
     WithoutReturns,
+    /// In that with `-r`, of a call that does not: bytes at the end of the text may be read again.
+    Unsized,
 }
 
 /// The left side of a setting.
