@@ -6,7 +6,8 @@ use Rattle.envimage.specs.declared.image.ImageError.{ImageError}
 use Rattle.board_start.specs.Boards.{Board, Fault, OfDevices, OfStart, board_of}
 use Rattle.board_start.specs.Start.{Begun, begun}
 use Rattle.board_start.specs.declared.start_error.StartError.{StartError}
-use Rattle.device_list.specs.DeviceList.{Devices, steady_if}
+use Rattle.device_list.specs.DeviceList.{Devices, filled, steady_if}
+use Rattle.envtools.specs.Environment.{value_of}
 use Rattle.rehearse_rules.specs.declared.rehearse_error.RehearseError.TheVariants.{DeviceList}
 use Rattle.rehearse_terms.specs.Asking.{Asking}
 use Rattle.rehearse_terms.specs.State.{Text}
@@ -32,10 +33,12 @@ pub data NoBeginning : Type 0 where
   OfBoard : Fault → NoBeginning
 
 abbrev pub begun_with : Devices → Result Begun StartError → Result Beginning NoBeginning
-begun_with devices (Ok begun) = Ok (record { environment = begun.environment; devices = devices; text = begun.text })
+begun_with devices (Ok begun) =
+    Ok (record { environment = begun.environment; devices = filled (value_of begun.environment) devices; text = begun.text })
 begun_with devices (Err fault) = Err (OfBoard (OfStart fault))
 
--- All of the list is steady if that is asked, and what the list gives is in the environment.
+-- All of the list is steady if that is asked, what the list gives is in the environment, and a variable of that environment may
+-- stand in a pattern of the list.
 abbrev pub with_board : Result Board Fault → Taking → List Pair → (variable : Text) → (text : Option Text) →
     Result Beginning NoBeginning
 with_board (Ok board) taking environment variable text =

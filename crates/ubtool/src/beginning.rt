@@ -50,8 +50,8 @@ fn taken(devices: Devices, steady: bool) -> Devices
     if steady { devices.steady() } else { devices }
 }
 
-/// What a rehearsal begins with on this board, in this environment. Errors: `Start` for another reason than
-/// `TooMany`, `Memory`.
+/// What a rehearsal begins with on this board, in this environment, whose variables may stand in a pattern of its
+/// list. Errors: `Start` for another reason than `TooMany`, `Memory`.
 fn begin_on(
     board: Board,
     env: Env,
@@ -66,11 +66,12 @@ fn begin_on(
     let begun = start.begin(taking.alternative, env, name, text);
     drop(start);
     match begun {
-        Ok(Begun { env, text }) => Ok(Beginning {
-            env,
-            devices: taken(devices, taking.steady),
-            text,
-        }),
+        Ok(Begun { env, text }) => {
+            let Ok(devices) = taken(devices, taking.steady).filled(&env) else {
+                return Err(RehearsalError::Memory);
+            };
+            Ok(Beginning { env, devices, text })
+        }
         Err(error) => {
             drop(devices);
             Err(error.into())
