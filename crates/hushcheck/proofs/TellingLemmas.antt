@@ -28,7 +28,7 @@ pub stops-after : (a b c : Sink) (xs ys : List ℕ) (error : CheckError) → Wro
 stops-after a b c xs ys Write w h = BrokeOff-after w h
 stops-after a b c xs ys Memory w h = record { front = xs ++ h.front; rest = h.rest; whole = ap (λ t. xs ++ t) h.whole ∙ sym (append_assoc xs h.front h.rest); wrote = Wrote-append w h.wrote }
 
--- what would have followed a text that did not come to its end
+-- what would have followed a text that did not end
 pub stops-before : (a b : Sink) (xs ys : List ℕ) (error : CheckError) → Stops error a b xs → Stops error a b (xs ++ ys)
 stops-before a b xs ys Write h = BrokeOff-before ys h
 stops-before a b xs ys Memory h = record { front = h.front; rest = h.rest ++ ys; whole = ap (λ t. t ++ ys) h.whole ∙ append_assoc h.front h.rest ys; wrote = h.wrote }

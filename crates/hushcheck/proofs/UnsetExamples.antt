@@ -9,6 +9,7 @@ use Rattle.hushlang.specs.Tree.{Word, Bytes, Var}
 use Rattle.hushlang.specs.Words.{reserved}
 use Rattle.hushlang.specs.WordPieces.{pieces}
 use Rattle.hushlang.specs.Parsing.{whole, script, command, simple, keyword, next, behind, sees, expect, joined, joined_all, and_or, lists, lists_all, block, arm, arms, arms_all, if_command, body_of, loop_command, for_command, name, name_next, expect_in, in_next, all_words, separators, separator_next, closes_next, op_next, refusal, missing, at_last, word_next, assignment_next, assignments}
+use Rattle.device_list.specs.CallLines.{Exactly}
 use Rattle.device_list.specs.DeviceList.{Devices, Effect, Setting, Variable, WordAt, LastWord, Literal}
 use Rattle.device_list.specs.Imports.{imported}
 use Rattle.hushcheck.specs.CallSets.{Sets, set_by_call}
@@ -85,6 +86,20 @@ by_held = refl
 by_none : set_by_call (Some list) (Some (codes "part")) (word (codes "uuid") ∷ []) ≡ known (codes "uuid" ∷ [])
 by_none = refl
 
+-- ---- a pattern with a variable: it fits the word that is this variable, and no word with further bytes
+
+abbrev patterns : Devices
+patterns = record list { calls = (codes "source", (record { words = Exactly (codes "${x}") ∷ []; more = false }, record (effect []) { runs = Some (codes "boot.scr") }) ∷ []) ∷ [] }
+
+runs_held : set_by_call (Some patterns) (Some (codes "source")) (held ∷ []) ≡ record { names = []; more = false; runs = Some (codes "boot.scr") }
+runs_held = refl
+
+runs_none : set_by_call (Some patterns) (Some (codes "source")) ((Bytes (codes "0") ∷ held) ∷ []) ≡ known []
+runs_none = refl
+
+runs_other : set_by_call (Some patterns) (Some (codes "source")) ((Var (codes "y") true ∷ []) ∷ []) ≡ known []
+runs_other = refl
+
 -- ---- a text that is imported
 
 abbrev importing : List Setting → Devices
@@ -102,7 +117,7 @@ imports_text = refl
 deletes_again : by_import (codes "get") (codes "a=1\na=\n") ≡ Some (known (codes "a" ∷ []))
 deletes_again = refl
 
-in_readings : by_import (codes "get") (codes "a=1\nb=\r\n") ≡ Some (known (codes "a" ∷ codes "b" ∷ codes "a" ∷ []))
+in_readings : by_import (codes "get") (codes "a=1\nb=\r\n") ≡ Some (known (codes "a" ∷ codes "b" ∷ codes "a" ∷ codes "a" ∷ []))
 in_readings = refl
 
 -- `env import` may set others

@@ -66,12 +66,16 @@ set_by_name s command words =
 
 -- ---- the settings of a device list
 
--- the bytes of a word that are written out
+-- a variable as it stands in a pattern: a list may write a pattern word so
+abbrev pub variable_part : (name : Text) → Text
+variable_part name = codes "${" ++ (name ++ codes "}")
+
+-- the bytes of a word that are written out, with each variable in it so
 abbrev pub part_of : Word → Text
 part_of [] = []
 part_of (Bytes bytes ∷ more) = bytes ++ part_of more
 part_of (Mark ∷ more) = part_of more
-part_of (Var name split ∷ more) = part_of more
+part_of (Var name split ∷ more) = variable_part name ++ part_of more
 part_of (Status ∷ more) = part_of more
 
 -- a word of the call, if it is there
@@ -102,7 +106,7 @@ set_by_effect s words None = s
 set_by_effect s words (Some effect) =
     record (fold (set_by_setting words) s effect.sets) { runs = effect.runs }
 
--- The list is asked for the call with what is written out of its words.
+-- The list is asked for the call with what is written out of its words, and with the variables in them as `${NAME}`.
 abbrev pub set_by_list : Sets → Option Devices → (command : Text) → List Word → Sets
 set_by_list s None command words = s
 set_by_list s (Some devices) command words =

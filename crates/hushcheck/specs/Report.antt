@@ -132,7 +132,7 @@ pub record ChecksNames (rules : Rules) (env : List Pair) (before : List Used) (a
 abbrev pub Checks : Rules → List Pair → (asked : List Text) → (told : Text) → (sound : Bool) → Type 0
 Checks rules env asked told sound = ChecksNames rules env [] asked [] (all_found env asked) told sound
 
--- What is told of a check that does not come to its end: the lines of the variables and files whose turn has come.
+-- What is told of a check that does not end: the lines of the variables and files whose turn has come.
 pub record BeginsTurns (rules : Rules) (env : List Pair) (asked called : List Text) (told : Text) : Type 0 where
   pub turns : List Turn
   pub are_turns : AreTurns rules env asked called turns
@@ -161,7 +161,7 @@ pub record ChecksScript (rules : Rules) (env : List Pair) (name text : Text) (as
   pub checks : ChecksNames rules env (used_by_text rules name text) (behind_script rules text asked)
       (files_by_text rules text) (all_found env asked && is_fine_text rules text) rest sound
 
--- what is told if that does not come to its end
+-- what is told if that does not end
 pub record BeginsScript (rules : Rules) (env : List Pair) (name text : Text) (asked : List Text) (told : Text) : Type 0 where
   pub rest : Text
   pub told_is : told ≡ lines_of_text rules name text ++ rest

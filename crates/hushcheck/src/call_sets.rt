@@ -1,5 +1,5 @@
 //! What a call sets, and which file's text runs after it, as far as its words say it.
-ghost use Rattle.std.specs.Prelude.{◌≡◌, map, option_map, Some, IfOk, OnOk};
+ghost use Rattle.std.specs.Prelude.{◌≡◌, ◌++◌, map, option_map, Some, IfOk, OnOk};
 ghost use Rattle.std.specs.List.{fold};
 ghost use Rattle.std.specs.Option.{option_copied};
 ghost use Rattle.device_list.specs.DevicesShown.{left_shown, right_shown, setting_shown};
@@ -28,7 +28,16 @@ fn written_words(alloc: Global, words: &[Word]) -> Result<Vec<Option<Vec<u8>>>, 
     Ok(all)
 }
 
-/// The bytes of a word that are written out. Errors: memory ran out.
+/// Adds a variable as a pattern of a device list may write it: its name in `${` and `}`. Errors: memory ran out.
+fn push_variable(part: &mut Vec<u8>, name: &[u8]) -> Result<(), AllocError>
+    ensures { OnOk result (part.new.items ≡ part.old.items ++ spec.variable_part name.now) }
+{
+    part.extend_from_slice(b"${")?;
+    part.extend_from_slice(name)?;
+    part.extend_from_slice(b"}")
+}
+
+/// The bytes of a word that are written out, with each variable in it as `${NAME}`. Errors: memory ran out.
 fn part_of(alloc: Global, word: &Word) -> Result<Vec<u8>, AllocError>
     ensures { IfOk result (λ part. part.items ≡ spec.part_of (view.word word.now)) }
 {
@@ -36,7 +45,8 @@ fn part_of(alloc: Global, word: &Word) -> Result<Vec<u8>, AllocError>
     for piece in &word.pieces {
         match piece {
             Piece::Bytes(more) => part.extend_from_slice(more)?,
-            Piece::Mark | Piece::Var { .. } | Piece::Status => {}
+            Piece::Var { name, .. } => push_variable(&mut part, name)?,
+            Piece::Mark | Piece::Status => {}
         }
     }
     Ok(part)

@@ -1,10 +1,10 @@
-//! Why a check does not come to its end.
+//! Why a check does not end.
 
 use output::OutFault;
 use std::alloc::AllocError;
 use thiserror::Error;
 
-/// Why a check does not come to its end.
+/// Why a check does not end.
 #[derive(Clone, Copy, Debug, Drop, PartialEq, Eq, Error)]
 pub enum CheckError {
     /// The output failed.
