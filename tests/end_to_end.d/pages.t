@@ -1,6 +1,6 @@
   $ . "$TESTDIR/../setup"
 
-What the pages show: callers, a session, and the examples of the help.
+What the pages show: callers, a session, and the examples of the manual.
 
 The caller that a crate's CALLING.md shows is the one that is proved, and its contracts are those of the sources.
 
@@ -52,7 +52,7 @@ the session of docs/FORMATS.md in a plain shell, and what it shows
   $ (cd session && PATH=$PWD/../path:$PATH sh -eu ../calls) >found
   $ grep -v '^\$' shown | cmp - found
 
-The examples of help are done as they are, with the configuration of this folder.
+The examples of the manual are done as they are, with the configuration of this folder.
 
   $ printf 'bootdelay 2\nserverip\n' >changes.txt; printf 'bootcmd=load\n' >env.txt
   $ printf 'env 0 80\n' >fw_env.config
@@ -61,7 +61,7 @@ The examples of help are done as they are, with the configuration of this folder
   >     for it in bootcmd bootdelay serverip; do ubtool setenv ${1+--big-endian} -c fw_env.config $it 1; done
   > }
   $ examples() {
-  >     ubtool "$1" --help | sed -n '/^Examples:$/,/^$/s/^  ubtool/ubtool/p' |
+  >     sed 's/\\//g' "$repository/docs/ubtool.1" | sed -n "/^ubtool $1 /p; /^ubtool $1$/p" |
   >         sed '/ -c \|--text/!s/^ubtool [a-z]*/& -c fw_env.config/; s/^/fresh; /; /--big-endian/s/fresh/fresh big/' >calls
   >     cat calls
   > }

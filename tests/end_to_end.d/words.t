@@ -4,54 +4,77 @@ Words, long options, the version, and the names of other tools.
 
   $ bytes "$single" >e; printf 'e 0 9\n' >config; printf 'a=2\n' >changes
   $ long_lines() { grep -v ' \[default' | grep -v 'required$' | awk 'length > 80'; }
+  $ screen() { awk 'END { if (NR > 45) print NR }'; }
 
-the help of --help: examples, and no line that is too long
+the help of --help: an example, no line that is too long, and one screen
   $ ubtool --help >help
-  $ grep -c '^Examples:$' help
+  $ grep -c '^Example:$' help
   1
   $ long_lines <help
+  $ screen <help
 
-the help of -h: examples, and no line that is too long
+the help of -h: an example, no line that is too long, and one screen
   $ ubtool -h >help
-  $ grep -c '^Examples:$' help
+  $ grep -c '^Example:$' help
   1
   $ long_lines <help
+  $ screen <help
 
-the help of printenv --help: examples, and no line that is too long
+the help of printenv --help: an example, no line that is too long, and one screen
   $ ubtool printenv --help >help
-  $ grep -c '^Examples:$' help
+  $ grep -c '^Example:$' help
   1
   $ long_lines <help
+  $ screen <help
 
-the help of printenv -h: examples, and no line that is too long
+the help of printenv -h: an example, no line that is too long, and one screen
   $ ubtool printenv -h >help
-  $ grep -c '^Examples:$' help
+  $ grep -c '^Example:$' help
   1
   $ long_lines <help
+  $ screen <help
 
-the help of setenv --help: examples, and no line that is too long
+the help of setenv --help: an example, no line that is too long, and one screen
   $ ubtool setenv --help >help
-  $ grep -c '^Examples:$' help
+  $ grep -c '^Example:$' help
   1
   $ long_lines <help
+  $ screen <help
 
-the help of rehearse --help: examples, and no line that is too long
+the help of rehearse --help: an example, no line that is too long, and one screen
   $ ubtool rehearse --help >help
-  $ grep -c '^Examples:$' help
+  $ grep -c '^Example:$' help
   1
   $ long_lines <help
+  $ screen <help
 
-the help of endings --help: examples, and no line that is too long
+the help of endings --help: an example, no line that is too long, and one screen
   $ ubtool endings --help >help
-  $ grep -c '^Examples:$' help
+  $ grep -c '^Example:$' help
   1
   $ long_lines <help
+  $ screen <help
 
-the help of causes --help: examples, and no line that is too long
+the help of causes --help: an example, no line that is too long, and one screen
   $ ubtool causes --help >help
-  $ grep -c '^Examples:$' help
+  $ grep -c '^Example:$' help
   1
   $ long_lines <help
+  $ screen <help
+
+the help of image --help: an example, no line that is too long, and one screen
+  $ ubtool image --help >help
+  $ grep -c '^Example:$' help
+  1
+  $ long_lines <help
+  $ screen <help
+
+the help of inspect --help: an example, no line that is too long, and one screen
+  $ ubtool inspect --help >help
+  $ grep -c '^Example:$' help
+  1
+  $ long_lines <help
+  $ screen <help
 
 no such command
   $ ubtool bad
@@ -385,16 +408,16 @@ the help of fw_printenv
   $ ubtool printenv --help | sed 's/ubtool printenv/fw_printenv/' >wanted
   $ as fw_printenv -h | cmp wanted
 
-the help of fw_setenv
-  $ ubtool setenv --help | sed 's/ubtool setenv/fw_setenv/; s/^Called as fw_setenv, the/The/' >wanted
-  $ as fw_setenv --help | cmp wanted
+the help of fw_setenv, which says more of -s -
+  $ ubtool setenv --help | sed 's/ubtool setenv/fw_setenv/' >wanted
+  $ as fw_setenv --help | sed 's/ skipped[.] The$/ skipped./; /^script of .-s -. is standard input/d' | cmp wanted
 
-the usage of fw_printenv, in a help that names no other program
+the usage of fw_printenv, in a help that names no other program but for the manual
   $ as fw_printenv a --help >help
   $ grep '^Usage: ' help
   Usage: fw_printenv [OPTIONS] [NAME]...
-  $ grep ubtool help
-  [1]
+  $ grep -o 'ubtool.*' help
+  ubtool(1), has the format of FILE.
 
 the version, as fw_setenv
   $ [ "$(as fw_setenv --version)" = "$version" ]

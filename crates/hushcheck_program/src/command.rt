@@ -14,45 +14,17 @@ const NOTES: &str = "\
 The texts of the variables are read as boot scripts, and then those of the
 variables that they run by a plain name, as in 'run NAME', each once. For each
 there is a line: 'NAME: ok', 'NAME: not set', or 'NAME:LINE:COLUMN: what is
-wrong' with the line of the text, at most 80 bytes of it, and a mark under the
-byte. Lines and columns count from 1. The image is read and never written.
-
-With --script the text of a file is checked in place of a variable, under the
-name FILE. It is a script, or a script image for U-Boot's 'source'. Without
--c, -i or --text beside it the environment is empty.
-
-A line with 'warning:' names a place that a shell of U-Boot reads otherwise than
-ubtool does by itself, and says how. After the lines of the texts there is one,
-'warning: nothing sets VARIABLE', at the first place where a text reads a
-variable that is not in the environment and that neither a text sets nor, as
-the device list says, a command. A warning changes the status only with
---strict.
-
-With -d, each command that a text calls by a plain name is reported too, as
-'the device list lacks COMMAND', if it is neither built in nor in the device
-list.
-
-With --files, a line of the device list may say 'runs FILE' of calls. If a text
-has such a call, the text of that file is checked too, under the name FILE, when
-no variable is left. A word of the call that holds a variable counts as what is
-written out of it.
+wrong' with the line of the text and a mark under the byte. A line 'warning:'
+names what a shell of U-Boot reads otherwise, or a variable that nothing sets.
+The image is read and never written.
 
 The status is 0 if all texts are well-formed, each NAME is set and the device
 list lacks no command; 1 if one of these does not hold, or with --strict if
 there is a warning; 2 if the words are wrong; 3 if a file, the image, the
 device list or the output is refused, or memory ran out.
 
-Examples:
-  hushcheck
-  hushcheck bootcmd altbootcmd
-  hushcheck --all -d devices
-  hushcheck -c fw_env.config --big-endian
-  hushcheck --shell old
-  hushcheck -d devices --strict
-  hushcheck --text env.txt
-  hushcheck --script boot.cmd
-  hushcheck --script boot.scr --text env.txt -d devices
-  hushcheck --text env.txt -d devices --files card
+Example:
+  hushcheck -d devices.txt
 ";
 
 /// The program, without its words.

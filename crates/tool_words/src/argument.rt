@@ -14,7 +14,7 @@ pub enum Form {
     Flag,
     /// The option `--word VALUE`.
     Value,
-    /// The option `--word N`, a whole number from the first to the second.
+    /// The option `--word VALUE`, a whole number from the first to the second.
     Number(u32, u32),
     /// The word `[NAME]`.
     Word,
@@ -49,7 +49,7 @@ fn formed<'a>(alloc: Global, row: &Argument<'a>) -> Arg<'a>
     match row.form {
         Form::Flag => long_flag(alloc, row.id),
         Form::Value => long_option(alloc, row.id, row.value),
-        Form::Number(least, most) => number_option(alloc, row.id, least, most),
+        Form::Number(least, most) => number_option(alloc, row.id, row.value, least, most),
         Form::Word => one(alloc, row.id, row.value),
         Form::Words => many(alloc, row.id, row.value),
     }

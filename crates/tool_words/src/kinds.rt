@@ -15,13 +15,19 @@ pub(crate) fn long_option<'a>(alloc: Global, id: &'a str, value: &'a str) -> Arg
     Arg::new(alloc, id).long(id).value_name(value)
 }
 
-/// The option `--word N`, a whole number in this range.
-pub(crate) fn number_option<'a>(alloc: Global, id: &'a str, least: u32, most: u32) -> Arg<'a>
+/// The option `--word VALUE`, a whole number in this range.
+pub(crate) fn number_option<'a>(
+    alloc: Global,
+    id: &'a str,
+    value: &'a str,
+    least: u32,
+    most: u32,
+) -> Arg<'a>
     ensures rule { rule_of result ≡ number_option id.entry.now least most }
     ensures local { result.global ≡ false }
 {
     let range = ValueParser::signed(i64::from(least), i64::from(most));
-    long_option(alloc, id, "N").value_parser(range)
+    long_option(alloc, id, value).value_parser(range)
 }
 
 /// The flag `--word`.

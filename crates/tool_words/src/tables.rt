@@ -145,7 +145,7 @@ const STEADY: Argument<'static> = Argument {
     alias: None,
     required: false,
     value: "",
-    help: "Each question has one answer in a run, as if each line said steady [default: as the list says]",
+    help: "Each question has one answer in a run [default: as the list says]",
 };
 
 /// The alternative of a device list.
@@ -156,7 +156,7 @@ const GIVEN: Argument<'static> = Argument {
     alias: None,
     required: false,
     value: "K",
-    help: "The Kth alternative of the list's given lines, 1 to 64 [default: a list has one]",
+    help: "The Kth alternative of the lines given, 1 to 64 [default: a list has one]",
 };
 
 const VARIABLE: Argument<'static> = Argument {
@@ -176,8 +176,8 @@ const DEVICES: Argument<'static> = Argument {
     alias: None,
     required: false,
     value: "N",
-    help: "At most N device commands a run, 0 to 32, with --word or --failures 3 to 1000 \
-        [default: 16, with --word 1000]",
+    help: "At most N device commands a run, 0 to 32; up to 1000 with --word, or with \
+        --failures of at most 3 [default: 16, with --word 1000]",
 };
 
 const STEPS: Argument<'static> = Argument {
@@ -197,8 +197,8 @@ const SHELL: Argument<'static> = Argument {
     alias: None,
     required: false,
     value: "NAME",
-    help: "The shell by whose rules the scripts run: profile, old-2023.01, old-2025.01, old, \
-        modern-2025.01 or modern [default: profile]",
+    help: "Run the scripts as this shell does: profile, old, old-2023.01, old-2025.01, modern or \
+        modern-2025.01 [default: profile]",
 };
 
 const WORD: Argument<'static> = Argument {
