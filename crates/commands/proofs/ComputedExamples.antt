@@ -1,4 +1,4 @@
--- Worked examples, computed: what the words of computed calls come to, and what that does.
+-- Worked examples, computed: the result of the words of computed calls, and what that does.
 use Rattle.std.proofs.Common.{◌≡◌, ℕ, List, [], ◌∷◌, Option, Some, None, codes, refl}
 use Rattle.std.specs.Fmt.{digits}
 use Rattle.rehearse_terms.specs.State.{Text, Variables}

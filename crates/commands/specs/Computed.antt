@@ -1,4 +1,4 @@
--- The commands that a device list may have computed, and what their words come to. After U-Boot 2023.01: doc/usage/cmd/env,
+-- The commands that a device list may have computed, and how their words are evaluated. After U-Boot 2023.01: doc/usage/cmd/env,
 -- "Delete", "Exists" and "Set", and cmd/nvedit.c (`do_env_delete`, `do_env_exists`, `_do_env_set`); cmd/itest.c
 -- (`do_itest`); doc/usage/cmd/setexpr, "Description", and cmd/setexpr.c (`do_setexpr`), which decide in the same order in
 -- 2025.01. Where words are no call of theirs, U-Boot prints a usage and gives status 1; what it prints is left out (ours).
@@ -12,7 +12,7 @@ use Rattle.commands.specs.KnownCommands.{Known, Env, Itest, SetExpr}
 use Rattle.commands.specs.Hexadecimal.{in_word, hexadecimal}
 use Rattle.commands.specs.VariableNames.{is_bad_name}
 
--- what the words of a call come to: `carried` in BuiltInCommands.antt says what each does to the variables
+-- the result of the words of a call: `carried` in BuiltInCommands.antt says what each does to the variables
 pub data Computed : Type 0 where
   -- a status
   Gives : ℕ → Computed
@@ -195,7 +195,7 @@ setexpr (name ∷ first ∷ words) = with_operand name first words
 
 -- ---- the rows
 
--- what the words of a command come to, if they can be computed
+-- the result of the words of a command, if they can be computed
 abbrev pub computes : Known → List Text → Option Computed
 computes Env words = env words
 computes Itest words = itest words

@@ -1,4 +1,4 @@
--- What the program says that a call comes to.
+-- The result of a call, as the program says it.
 use Rattle.std.specs.Prelude.{Option, option_map}
 use Rattle.commands.specs.Computed as says
 use Rattle.commands.specs.TextsShown.{texts}

@@ -1,4 +1,4 @@
-//! The commands that a device list may have computed: what their words come to.
+//! The commands that a device list may have computed: how their words are evaluated.
 ghost use Rattle.std.specs.Prelude.{◌≡◌, ◌==◌, option_map};
 ghost use Rattle.std.specs.List.{list_all};
 ghost use Rattle.text.specs.Bytes as ascii;
@@ -12,7 +12,7 @@ use crate::itest::itest;
 use crate::known_commands::Known;
 use crate::setexpr::setexpr;
 
-/// What a computed call comes to.
+/// The result of a computed call.
 #[derive(Clone, Copy, Debug)]
 pub enum Computed<'a> {
     /// A status.
@@ -130,7 +130,7 @@ pub(crate) fn operand(word: &[u8]) -> Option<u64>
     }
 }
 
-/// What the words of a command come to, if they can be computed.
+/// The result of the words of a command, if they can be computed.
 pub fn computes(known: Known, words: &[Vec<u8>]) -> Option<Computed<'_>>
     ensures { call_shown result ≡ says.computes (known_shown known) (texts words.now) }
 {

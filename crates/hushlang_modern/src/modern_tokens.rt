@@ -216,7 +216,7 @@ impl TextReading {
         }
     }
 
-    /// Adds what the bytes behind the last whole piece come to as the text ends.
+    /// Adds the result of the bytes behind the last whole piece as the text ends.
     fn end_text(&mut self) -> Result<(), AllocError>
         ensures { OnOk result (shown.reading self.new ≡ shown.with_last (shown.reading self.old)) }
     {

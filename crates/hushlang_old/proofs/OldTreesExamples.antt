@@ -72,7 +72,7 @@ brace_names : map (old_tree_of false) (codes "${}" ∷ codes "\"${a b}\"" ∷ co
 unfolding old_tree_of
 brace_names = refl
 
--- what a variable without a value comes to stands behind a `:`
+-- a variable without a value expands to what is behind a `:`
 defaults : map (old_tree_of false) (codes "${a:-b c}" ∷ codes "\"${a:+'$b\"}\"" ∷ codes "${:?=}" ∷ [])
     ≡ one (Var (codes "a:-b c") true ∷ []) ∷ one (Mark ∷ Var (codes "a:+'$b\"") false ∷ []) ∷ one (Var (codes ":?=") true ∷ []) ∷ []
 unfolding old_tree_of
@@ -116,7 +116,7 @@ empty_blocks : map (old_tree_of false) (codes "if a; then # b\nfi" ∷ codes "if
 unfolding old_tree_of
 empty_blocks = refl
 
--- A first condition without a command holds, so that the `if` comes to its block
+-- A first condition without a command holds, so that the `if` reaches its block
 abbrev given : Option Script
 given = Some (Runs (Starts (If (Arm a nothing NoElse)) Alone) Empty)
 

@@ -156,7 +156,7 @@ is_space byte = byte == ascii.space
 abbrev pub turns_in : List ℕ → List (List ℕ)
 turns_in bytes = filter has_bytes (slice_split is_space bytes)
 
--- what a word of a `for` comes to: it is not read again, and cut at spaces alone (`make_list_in`)
+-- the result of a word of a `for`: it is not read again, and cut at spaces alone (`make_list_in`)
 abbrev pub turns_of_word : Parameters → Word → List (List ℕ)
 turns_of_word parameters word = turns_in (inserted parameters word)
 

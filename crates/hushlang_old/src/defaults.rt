@@ -1,4 +1,4 @@
-//! What is in the braces of a variable: its name, and what it comes to by its value.
+//! What is in the braces of a variable: its name, and what it expands to by its value.
 ghost use Rattle.std.specs.Prelude.{◌≡◌, ◌≤◌, length};
 ghost use Rattle.std.specs.List.{prefix_len};
 ghost use Rattle.hushlang_old.specs.Defaults as says;

@@ -14,7 +14,7 @@ use hushlang_uboot::have_quotes;
 use itoa::Buffer;
 use std::alloc::{AllocError, Global};
 
-/// Adds what a variable comes to, by what is in its braces, to the end of some bytes.
+/// Adds what a variable expands to, by what is in its braces, to the end of some bytes.
 fn append_value<V: Vars>(bytes: &mut Vec<u8>, inside: &[u8], vars: &V) -> Result<(), AllocError>
     ensures { OnOk result (bytes.new.items ≡ bytes.old.items
         ++ defaults.found_value (V.parameters vars.now) inside.now) }

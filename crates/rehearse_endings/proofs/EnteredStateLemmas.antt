@@ -67,7 +67,7 @@ comes_next p d = (d, [], refl)
 comes_on : (q p : OutcomeWord) (d : Outcome) → ComesBefore q p → ComesBefore q (p ++ d ∷ [])
 comes_on q p d h = (h.0, h.1 ++ d ∷ [], ap (λ (w : OutcomeWord). w ++ d ∷ []) h.2 ∙ append_assoc q (h.0 ∷ h.1) (d ∷ []))
 
--- the search comes to the next outcome by one more state
+-- the search reaches the next outcome by one more state
 pub comes_by : (p : OutcomeWord) (d : Outcome) (m : Moment) (begun : List Asked) → ComesBy p begun → ComesBy (p ++ d ∷ []) ((p, m) ∷ begun)
 comes_by p d m begun h = (comes_next p d, all_as (λ t. ComesBefore t.0 p) (λ t. ComesBefore t.0 (p ++ d ∷ [])) begun (λ t k. comes_on t.0 p d k) h)
 

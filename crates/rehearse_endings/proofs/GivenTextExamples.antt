@@ -12,7 +12,7 @@ use Rattle.rehearse_machine.specs.Tasks.{task_found}
 use Rattle.rehearse_states.specs.Endings.{endings}
 use Rattle.rehearse_states.specs.EndingLines.{endings_text, failing}
 
--- the lines of its runs, which come to one state
+-- the lines of its runs, which reach one state
 abbrev lines : Text → Option Text
 lines text = option_map (λ t. endings_text [] (failing t) (endings [] t) (length (all_runs t)) 1)
     (task_found ((codes "boot.cmd", codes "exit 4") ∷ []) only_load (record { name = codes "boot.cmd"; given = Some text }) (record { devices = 3; steps = 20; failures = None; shell = Profile }))

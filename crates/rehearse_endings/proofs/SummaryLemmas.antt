@@ -24,7 +24,7 @@ rows_as names f kinds endings count counts rows k e c h =
     (subst (λ (x : OutcomeWord → RunEnd). HasRows kinds x count rows) (same_function (λ w. came_end names (f w)) endings e)
     (subst (λ (x : OutcomeWord → WordKind). HasRows x (λ w. came_end names (f w)) count rows) (same_function (λ w. came_kind (f w)) kinds k) h))
 
--- two things that come to the same have the same summary
+-- two things with the same result have the same summary
 pub sums_same : (names : List Text) (devices : Devices) (before : ℕ) (f g : OutcomeWord → Came) (s : Summary) → ((w : OutcomeWord) → f w ≡ g w) → Sums names devices before f s → Sums names devices before g s
 sums_same names devices before f g s e h = subst (λ (x : OutcomeWord → Came). Sums names devices before x s) (same_function f g e) h
 

@@ -1,4 +1,4 @@
--- How many bytes the table counts for the states that it holds, and what a search comes to that holds more than allowed. Ours.
+-- How many bytes the table counts for the states that it holds, and the result of a search that holds more than allowed. Ours.
 use Rattle.std.specs.Prelude.{◌≡◌, ℕ, ◌+◌, ◌*◌, ◌<◌, ◌≤◌, List, [], length, map, sum_by, Option, Some, None, Vec}
 use Rattle.std.specs.List.{AllByRecursion}
 use Rattle.std.specs.declared.alloc.Global.{Global}
@@ -71,7 +71,7 @@ abbrev pub size_of_held : Held → ℕ
 size_of_held h = size_of (frames_in h.state) h.known
 
 -- states that were searched, each with what is known at its keys, and states on one run whose search has begun: runs of the task
--- come to all of them, and no two are alike
+-- reach all of them, and no two are alike
 abbrev pub AreHeld : (names : List Text) → Task → List Held → (begun : List Asked) → Type 0
 AreHeld names task states begun = AreApart names task (map (λ h. h.state) states) begun × AllByRecursion IsHeld states
 

@@ -1,4 +1,4 @@
--- What a search from a text that has stopped comes to. Ours.
+-- The result of a search from a text that has stopped. Ours.
 use Rattle.std.specs.Prelude.{◌≡◌, ℕ, ◌+◌, ◌*◌, ◌≤◌, ◌<◌, List, [], length}
 use Rattle.bootstore_state.specs.Record.{Record}
 use Rattle.rehearse_terms.specs.Bounds.{most_steps}

@@ -28,7 +28,7 @@ use Rattle.rehearse_endings.specs.declared.table.Table.{Table}
 abbrev pub Asked : Type 0
 Asked = OutcomeWord × Moment
 
--- a run that starts with these outcomes goes on: the text comes to this state, in which a device command asks
+-- a run that starts with these outcomes goes on: the text reaches this state, in which a device command asks
 abbrev pub IsMet : Task → Asked → Type 0
 IsMet task s = (kind task s.0 ≡ Short) × StoppedAt task s.0 Asks s.1
 
@@ -44,7 +44,7 @@ pub record Searched : Type 0 where
 abbrev pub frames_in : Searched → List RunningFrame
 frames_in s = above s.below s.asked.1.frames
 
--- runs of the task come to the state, the keys are enough for what is to come, nothing comes back to frames that do not count, and
+-- runs of the task reach the state, the keys are enough for what is to come, nothing comes back to frames that do not count, and
 -- what is to come is what the summary says
 pub record IsSearchedIn (names : List Text) (task : Task) (s : Searched) : Type 0 where
   pub met : IsMet task s.asked
@@ -64,7 +64,7 @@ pub record IsLike (limits : Limits) (s : Searched) (m : Moment) : Type 0 where
 abbrev pub ComesBefore : (p w : OutcomeWord) → Type 0
 ComesBefore p w = (d : Outcome) × (rest : OutcomeWord) × (w ≡ p ++ d ∷ rest)
 
--- another state is not like one that was searched; or a run comes to the other one first, where fewer device commands were asked
+-- another state is not like one that was searched; or a run reaches the other one first, where fewer device commands were asked
 abbrev pub IsUnlike : Limits → Searched → Asked → Type 0
 IsUnlike limits s other = (IsLike limits s other.1 → ⊥) ⊎ ComesBefore other.0 s.asked.0
 
@@ -73,12 +73,12 @@ abbrev pub NoTwoAlike : Limits → List Searched → Type 0
 NoTwoAlike limits [] = Unit {0}
 NoTwoAlike limits (s ∷ ss) = AllByRecursion (λ other. IsUnlike limits s other.asked) ss × NoTwoAlike limits ss
 
--- one run comes to all of these, to the first one last
+-- one run reaches all of these, to the first one last
 abbrev pub AreOnOneRun : List Asked → Type 0
 AreOnOneRun [] = Unit {0}
 AreOnOneRun (t ∷ ts) = AllByRecursion (λ other. ComesBefore other.0 t.0) ts × AreOnOneRun ts
 
--- states that were searched, and states on one run whose search has begun: runs of the task come to all of them, and no two are
+-- states that were searched, and states on one run whose search has begun: runs of the task reach all of them, and no two are
 -- alike
 pub record AreApart (names : List Text) (task : Task) (searched : List Searched) (begun : List Asked) : Type 0 where
   pub found : AllByRecursion (IsSearchedIn names task) searched
@@ -128,6 +128,6 @@ pub record Entered (names : List Text) (task : Task) (searched : List Searched) 
 abbrev pub HasEntered : (names : List Text) → Task → (begun : List Asked) → Table → Type 0
 HasEntered names task begun table = (searched : List Searched) × Entered names task searched begun table
 
--- the search has come to the outcomes p, by the states that it has begun
+-- the search has reached the outcomes p, by the states that it has begun
 abbrev pub ComesBy : (p : OutcomeWord) → (begun : List Asked) → Type 0
 ComesBy p begun = AllByRecursion (λ t. ComesBefore t.0 p) begun

@@ -27,7 +27,7 @@ source_of ask = record { name = ask.name.now; given = option_bytes ask.text }
 abbrev pub IsFlowOf : Task → (states : ℕ) → List Node → Type 0
 IsFlowOf task states nodes = IsFlow task nodes × (asks_in nodes ≡ states)
 
--- the flow of the task, or how its runs end, and the values of these variables there; its runs come to this many states
+-- the flow of the task, or how its runs end, and the values of these variables there; its runs reach this many states
 abbrev pub Tells : (names : List Text) → (flow : Bool) → Task → (states : ℕ) → Text → Type 0
 Tells names true task states text = (nodes : List Node) × IsFlowOf task states nodes × (text ≡ flow_text nodes)
 Tells names false task states text = (nodes : List Node) × IsFlowOf task states nodes
@@ -36,21 +36,21 @@ Tells names false task states text = (nodes : List Node) × IsFlowOf task states
 -- A search drops the text that a run writes, which no run reads (`UnheardRunsGoAlike`). So the states below are those of
 -- `unheard task`, to which the same runs come, each without its text.
 
--- the lines of the task; its runs come to this many states, no two alike, to no more than allowed, and these count no more
+-- the lines of the task; its runs reach this many states, no two alike, to no more than allowed, and these count no more
 -- bytes than allowed
 abbrev pub AreLines : (names : List Text) → (flow : Bool) → (most bytes : ℕ) → Option Task → Text → Type 0
 AreLines names flow most bytes found text = (task : Task) × (states : ℕ) × (found ≡ Some task) × (states ≤ most)
     × HoldsStates names (unheard task) states bytes × Tells names flow task states text
 
--- the runs of the task come to more states than allowed, no two of them alike
+-- the runs of the task reach more states than allowed, no two of them alike
 abbrev pub HasMoreStates : (names : List Text) → (most : ℕ) → Option Task → Type 0
 HasMoreStates names most found = (task : Task) × (found ≡ Some task) × ComesToStates names (unheard task) (most + 1)
 
--- the runs of the task come to this many states, no two of them alike, whose stretches may begin more steps than allowed
+-- the runs of the task reach this many states, no two of them alike, whose stretches may begin more steps than allowed
 abbrev pub HasMoreSteps : (names : List Text) → (count work : ℕ) → Option Task → Type 0
 HasMoreSteps names count work found = (task : Task) × (found ≡ Some task) × ComesToSteps names (unheard task) count work
 
--- the runs of the task come to this many states, no two of them alike, and those that were searched count more bytes than allowed
+-- the runs of the task reach this many states, no two of them alike, and those that were searched count more bytes than allowed
 abbrev pub HasMoreBytes : (names : List Text) → (count bytes : ℕ) → Option Task → Type 0
 HasMoreBytes names count bytes found = (task : Task) × (found ≡ Some task) × ComesToBytes names (unheard task) count bytes
 

@@ -354,7 +354,7 @@ fn summed<S: Store>(
 /// unexpected answers. Runs that leave other values of the named variables are told apart. The endings are in
 /// the order of their first runs. Enters no more states than allowed,
 /// and searches each once, so at most two stretches of steps start at a state. Returns `States` if
-/// the runs come to more states than allowed, no two of them alike: at the same place, but for frames to which nothing
+/// the runs reach more states than allowed, no two of them alike: at the same place, but for frames to which nothing
 /// comes back, with the same at the keys that were found to be enough, and with room for the same runs. Returns `Steps` behind the first stretch with which
 /// more steps were begun than allowed, in all stretches together. Returns `Bytes` if the states that were searched
 /// count more bytes than allowed, each by its frames that count and what is known at its keys. Both have the number of states that

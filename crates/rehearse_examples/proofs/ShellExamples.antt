@@ -265,7 +265,7 @@ most_words_of_a_call : map (λ text. in_shell text Old2025) ((codes "echo" ++ so
 unfolding told_of
 most_words_of_a_call = refl
 
--- a variable without a value comes to its default
+-- a variable without a value reaches its default
 defaults : map (λ text. in_shell text Old2023) (codes "echo ${a:-b c}; a=1; echo ${a:-b} ${a:+d} ${e:+f}; g=${h:-i}; echo $g" ∷ codes "for i in ${a:-b c}; do echo $i; done" ∷ [])
     ≡ (codes "b c\n1 f\ni\n", End 0) ∷ (codes "b\nc\n", End 0) ∷ []
 unfolding told_of

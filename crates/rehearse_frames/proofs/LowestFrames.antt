@@ -205,7 +205,7 @@ module _ (limits : Limits) where
   continue_over [] bottom (Dry s) never = continue-dry limits bottom s
   continue_over (f ∷ top) bottom a never = continue_over top bottom (resume limits f a) never
 
-  -- what comes to the same as something that does not come to the end of its text
+  -- what goes on as something that does not reach the end of its text
   end_of : (wanted : List Text) (c : Came) (end : Ending × List (Option Text)) → came_end wanted c ≡ Some end → (x : State) × (c ≡ Over end.0 x)
   end_of wanted (Over ending x) end e =
       let same_end : (ending, map (get x.memory.environment) wanted) ≡ end = (let f = e in cc) in (x, ap (λ (p : Ending × List (Option Text)). Over p.0 x) same_end)

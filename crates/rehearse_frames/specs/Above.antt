@@ -17,11 +17,11 @@ above below frames = take (length frames - below) frames
 abbrev pub without_lowest : (below : ℕ) → Moment → Moment
 without_lowest below m = record m { frames = above below m.frames }
 
--- the text did not come to its end
+-- the text did not end
 abbrev pub IsNoEnd : Ending → Type 0
 IsNoEnd ending = (status : ℕ) → ending ≡ End status → ⊥
 
--- whatever outcomes are left, the text does not come to its end: so nothing comes back to frames that would lie below its own
+-- whatever outcomes are left, the text does not end: so nothing comes back to frames that would lie below its own
 abbrev pub NeverReturns : (OutcomeWord → Came) → Type 0
 NeverReturns comes = (w : OutcomeWord) (status : ℕ) (s : State) → comes w ≡ Over (End status) s → ⊥
 

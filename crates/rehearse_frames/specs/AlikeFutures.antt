@@ -1,4 +1,4 @@
--- What is to come from two states, if it comes to the same as far as the bounds allow. Ours.
+-- What is to come from two states, if it goes on alike as far as the bounds allow. Ours.
 use Rattle.std.specs.Prelude.{◌≡◌, ℕ, suc, ◌+◌, ◌<◌, ◌⊎◌, List, length, map, Option, Some, None}
 use Rattle.rehearse_terms.specs.Outcomes.{WordKind, Short}
 use Rattle.rehearse_terms.specs.State.{Text, State, LoggedCommand, get}

@@ -32,7 +32,7 @@ OutcomesComeFirst = (limits : Limits) (wanted : List Text) (outcome : Outcome) (
     of_next limits wanted (outcome ∷ w) (Ask request fs s)
     ≡ outcome_accesses outcome request ++ of_next limits wanted w (answered outcome request fs s)
 
--- From two states that agree on what frames read before they write it, the frames come to the same, as far as the bounds
+-- From two states that agree on what frames read before they write it, the frames go on alike, as far as the bounds
 -- allow, and to the same values of the variables that are wanted.
 abbrev pub FramesGoAlike : Type 0
 FramesGoAlike = (limits : Limits) (wanted : List Text) (w : OutcomeWord) (fs : List Frame) (keys : List Key) (s t : State) →

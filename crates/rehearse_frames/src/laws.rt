@@ -13,7 +13,7 @@ pub fn moves_come_first()
     ensures outcomes { OutcomesComeFirst }
 {}
 
-/// From two states that agree on what frames read before they write it, the frames come to the same as far
+/// From two states that agree on what frames read before they write it, the frames go on alike as far
 /// as the bounds allow: the word is a run in both cases or in neither, and the runs end alike, with the same
 /// values of the variables that are wanted, after the same further device commands and as many steps. So it
 /// is where a device command asks with the same words.

@@ -101,7 +101,7 @@ module _ (limits : Limits) (call : List Text) (d : Outcome) (log : List LoggedCo
   resume_answered FileText a h = text_end-answered limits.device_bound limits.shell call d log (sourced limits.shell a) Normal (Keeps-stays limits.device_bound) (sourced_answered limits.shell a h)
   resume_answered CommandEnd a h = compound_answered limits.shell a h
 
-  -- the log of what a run comes to
+  -- the log of the result of a run
   abbrev log_of : Came → List LoggedCommand
   log_of (Over ending s) = s.log
   log_of (Wants s) = s.log

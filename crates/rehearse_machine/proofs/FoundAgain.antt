@@ -56,7 +56,7 @@ module _ (c : CommandCode) where
   pub wordless : ((call : Call) → c ≡ Simple call → ⊥) → None ≡ words_of (Some (view.command c))
   wordless = wordless-at (kind_of c)
 
--- ---- what its words come to
+-- ---- the result of its words
 
 module _ (limits : Limits) (old : Record) (f : RunningFrame) (fs : List RunningFrame) where
   pub nothing_again : None ≡ words_in_front f → Does (steps.Ends (halts.End old.present.status)) old old (fields_again limits (words_in_front f) f fs)

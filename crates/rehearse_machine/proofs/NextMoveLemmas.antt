@@ -30,7 +30,7 @@ is_top (x ∷ xs) f e = let same : x ≡ f = (let g = e in cc) in ap (λ (y : Ru
 pub found_before : (shell : Shell) (fit : Bool) (found : List Text) (words : List tree.Word) (old mid : Record) → mid ≡ stepped old → IsExpanded fit found (fields_in shell (parameters_at old.present) words) → IsExpanded fit found (fields_in shell (parameters_at mid.present) words)
 found_before shell fit found words old mid e h = subst (λ (r : Record). IsExpanded fit found (fields_in shell (parameters_at r.present) words)) (sym e) h
 
--- fields that are known are those that the words come to
+-- fields that are known are those that the words give
 pub known_before : (found found_now : List Text) → found ≡ found_now → nat_le (size found) most_bytes ≡ true → IsExpanded true found found_now
 known_before found found_now e h = (e, ap (λ (x : List Text). nat_le (size x) most_bytes) (sym e) ∙ h)
 

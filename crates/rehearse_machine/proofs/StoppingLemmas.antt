@@ -58,7 +58,7 @@ module _ (limits : Limits) (old new : Record) where
   stops_within (steps.Asks ask) other drives = drives.within
   stops_within (steps.Ends halt) other drives = drives.within
 
--- two things that come to the same stop at the same place
+-- two things with the same result stop at the same place
 pub stops_as : (limits : Limits) (stop : Stop) (f g : OutcomeWord → Came) (m : Moment) → ((w : OutcomeWord) → g w ≡ f w) → Stops limits stop f m → Stops limits stop g m
 stops_as limits Asks f g m e h = (h.0, λ w. e w ∙ h.1 w, e [] ∙ h.2)
 stops_as limits (Ends halt) f g m e h = λ w. e w ∙ h w

@@ -26,7 +26,7 @@ words_of (Some (tree.For name words body)) = None
 abbrev pub words_in_front : RunningFrame → Option (List tree.Word)
 words_in_front f = words_of (command_in_front f.place.command f)
 
--- what the words of a simple command that has begun come to
+-- the result of the words of a simple command that has begun
 abbrev pub fields_again : Limits → Option (List tree.Word) → RunningFrame → List RunningFrame → State → PlaceNext
 fields_again limits None f fs s = StopOn (End s.memory.status) s
 fields_again limits (Some words) f fs s =

@@ -1,4 +1,4 @@
--- What a run comes to: its end, or a device command that finds no outcome left. Ours.
+-- The result of a run: its end, or a device command that finds no outcome left. Ours.
 use Rattle.rehearse_terms.specs.State.{State}
 use Rattle.rehearse_rules.specs.Execution.{Answer, Normal, Exit, Ended, Dry, Ending, End}
 

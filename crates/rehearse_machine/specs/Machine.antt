@@ -22,7 +22,7 @@ use Rattle.rehearse_machine.specs.declared.rehearsal.Stop.TheVariants.{Asks, End
 use Rattle.rehearse_machine.specs.declared.rehearsal.Stopped.{Stopped}
 use Rattle.rehearse_machine.specs.declared.rehearsal.Stopped.TheVariants as stopped
 
--- what a moment at which a device command asks comes to with the outcomes of a word
+-- the result of a moment at which a device command asks with the outcomes of a word
 unfoldable pub asked_at : Limits → Moment → OutcomeWord → Came
 asked_at limits m w = comes_to limits w (next_of (found_again limits m.frames (state_at m w)))
 
@@ -53,7 +53,7 @@ pub record TakesOutcome (limits : Limits) (outcome : Outcome) (old new : Record)
   pub marked : new.marked ≡ old.marked
   pub begun : new.begun ≡ old.begun
 
--- a text that comes to f stopped at this moment: a device command asks, or the run has ended, whatever outcomes are
+-- a text that reaches f stopped at this moment: a device command asks, or the run has ended, whatever outcomes are
 -- left
 abbrev pub Stops : Limits → Stop → (f : OutcomeWord → Came) → Moment → Type 0
 Stops limits Asks f m =

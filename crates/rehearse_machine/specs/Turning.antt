@@ -1,4 +1,4 @@
--- What moves of a store come to, in turns. Each turn begins a step or comes to the end.
+-- The result of moves of a store, in turns. Each turn begins a step or ends.
 use Rattle.std.specs.Prelude.{◌≡◌, ℕ, ◌<◌, ◌≤◌, []}
 use Rattle.std.specs.FinMap.{entries}
 use Rattle.bootstore_state.specs.Moment.{Moment}
@@ -16,11 +16,11 @@ use Rattle.rehearse_machine.specs.Meaning.{continue, comes_to, AreProperFrames, 
 use Rattle.rehearse_machine.specs.MoveCounts.{weight}
 use Rattle.rehearse_machine.specs.MovesShown.{next_shown, Keeps}
 
--- what a moment of a store still comes to, with this word
+-- the result of a moment of a store, with this word
 abbrev pub to_come : Limits → Moment → OutcomeWord → Came
 to_come limits m w = continue limits (frames_of m.frames) (Normal (state_at m w))
 
--- what a move that has led to a moment comes to
+-- the result of a move that has led to a moment
 abbrev pub step_comes : Limits → Step → Moment → OutcomeWord → Came
 step_comes limits step m w = comes_to limits w (next_of (next_shown step m w))
 

@@ -80,7 +80,7 @@ fn set_number<S: Store>(
     store.set_status(0)
 }
 
-/// Does what a computed call comes to.
+/// Does the result of a computed call.
 pub(crate) fn carry_out<S: Store>(
     alloc: Global,
     store: &mut S,

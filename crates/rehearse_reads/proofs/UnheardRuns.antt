@@ -1,4 +1,4 @@
--- A run comes to the same whether the text that it writes is kept or dropped.
+-- A run has the same result whether the text that it writes is kept or dropped.
 use Rattle.std.proofs.Common.{◌≡◌, ℕ, List, [], ◌∷◌, Option, Some, None, refl, sym, ◌∙◌, arith, inl, inr, ⊎_elim}
 use Rattle.rehearse_terms.specs.Outcomes.{OutcomeWord}
 use Rattle.rehearse_terms.specs.State.{Variables, State, start}

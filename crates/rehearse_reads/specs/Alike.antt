@@ -1,4 +1,4 @@
--- The same stretch of a run from another state, which has the same at each key that the stretch reads: it comes to the same,
+-- The same stretch of a run from another state, which has the same at each key that the stretch reads: it goes on alike,
 -- as far as the bounds allow. Ours.
 use Rattle.std.specs.Prelude.{◌≡◌, ℕ, suc, ◌+◌, ◌<◌, ◌⊎◌, List, ◌++◌, length, Option, Some, None}
 use Rattle.rehearse_terms.specs.State.{Text, State, LoggedCommand, get}
@@ -97,7 +97,7 @@ module _ (limits : Limits) (steps_here steps_there : ℕ) (log_here log_there : 
 
 -- ---- of runs that start alike but for what becomes of their text
 
--- both come to the same, but for the text
+-- both go on alike, but for the text
 pub record ComeToSame (a b : Answer) : Type 0 where
   pub kind : kind_of b ≡ kind_of a
   pub ended : ended_with b ≡ ended_with a

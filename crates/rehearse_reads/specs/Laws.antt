@@ -36,8 +36,8 @@ FurtherReadsCover = (accesses : List Access) (keys : List Key) → Covers (all_r
 
 -- ---- runs
 
--- From two states that agree on some keys, among which is what a script reads before it writes it, the script comes to the
--- same, as far as the bounds allow. The states that it comes to agree on these keys and on all that it wrote.
+-- From two states that agree on some keys, among which is what a script reads before it writes it, the script goes on
+-- alike, as far as the bounds allow. The states that it reaches agree on these keys and on all that it wrote.
 abbrev pub StatesGoAlike : Type 0
 StatesGoAlike = (limits : Limits) (left : ℕ) (script : Script) (keys : List Key) (s t : State) → let reached =
     accesses limits left script s in AreAmong (keys_read reached) keys → AgreeOn keys s t → t.word ≡ s.word →

@@ -21,7 +21,7 @@ pub fn reports_cover()
 {}
 
 /// From two states that agree on what a script reads before it writes it, and on the outcomes that are
-/// left, the script comes to the same as far as the bounds allow: it ends in the same way, after the
+/// left, the script goes on alike as far as the bounds allow: it ends in the same way, after the
 /// same further device commands and as many steps, and the two states agree on the same keys and on all
 /// that was written. Whatever else they have, as other variables, makes no difference.
 #[tactic(auto, using(crate::proofs::AlikeRuns::states_go_alike))]

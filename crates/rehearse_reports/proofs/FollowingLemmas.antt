@@ -51,7 +51,7 @@ pub leads_to : (here mid there : OutcomeWord → Came) (first second third : Lis
     → ((w : OutcomeWord) → there w ≡ mid w) → ((wanted : List Text) (later : List Key) → third wanted later → second wanted later) → Leads here mid first second old new → Leads here there first third old new
 leads_to here mid there first second third old new e h a = record { accesses = a.accesses; comes = λ w. e w ∙ a.comes w; enough = λ wanted later k. a.enough wanted later (h wanted later k); reported = a.reported }
 
--- what a step comes to
+-- the result of a step
 abbrev pub after : Limits → Step → Moment → OutcomeWord → Came
 after limits step n w = comes_to limits w (next_of (next_shown step n []))
 

@@ -82,7 +82,7 @@ fn same_at(key: &Key, a: &Present, b: &Present) -> bool {
     }
 }
 
-/// Whether both states look the same at first sight. In a loop that comes to an end they mostly do not,
+/// Whether both states look the same at first sight. In a loop that ends they mostly do not,
 /// and then no more of them is compared.
 fn looks_same(a: &Present, b: &Present, written: &[Key]) -> bool {
     if a.frames.len() != b.frames.len() || !same_place(a.top(), b.top()) {

@@ -44,7 +44,7 @@ rows_of_runs kind one other count another rows e c (asks normal short s f won lo
     asks normal short (λ w. sym (c (Success ∷ w)) ∙ s w) (λ w. sym (c (Failure ∷ w)) ∙ f w)
     (rows_of_runs _ _ (λ w. other (Success ∷ w)) _ _ _ (λ w run. e (Success ∷ w) run) (λ w. refl) won) (rows_of_runs _ _ (λ w. other (Failure ∷ w)) _ _ _ (λ w run. e (Failure ∷ w) run) (λ w. refl) lost)
 
--- ---- what two things that come to the same have in common
+-- ---- what two things with the same result have in common
 
 abbrev EndAndValues : Type 0
 EndAndValues = Ending × List (Option Text)

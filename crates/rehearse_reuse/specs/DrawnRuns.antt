@@ -15,7 +15,7 @@ further zero log = log
 further (suc n) [] = []
 further (suc n) (command ∷ log) = further n log
 
--- what is seen of what a run comes to, after this many device commands that took an outcome
+-- what is seen of the result of a run, after this many device commands that took an outcome
 abbrev pub seen_behind : (devices : ℕ) → Came → Seen
 seen_behind devices came = record {
   kind = came_kind came;

@@ -19,7 +19,7 @@ use Rattle.rehearse_states.specs.RowsShown.{saturated_summary}
 abbrev pub came_count : Devices → (before : ℕ) → Came → ℕ
 came_count devices before c = length (unexpected_of devices (further before (asked_in (came_log c))))
 
--- the summary of what f comes to, for every word, with the values of these variables, after this many device commands
+-- the summary of the result of f, for every word, with the values of these variables, after this many device commands
 pub record Sums (names : List Text) (devices : Devices) (before : ℕ) (f : OutcomeWord → Came) (s : Summary) : Type 0 where
   pub has_rows : HasRows (λ w. came_kind (f w)) (λ w. came_end names (f w)) (λ w. came_count devices before (f w)) s.rows
   pub steps : (w : OutcomeWord) → came_steps (f w) ≤ s.steps
@@ -56,6 +56,6 @@ of_end names ending m = summary_at_end (end_with names ending (entries m.environ
 abbrev pub of_sides : Moment → (normal : Bool) → (won lost : Summary) → Summary
 of_sides m normal won lost = summary_of_sides (of_both normal) m.steps (length m.log) won lost
 
--- the summary of what f comes to, except for counts that are too large
+-- the summary of the result of f, except for counts that are too large
 abbrev pub Summed : (names : List Text) → Devices → (before : ℕ) → (OutcomeWord → Came) → Summary → Type 0
 Summed names devices before f shown = (s : Summary) × Sums names devices before f s × (shown ≡ saturated_summary s)

@@ -73,7 +73,7 @@ pub plain_runs_stand : PlainRunsStand
 plain_runs_stand text devices task w plain rich =
     subst (λ (ds : Devices). run_on (task_over ds task) w ≡ plain_run_on task w) (devices-quiet text devices task.names plain rich) (run-plain task w)
 
--- runs and records by what the text comes to with each word
+-- runs and records by the result of the text with each word
 abbrev runs_by : ℕ → (OutcomeWord → Answer) → List OutcomeWord
 runs_by bound run = runs_within (λ w. kind_of (run w)) bound
 

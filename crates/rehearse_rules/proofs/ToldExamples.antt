@@ -46,7 +46,7 @@ always_told = refl
 always_told_again : told (request (record quiet { always = Some true })) (logged (codes "load") ∷ []) ≡ Some true
 always_told_again = refl
 
--- ---- what it comes to, in a state with this log and this word
+-- ---- its result, in a state with this log and this word
 
 abbrev at : List LoggedCommand → OutcomeWord → State
 at log word = record (start Kept ((codes "b", codes "2") ∷ []) word) { log = log; steps = 3 }

@@ -27,7 +27,7 @@ pub record Limits : Type 0 where
   pub step_bound : ℕ
   pub shell : Shell
 
--- what a part of a script comes to
+-- the result of a part of a script
 pub data Answer : Type 0 where
   -- the next command follows
   Normal : State → Answer
@@ -200,7 +200,7 @@ compound_end (Exit s) = Normal (compound_left s)
 compound_end (Ended ending s) = Ended ending s
 compound_end (Dry s) = Dry s
 
--- what a compound command comes to, by what is in it: `exit` ends the text that is running, in the modern shell the innermost
+-- the result of a compound command, by what is in it: `exit` ends the text that is running, in the modern shell the innermost
 -- compound command alone
 abbrev pub compound : Shell → Answer → Answer
 compound Profile a = a
@@ -215,7 +215,7 @@ left_to_prompt (Exit s) = Ended (End s.memory.status) s
 left_to_prompt (Ended ending s) = Ended ending s
 left_to_prompt (Dry s) = Dry s
 
--- what the text of a file comes to, by what is in it: `exit` ends this text alone, in the modern shell the run, as it sets the input
+-- the result of the text of a file, by what is in it: `exit` ends this text alone, in the modern shell the run, as it sets the input
 -- of the shell to the console (`parse_and_run_stream`, `setup_file_in_str`)
 abbrev pub sourced : Shell → Answer → Answer
 sourced Profile a = a

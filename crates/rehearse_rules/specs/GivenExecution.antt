@@ -89,6 +89,6 @@ module _ (bounds : Limits) (others : Others) where
   given_exec zero = given_script zero (λ t s. Ended CutSteps s)
   given_exec (suc left) = given_script (suc left) (given_exec left)
 
-  -- what the text of a variable comes to with the outcomes of a word
+  -- the result of the text of a variable with the outcomes of a word
   abbrev pub given_run_on : Variables → (name text : Text) → OutcomeWord → Answer
   given_run_on environment name text w = run_text bounds (given_exec bounds.step_bound) name text (start Kept environment w)

@@ -66,7 +66,7 @@ module _ (task : PlainTask) where
 
   -- ---- runs, records and the listing, as in Runs.antt and Listing.antt
 
-  -- what the text comes to with the outcomes of a word
+  -- the result of the text with the outcomes of a word
   abbrev pub plain_run_on : OutcomeWord → Answer
   plain_run_on = given_run_on (bounds_alone task) plain_others task.environment task.name task.text
 

@@ -34,12 +34,12 @@ task_of limits failures environment name =
 abbrev pub unheard : Task → Task
 unheard task = record task { written = Dropped }
 
--- what the text comes to with the outcomes of a word
+-- the result of the text with the outcomes of a word
 abbrev pub run_on : Task → OutcomeWord → Answer
 run_on task w = run_text task.limits (exec task.limits task.limits.step_bound) task.name task.text
     (start task.written task.environment w)
 
--- the state that an answer comes to
+-- the state that an answer reaches
 abbrev pub state_of : Answer → State
 state_of (Normal s) = s
 state_of (Exit s) = s

@@ -64,7 +64,7 @@ rest_less task w r b =
     let f = few_runs task b in
     omega arith
 
--- whether the run that the walk comes to is allowed
+-- whether the run that the walk reaches is allowed
 pub allowed_at : (task : Task) (text all : Text) (halt : Halt) (old new : Record) (devices : Devices) (most : Option ℕ) (count : ℕ) → devices ≡ task.limits.devices → most ≡ task.failures → count ≡ length (unexpected_of devices (asked_in new.present.log))
     → WalksTo task text all (outcomes all) (walked.Ends halt) old new → is_at_most most count ≡ is_allowed task (outcomes all)
 allowed_at task text all halt old new devices most count d m n h =

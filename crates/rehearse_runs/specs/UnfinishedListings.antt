@@ -1,4 +1,4 @@
--- What is written of a listing that does not come to its end. Ours.
+-- What is written of a listing that does not end. Ours.
 use Rattle.std.specs.Prelude.{◌≡◌, ◌++◌, List}
 use Rattle.std.specs.List.{flat_map}
 use Rattle.output.specs.Sink.{Sink, Wrote, BrokeOff}

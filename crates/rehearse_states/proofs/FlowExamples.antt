@@ -1,4 +1,4 @@
--- Worked examples, computed: a flow and its lines, and what walks through it see, compared with what the runs come to.
+-- Worked examples, computed: a flow and its lines, and what walks through it see, compared with the result of the runs.
 use Rattle.std.proofs.Common.{[], ◌∷◌, List, codes, refl, ◌≡◌, None, Some, true, false}
 use Rattle.std.specs.Fmt.{digits}
 use Rattle.hushlang.specs.Expansion.{fields, joined, atoms}

@@ -1,4 +1,4 @@
--- What `==` says of scripts. A derived `==` of types that hold each other is what a step comes to (`the_step`), which
+-- What `==` says of scripts. A derived `==` of types that hold each other is the result of a step (`the_step`), which
 -- compares one level and asks for what is below it. The step leaves the comparison by what trees say as it is, so the two
 -- are the same.
 use Rattle.std.proofs.Common.{ℕ, suc, zero, ◌+◌, ◌<◌, Bool, true, false, ◌&&◌, ◌==◌, List, [], ◌∷◌, map, Option, Some, None, refl, sym, ap, ◌∙◌, ◌≡◌, arith}

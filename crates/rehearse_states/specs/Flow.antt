@@ -66,7 +66,7 @@ seen_of answer = record {
   log = asked_in (state_of answer).log;
 }
 
--- the walk from the first node by any word sees what the run comes to
+-- the walk from the first node by any word sees the result of the run
 abbrev pub IsFlow : Task → List Node → Type 0
 IsFlow task nodes = (w : OutcomeWord) → walk (numbered nodes) w 1 ≡ seen_of (run_on task w)
 

@@ -96,7 +96,7 @@ impl TextReading {
         self.read_strict(byte)
     }
 
-    /// Adds what a backslash and the byte behind it come to.
+    /// Adds the result of a backslash and the byte behind it.
     fn push_escaped(&mut self, byte: u8) -> Result<(), AllocError>
         ensures { OnOk result (shown.reading self.new
             ≡ says.with_bytes (says.escaped self.old.double byte) (shown.reading self.old)) }
