@@ -54,6 +54,8 @@ void (*signal(int number, void (*handler)(int)))(int);
 enum {
 	LONGEST_WORD = 1001, LARGEST_TEXT = 0x40000, LARGEST_NAME = 256, SECONDS = 20, BAD_ADDRESS = 11,
 	MOST_LINES = 800, MOST_WORDS = 24,
+	/* As far as U-Boot looks for the end of a text that it imports, and more. */
+	IMPORT_ROOM = 0x200000,
 	/* The greatest CONFIG_SYS_MAXARGS of a board. */
 	MOST_ARGUMENTS = 64
 };
@@ -412,28 +414,33 @@ static struct {
 
 /*
  * Imports the text of a file by U-Boot's `env import`: with the flags and the names of the call, if it is one of `env import`, and
- * with the address and the size of the text in place of its own.
+ * with the address and the size of the text in place of its own. If that call has no size, or `-`, there is none, and the memory
+ * behind the text is empty.
  */
 static void import_file(const char *file, int argc, char *const argv[])
 {
 	char name[LARGEST_NAME], address[20], length[20], *words[MOST_ARGUMENTS + 4] = { "env", "import" }, *content;
 	int size, i = 1, count = 2, past, env = 0;
+	bool sized = true;
 
 	snprintf(name, sizeof(name), "%d.files/%s", image_number, file);
 	content = text_of(name, &size);
 	if (!content)
 		fail(name);
+	memset(map_sysmem(IMPORT_ADDRESS, IMPORT_ROOM), 0, IMPORT_ROOM);
 	memcpy(map_sysmem(IMPORT_ADDRESS, size), content, size);
 	free(content);
-	if (argc > 1 && !strcmp(argv[1], "import"))
+	if (argc > 1 && !strcmp(argv[1], "import")) {
 		while (++i < argc && *argv[i] == '-')
 			words[count++] = argv[i];
+		sized = i + 1 < argc && strcmp(argv[i + 1], "-");
+	}
 	if (count == 2)
 		words[count++] = "-t";
 	snprintf(address, sizeof(address), "%x", IMPORT_ADDRESS);
 	snprintf(length, sizeof(length), "%x", size);
 	words[count++] = address;
-	words[count++] = length;
+	words[count++] = sized ? length : "-";
 	for (past = i + 2; i > 1 && past < argc; past++)
 		words[count++] = argv[past];
 	while (strcmp(computed[env].command->name, "env"))
@@ -588,6 +595,22 @@ static bool begins_clause(const char *word)
 	       !strcmp(word, "imports") || !strcmp(word, "normal") || strchr(word, '=');
 }
 
+/* A word of a pattern, with the value of its variable in place of `${NAME}`, if that has one. */
+static char *filled(char *word)
+{
+	char made[LARGEST_TEXT], *end = strchr(word, '}'), *value;
+
+	if (strncmp(word, "${", 2) || !end || (end[1] && strcmp(end, "}*")))
+		return word;
+	*end = '\0';
+	value = env_get(word + 2);
+	*end = '}';
+	if (!value || !*value)
+		return word;
+	snprintf(made, sizeof(made), "%s%s", value, end + 1);
+	return strdup(made);
+}
+
 /* Reads the words of a `call` line: its name and pattern, `:`, and what it says of these calls. */
 static void read_call(struct device_line *line, char **at)
 {
@@ -596,7 +619,7 @@ static void read_call(struct device_line *line, char **at)
 	line->call = true;
 	line->name = *at;
 	while (strcmp(*++at, ":"))
-		*pattern++ = *at;
+		*pattern++ = filled(*at);
 	while (*++at) {
 		if (ending_of(*at))
 			line->ends = ending_of(*at);
