@@ -191,6 +191,56 @@ the endings and the causes
   $ ubtool endings --script it.cmd -d list --files card | grep ' booted '
   ends 1 first 000 fewest 0 000 booted booti
 
+Variables in a pattern: with the values with which the rehearsal starts.
+
+the word has the value, also with a star behind it; what the script sets later changes no pattern
+  $ printf 'setenv a ${a}1\n' >card/boot.cmd
+  $ printf 'scriptaddr=0x90\nkernel=0x8\nbootcmd=source $scriptaddr; setenv scriptaddr 1; source 0x90; source 0x85\n' >env.txt
+  $ printf '%s\n' 'call source ${scriptaddr} : runs boot.cmd always 0' 'call source ${kernel}* : always 1' >list
+  $ ubtool rehearse --text env.txt -d list --files card a
+  run .
+  dev 0 source 0x90
+  dev 0 source 0x90
+  dev 1 source 0x85
+  var a=11
+  end 1
+  done
+
+a variable that is not set leaves the word as it is written; parts of a word are no variable
+  $ printf 'n=1\nbootcmd=fetch '\''${none}'\'' && fetch 1x && fetch '\''${n}x'\''\n' >env.txt
+  $ printf '%s\n' 'call fetch ${none} : always 0 a=none' 'call fetch ${n}x : always 0 a=part' 'call fetch * : always 1' >list
+  $ ubtool rehearse --text env.txt -d list a
+  run .
+  dev 0 fetch ${none}
+  dev 1 fetch 1x
+  var a=none
+  end 1
+  done
+
+a value that ends in a star is that value; what the list gives counts
+  $ printf 'n=1\nbootcmd=fetch "2*" && fetch 21\n' >env.txt
+  $ printf '%s\n' 'given n=2*' 'call fetch ${n} : always 0' 'call fetch * : always 1' >list
+  $ ubtool rehearse --text env.txt -d list a | grep dev
+  dev 0 fetch 2*
+  dev 1 fetch 21
+  $ printf '%s\n' 'given n=2*' 'given n=21' 'call fetch ${n} : always 0' 'call fetch * : always 1' >list
+  $ for it in 1 2; do ubtool rehearse --text env.txt -d list --given $it a | grep dev; done
+  dev 0 fetch 2*
+  dev 1 fetch 21
+  dev 1 fetch 2*
+
+the endings and the causes, with all of the list steady too
+  $ printf 'n=1\nbootcmd=fetch 1 || booti\n' >env.txt; printf '%s\n' 'call fetch ${n} : always 1' 'call fetch * : always 0' 'final booti' >list
+  $ ubtool endings --text env.txt -d list
+  ends 1 first 0 fewest 0 0 booted booti
+  ends 1 first 1 fewest 1 1 end 1
+  fails booti
+  all 2 states 1
+  $ ubtool causes --text env.txt -d list --steady --check
+  cause 1 end 1
+  fails booti
+  [1]
+
 Files that cannot be read, and lines that are faulty.
 
 a file that is not there, a link, a pipe, a folder, a way out of the folder

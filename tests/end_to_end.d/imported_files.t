@@ -74,6 +74,30 @@ carriage returns, which -r leaves out; the last value then goes on in bytes that
   end 0
   done
 
+without a size, or with - in its place, an entry begins in the bytes that are there twice, too
+  $ printf 'c=3\r\n\r\na=b\n' >card/uEnv.txt
+  $ sized() { runs "setenv b 2; env import $1" 'call env import ** : imports uEnv.txt always 0' | grep -v '^run\|^end\|^done'; }
+  $ sized '-r 1000 9'
+  dev 0 env import -r 1000 9
+  var a=b
+  var b=2
+  var c=3
+  $ sized '-tr 1000'
+  dev 0 env import -tr 1000
+  var a=b
+  unset b
+  var c=3
+  $ sized '-tr 1000 - a b c'
+  dev 0 env import -tr 1000 - a b c
+  var a=b
+  unset b
+  var c=3
+  $ sized '-t 1000'
+  dev 0 env import -t 1000
+  var a=b
+  var b=2
+  var c=3\x0d
+
 other formats, and a text that is to replace all: nothing is said
   $ env '-b 1000'
   unset a

@@ -59,14 +59,14 @@ each once, in the order in which they are found, and those that files call
   b: ok
   one.cmd: ok
 
-a word that holds a variable is what is written out of it
+a word that holds a variable is what is written out of it, with the variable as ${NAME}
   $ printf 'true\n' >card/boot.cmd
   $ checked 'bootcmd=source $bootcmd' ''
   bootcmd: ok
   boot.cmd: ok
   $ checked 'bootcmd=source 1$bootcmd' ''
   bootcmd: ok
-  one.cmd: ok
+  boot.cmd: ok
 
 a script leads to it, and is no file of the list
   $ printf 'source 5\n' >it.cmd
@@ -120,3 +120,14 @@ a variable that an imported file sets is set, and one that it deletes is not
   bootcmd:1:22: warning: nothing sets b
   fetch; load; echo $a $b $filesize
                        ^
+
+a variable in a pattern, which fits a word that is this variable
+  $ printf 'load\ncall source ${addr} : runs boot.cmd\ncall source ** : always 0\n' >list; printf 'fi\n' >card/boot.cmd
+  $ checked 'bootcmd=source 5; source $other; source 0$addr' addr=5 other=5
+  bootcmd: ok
+  $ checked 'bootcmd=source $addr' addr=5
+  bootcmd: ok
+  boot.cmd:1:1: unexpected token
+  fi
+  ^
+  [1]
