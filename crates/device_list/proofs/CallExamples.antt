@@ -60,8 +60,8 @@ ends_once : map (λ line. listed line) (codes "call go : restart" ∷ codes "cal
 ends_once = refl
 
 in_any_order : map (λ line. listed line) (codes "call go ** : final a=1 steady" ∷ codes "call go ** : steady final a=1" ∷ [])
-    ≡ Ok (one (codes "go") any (record { ends = Some Boots; stays = true; always = None; needs = []; normal = false; runs = None; sets = (Variable (codes "a"), Literal (codes "1")) ∷ [] }))
-    ∷ Ok (one (codes "go") any (record { ends = Some Boots; stays = true; always = None; needs = []; normal = false; runs = None; sets = (Variable (codes "a"), Literal (codes "1")) ∷ [] })) ∷ []
+    ≡ Ok (one (codes "go") any (record { ends = Some Boots; stays = true; always = None; needs = []; normal = false; runs = []; sets = (Variable (codes "a"), Literal (codes "1")) ∷ [] }))
+    ∷ Ok (one (codes "go") any (record { ends = Some Boots; stays = true; always = None; needs = []; normal = false; runs = []; sets = (Variable (codes "a"), Literal (codes "1")) ∷ [] })) ∷ []
 in_any_order = refl
 
 always_succeeds : listed (codes "call pci enum : always 0") ≡ Ok (one (codes "pci") (record { words = Exactly (codes "enum") ∷ []; more = false }) (record quiet { always = Some true }))
@@ -76,8 +76,8 @@ other_status = refl
 
 -- what follows the status is the next clause, before other clauses and after them
 after_the_status : map (λ line. listed line) (codes "call usb ** : always 0 a=1 final" ∷ codes "call usb ** : final a=1 always 0" ∷ [])
-    ≡ Ok (one (codes "usb") any (record { ends = Some Boots; stays = false; always = Some true; needs = []; normal = false; runs = None; sets = (Variable (codes "a"), Literal (codes "1")) ∷ [] }))
-    ∷ Ok (one (codes "usb") any (record { ends = Some Boots; stays = false; always = Some true; needs = []; normal = false; runs = None; sets = (Variable (codes "a"), Literal (codes "1")) ∷ [] })) ∷ []
+    ≡ Ok (one (codes "usb") any (record { ends = Some Boots; stays = false; always = Some true; needs = []; normal = false; runs = []; sets = (Variable (codes "a"), Literal (codes "1")) ∷ [] }))
+    ∷ Ok (one (codes "usb") any (record { ends = Some Boots; stays = false; always = Some true; needs = []; normal = false; runs = []; sets = (Variable (codes "a"), Literal (codes "1")) ∷ [] })) ∷ []
 after_the_status = refl
 
 -- ---- `needs`
@@ -291,6 +291,7 @@ rescan = record {
   calls = (codes "mmc", (record { words = Exactly (codes "dev") ∷ Exactly (codes "0") ∷ []; more = false }, record quiet { always = Some true }) ∷ (record { words = Exactly (codes "dev") ∷ []; more = true }, record quiet { ends = Some Boots }) ∷ (record { words = Exactly (codes "dev") ∷ Exactly (codes "1") ∷ []; more = false }, quiet) ∷ []) ∷ [];
   known = [];
   test_stays = false;
+  choices = [];
   files = [];
 }
 
@@ -333,6 +334,7 @@ steady_lines : all_steady rescan ≡ record {
   calls = (codes "mmc", (record { words = Exactly (codes "dev") ∷ Exactly (codes "0") ∷ []; more = false }, record quiet { always = Some true }) ∷ (record { words = Exactly (codes "dev") ∷ []; more = true }, record quiet { ends = Some Boots; stays = true }) ∷ (record { words = Exactly (codes "dev") ∷ Exactly (codes "1") ∷ []; more = false }, record quiet { stays = true }) ∷ []) ∷ [];
   known = [];
   test_stays = true;
+  choices = [];
   files = [];
 }
 steady_lines = refl

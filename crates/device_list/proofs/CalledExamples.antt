@@ -10,7 +10,7 @@ abbrev word : Text → List Text
 word text = text ∷ []
 
 abbrev with_env : Devices
-with_env = record { commands = (codes "env", quiet) ∷ (codes "itest", quiet) ∷ []; subs = []; calls = []; known = codes "env" ∷ []; test_stays = false; files = [] }
+with_env = record { commands = (codes "env", quiet) ∷ (codes "itest", quiet) ∷ []; subs = []; calls = []; known = codes "env" ∷ []; test_stays = false; choices = []; files = [] }
 
 -- a call whose words cannot be computed goes by the lines of its name, as does a command that is not computed
 by_the_line : called_by with_env (codes "env") (codes "default" ∷ word (codes "-a")) ≡ Device quiet

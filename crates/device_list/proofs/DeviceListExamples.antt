@@ -9,13 +9,13 @@ use Rattle.device_list.specs.PlainList.{plain_names}
 use Rattle.device_list.specs.declared.devices_error.DevicesError.TheVariants.{BadLine, BuiltIn, ByteOrderMark}
 
 abbrev quiet : Effect
-quiet = record { ends = None; stays = false; always = None; needs = []; normal = false; runs = None; sets = [] }
+quiet = record { ends = None; stays = false; always = None; needs = []; normal = false; runs = []; sets = [] }
 
 abbrev steady : Effect
-steady = record { ends = None; stays = true; always = None; needs = []; normal = false; runs = None; sets = [] }
+steady = record { ends = None; stays = true; always = None; needs = []; normal = false; runs = []; sets = [] }
 
 abbrev final : Effect
-final = record { ends = Some Boots; stays = false; always = None; needs = []; normal = false; runs = None; sets = [] }
+final = record { ends = Some Boots; stays = false; always = None; needs = []; normal = false; runs = []; sets = [] }
 
 -- ---- names, comments and empty lines
 
@@ -125,7 +125,7 @@ plain_built_in = refl
 command_final : listed (codes "final") ≡ Ok (only ((codes "final", quiet) ∷ []))
 command_final = refl
 
-final_sets : listed (codes "final a=b") ≡ Ok (only ((codes "final", record { ends = None; stays = false; always = None; needs = []; normal = false; runs = None; sets = (Variable (codes "a"), Literal (codes "b")) ∷ [] }) ∷ []))
+final_sets : listed (codes "final a=b") ≡ Ok (only ((codes "final", record { ends = None; stays = false; always = None; needs = []; normal = false; runs = []; sets = (Variable (codes "a"), Literal (codes "b")) ∷ [] }) ∷ []))
 final_sets = refl
 
 x_is_final : listed (codes "final x") ≡ Ok (only ((codes "x", final) ∷ []))
@@ -134,7 +134,7 @@ x_is_final = refl
 final_is_final : listed (codes "final final") ≡ Ok (only ((codes "final", final) ∷ []))
 final_is_final = refl
 
-x_is_final_and_sets : listed (codes "final x a=1") ≡ Ok (only ((codes "x", record { ends = Some Boots; stays = false; always = None; needs = []; normal = false; runs = None; sets = (Variable (codes "a"), Literal (codes "1")) ∷ [] }) ∷ []))
+x_is_final_and_sets : listed (codes "final x a=1") ≡ Ok (only ((codes "x", record { ends = Some Boots; stays = false; always = None; needs = []; normal = false; runs = []; sets = (Variable (codes "a"), Literal (codes "1")) ∷ [] }) ∷ []))
 x_is_final_and_sets = refl
 
 -- ---- commands that restart the board, or halt it
@@ -220,10 +220,10 @@ final_steady_test = refl
 -- ---- settings
 
 -- lines of one name are joined
-joined_lines : listed (codes "load a=1\nfinal load\nload a=2") ≡ Ok (only ((codes "load", record { ends = Some Boots; stays = false; always = None; needs = []; normal = false; runs = None; sets = (Variable (codes "a"), Literal (codes "1")) ∷ (Variable (codes "a"), Literal (codes "2")) ∷ [] }) ∷ []))
+joined_lines : listed (codes "load a=1\nfinal load\nload a=2") ≡ Ok (only ((codes "load", record { ends = Some Boots; stays = false; always = None; needs = []; normal = false; runs = []; sets = (Variable (codes "a"), Literal (codes "1")) ∷ (Variable (codes "a"), Literal (codes "2")) ∷ [] }) ∷ []))
 joined_lines = refl
 
-boot_list : listed (codes "load filesize=1000\nfinal bootm\n") ≡ Ok (only ((codes "load", record { ends = None; stays = false; always = None; needs = []; normal = false; runs = None; sets = (Variable (codes "filesize"), Literal (codes "1000")) ∷ [] }) ∷ (codes "bootm", final) ∷ []))
+boot_list : listed (codes "load filesize=1000\nfinal bootm\n") ≡ Ok (only ((codes "load", record { ends = None; stays = false; always = None; needs = []; normal = false; runs = []; sets = (Variable (codes "filesize"), Literal (codes "1000")) ∷ [] }) ∷ (codes "bootm", final) ∷ []))
 boot_list = refl
 
 word_without_equals : listed (codes "load x") ≡ Err (BadLine 1)
@@ -237,13 +237,13 @@ setting_with_dash = refl
 
 -- a name may hold a `-`, but not start with one
 name_with_dash : listed (codes "load fdt-file=1")
-    ≡ Ok (only ((codes "load", record { ends = None; stays = false; always = None; needs = []; normal = false; runs = None; sets = (Variable (codes "fdt-file"), Literal (codes "1")) ∷ [] }) ∷ []))
+    ≡ Ok (only ((codes "load", record { ends = None; stays = false; always = None; needs = []; normal = false; runs = []; sets = (Variable (codes "fdt-file"), Literal (codes "1")) ∷ [] }) ∷ []))
 name_with_dash = refl
 
-empty_value : listed (codes "load a=") ≡ Ok (only ((codes "load", record { ends = None; stays = false; always = None; needs = []; normal = false; runs = None; sets = (Variable (codes "a"), Literal []) ∷ [] }) ∷ []))
+empty_value : listed (codes "load a=") ≡ Ok (only ((codes "load", record { ends = None; stays = false; always = None; needs = []; normal = false; runs = []; sets = (Variable (codes "a"), Literal []) ∷ [] }) ∷ []))
 empty_value = refl
 
-first_equals : listed (codes "load\ta=b=c") ≡ Ok (only ((codes "load", record { ends = None; stays = false; always = None; needs = []; normal = false; runs = None; sets = (Variable (codes "a"), Literal (codes "b=c")) ∷ [] }) ∷ []))
+first_equals : listed (codes "load\ta=b=c") ≡ Ok (only ((codes "load", record { ends = None; stays = false; always = None; needs = []; normal = false; runs = []; sets = (Variable (codes "a"), Literal (codes "b=c")) ∷ [] }) ∷ []))
 first_equals = refl
 
 name_with_equals : listed (codes "=x") ≡ Ok (only ((codes "=x", quiet) ∷ []))
@@ -262,16 +262,16 @@ first_fault = refl
 -- ---- the calls of a command
 
 abbrev sub_list : Text → Text → Effect → Devices
-sub_list name word effect = record { commands = []; subs = (name, (word, effect) ∷ []) ∷ []; calls = []; known = []; test_stays = false; files = [] }
+sub_list name word effect = record { commands = []; subs = (name, (word, effect) ∷ []) ∷ []; calls = []; known = []; test_stays = false; choices = []; files = [] }
 
 sub_line : listed (codes "sub part list") ≡ Ok (sub_list (codes "part") (codes "list") quiet)
 sub_line = refl
 
-final_sub_line : listed (codes "final sub mmc boot a=1") ≡ Ok (sub_list (codes "mmc") (codes "boot") (record { ends = Some Boots; stays = false; always = None; needs = []; normal = false; runs = None; sets = (Variable (codes "a"), Literal (codes "1")) ∷ [] }))
+final_sub_line : listed (codes "final sub mmc boot a=1") ≡ Ok (sub_list (codes "mmc") (codes "boot") (record { ends = Some Boots; stays = false; always = None; needs = []; normal = false; runs = []; sets = (Variable (codes "a"), Literal (codes "1")) ∷ [] }))
 final_sub_line = refl
 
 -- the variable that a word of the call names
-sets_by_words : listed (codes "sub part list @last=1 @4= a@1=2") ≡ Ok (sub_list (codes "part") (codes "list") (record { ends = None; stays = false; always = None; needs = []; normal = false; runs = None; sets = (LastWord, Literal (codes "1")) ∷ (WordAt 3, Literal []) ∷ (Variable (codes "a@1"), Literal (codes "2")) ∷ [] }))
+sets_by_words : listed (codes "sub part list @last=1 @4= a@1=2") ≡ Ok (sub_list (codes "part") (codes "list") (record { ends = None; stays = false; always = None; needs = []; normal = false; runs = []; sets = (LastWord, Literal (codes "1")) ∷ (WordAt 3, Literal []) ∷ (Variable (codes "a@1"), Literal (codes "2")) ∷ [] }))
 sets_by_words = refl
 
 -- `@` that names no word of the call
@@ -295,13 +295,13 @@ no_word = refl
 command_sub : listed (codes "sub") ≡ Ok (only ((codes "sub", quiet) ∷ []))
 command_sub = refl
 
-command_sub_sets : listed (codes "sub a=1") ≡ Ok (only ((codes "sub", record { ends = None; stays = false; always = None; needs = []; normal = false; runs = None; sets = (Variable (codes "a"), Literal (codes "1")) ∷ [] }) ∷ []))
+command_sub_sets : listed (codes "sub a=1") ≡ Ok (only ((codes "sub", record { ends = None; stays = false; always = None; needs = []; normal = false; runs = []; sets = (Variable (codes "a"), Literal (codes "1")) ∷ [] }) ∷ []))
 command_sub_sets = refl
 
 command_sub_is_final : listed (codes "final sub") ≡ Ok (only ((codes "sub", final) ∷ []))
 command_sub_is_final = refl
 
-at_in_a_line_of_names : listed (codes "load @1=x") ≡ Ok (only ((codes "load", record { ends = None; stays = false; always = None; needs = []; normal = false; runs = None; sets = (Variable (codes "@1"), Literal (codes "x")) ∷ [] }) ∷ []))
+at_in_a_line_of_names : listed (codes "load @1=x") ≡ Ok (only ((codes "load", record { ends = None; stays = false; always = None; needs = []; normal = false; runs = []; sets = (Variable (codes "@1"), Literal (codes "x")) ∷ [] }) ∷ []))
 at_in_a_line_of_names = refl
 
 -- a second word that is no setting, in a line that is no `sub` line
@@ -318,10 +318,11 @@ sub_built_in = refl
 sub_lines_joined : listed (codes "sub part list a=1\npart\nfinal sub part list b=2\nsub part uuid")
     ≡ Ok (record {
       commands = (codes "part", quiet) ∷ [];
-      subs = (codes "part", (codes "list", record { ends = Some Boots; stays = false; always = None; needs = []; normal = false; runs = None; sets = (Variable (codes "a"), Literal (codes "1")) ∷ (Variable (codes "b"), Literal (codes "2")) ∷ [] }) ∷ (codes "uuid", quiet) ∷ []) ∷ [];
+      subs = (codes "part", (codes "list", record { ends = Some Boots; stays = false; always = None; needs = []; normal = false; runs = []; sets = (Variable (codes "a"), Literal (codes "1")) ∷ (Variable (codes "b"), Literal (codes "2")) ∷ [] }) ∷ (codes "uuid", quiet) ∷ []) ∷ [];
       calls = [];
       known = [];
       test_stays = false;
+      choices = [];
       files = [];
     })
 sub_lines_joined = refl
@@ -341,7 +342,7 @@ known_once = refl
 known_line : listed (codes "known env\nknown itest\nknown setexpr") ≡ Ok (record (only []) { known = codes "env" ∷ codes "itest" ∷ codes "setexpr" ∷ [] })
 known_line = refl
 
-known_beside_its_lines : listed (codes "env\nknown env\nsub env default") ≡ Ok (record { commands = (codes "env", quiet) ∷ []; subs = (codes "env", (codes "default", quiet) ∷ []) ∷ []; calls = []; known = codes "env" ∷ []; test_stays = false; files = [] })
+known_beside_its_lines : listed (codes "env\nknown env\nsub env default") ≡ Ok (record { commands = (codes "env", quiet) ∷ []; subs = (codes "env", (codes "default", quiet) ∷ []) ∷ []; calls = []; known = codes "env" ∷ []; test_stays = false; choices = []; files = [] })
 known_beside_its_lines = refl
 
 -- no other command is computed, and a `known` line has nothing behind the name
@@ -361,13 +362,13 @@ known_final = refl
 command_known : listed (codes "known") ≡ Ok (only ((codes "known", quiet) ∷ []))
 command_known = refl
 
-command_known_sets : listed (codes "known env=1") ≡ Ok (only ((codes "known", record { ends = None; stays = false; always = None; needs = []; normal = false; runs = None; sets = (Variable (codes "env"), Literal (codes "1")) ∷ [] }) ∷ []))
+command_known_sets : listed (codes "known env=1") ≡ Ok (only ((codes "known", record { ends = None; stays = false; always = None; needs = []; normal = false; runs = []; sets = (Variable (codes "env"), Literal (codes "1")) ∷ [] }) ∷ []))
 command_known_sets = refl
 
 -- ---- which lines decide for a call
 
 abbrev parts : Devices
-parts = record { commands = (codes "part", quiet) ∷ []; subs = (codes "part", (codes "list", final) ∷ []) ∷ (codes "mmc", (codes "dev", final) ∷ []) ∷ []; calls = []; known = []; test_stays = false; files = [] }
+parts = record { commands = (codes "part", quiet) ∷ []; subs = (codes "part", (codes "list", final) ∷ []) ∷ (codes "mmc", (codes "dev", final) ∷ []) ∷ []; calls = []; known = []; test_stays = false; choices = []; files = [] }
 
 by_its_sub_line : effect_of parts (codes "part") (codes "list" ∷ codes "mmc" ∷ []) ≡ Some final
 by_its_sub_line = refl

@@ -22,7 +22,7 @@ one effect = record (with_files card) { calls = (codes "source", (record { words
 
 -- ---- the clause
 
-runs_a_file : listed_with card (codes "call source ** : runs boot.scr") ≡ Ok (one (record quiet { runs = Some (codes "boot.scr") }))
+runs_a_file : listed_with card (codes "call source ** : runs boot.scr") ≡ Ok (one (record quiet { runs = codes "boot.scr" ∷ [] }))
 runs_a_file = refl
 
 -- no file, another one, and none at all
@@ -36,10 +36,10 @@ runs_once : map (λ line. listed_with card line) (codes "call source ** : runs b
 runs_once = refl
 
 among_others : map (λ line. listed_with card line) (codes "call source ** : steady runs b.scr a=1" ∷ codes "call source ** : a=1 runs b.scr steady" ∷ [])
-    ≡ Ok (one (record quiet { stays = true; runs = Some (codes "b.scr"); sets = (Variable (codes "a"), Literal (codes "1")) ∷ [] })) ∷ Ok (one (record quiet { stays = true; runs = Some (codes "b.scr"); sets = (Variable (codes "a"), Literal (codes "1")) ∷ [] })) ∷ []
+    ≡ Ok (one (record quiet { stays = true; runs = codes "b.scr" ∷ []; sets = (Variable (codes "a"), Literal (codes "1")) ∷ [] })) ∷ Ok (one (record quiet { stays = true; runs = codes "b.scr" ∷ []; sets = (Variable (codes "a"), Literal (codes "1")) ∷ [] })) ∷ []
 among_others = refl
 
-behind_needs : listed_with card (codes "call source ** : needs load runs b.scr") ≡ Ok (one (record quiet { needs = codes "load" ∷ []; runs = Some (codes "b.scr") }))
+behind_needs : listed_with card (codes "call source ** : needs load runs b.scr") ≡ Ok (one (record quiet { needs = codes "load" ∷ []; runs = codes "b.scr" ∷ [] }))
 behind_needs = refl
 
 -- only lines of calls have it
@@ -55,7 +55,7 @@ texts = refl
 first_of_two : file_in (with_files ((codes "a", plain (codes "1")) ∷ (codes "a", plain (codes "2")) ∷ [])) (codes "a") ≡ Some (codes "1")
 first_of_two = refl
 
-steady_files : all_steady (one (record quiet { runs = Some (codes "b.scr") })) ≡ record (one (record quiet { stays = true; runs = Some (codes "b.scr") })) { test_stays = true }
+steady_files : all_steady (one (record quiet { runs = codes "b.scr" ∷ [] })) ≡ record (one (record quiet { stays = true; runs = codes "b.scr" ∷ [] })) { test_stays = true }
 steady_files = refl
 
 -- ---- the files that a list names

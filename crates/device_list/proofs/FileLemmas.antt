@@ -1,5 +1,5 @@
 -- Lists that name no file: which files there are changes nothing.
-use Rattle.std.proofs.Common.{◌≡◌, ℕ, Bool, true, false, cond, List, [], ◌∷◌, ◌++◌, Option, Some, None, Result, Ok, Err, codes, length, not, ◌==◌, take, drop, ◌+◌, refl, sym, ap, subst, ◌∙◌}
+use Rattle.std.proofs.Common.{◌≡◌, ℕ, Bool, true, false, cond, List, [], ◌∷◌, ◌++◌, Option, Some, None, Result, Ok, Err, codes, length, nat_eq, not, ◌==◌, take, drop, ◌+◌, refl, sym, ap, subst, ◌∙◌}
 use Rattle.std.specs.Str.{bytes_eq}
 use Rattle.std.specs.List.{list_any, position}
 use Rattle.std.specs.Option.{option_map}
@@ -14,9 +14,8 @@ use Rattle.device_list.specs.Finishes.{finish_named}
 use Rattle.device_list.specs.declared.finish.BoardEnd.{BoardEnd}
 use Rattle.device_list.specs.Quotes.{unquoted}
 use Rattle.text.specs.Words.{is_equals}
-use Rattle.device_list.specs.CallLines.{Clauses, Call, Files, Pattern, has_answer, is_decided, is_plain, once, with_finish, with_first_word, with_needed, with_new, with_setting, no_clause, pattern_of, taken, with_clause, clauses_of, call_with, call_between, call_parts, call_line, call_said, absent_words, is_call, is_of_test, has_quote, lacks_colon, colon_place}
-use Rattle.device_list.specs.DeviceList.{Effect, Devices, DeviceLine, only, with_files, with_known, after_known, after_call, after_words, after_line, listed_lines, joined_by, device_words, begins_comment, known_named, is_steady_test, line_of, heading_of}
-use Rattle.device_list.specs.Quotes.{quoted_words}
+use Rattle.device_list.specs.CallLines.{Clauses, Call, Files, Pattern, has_answer, is_decided, is_plain, once, with_finish, with_first_word, with_needed, with_new, with_setting, no_clause, pattern_of, taken, with_clause, clauses_of, call_with, call_between, call_parts, call_line, call_said, words_said, is_call, is_of_test, has_quote, lacks_colon, colon_place}
+use Rattle.device_list.specs.DeviceList.{Effect, Devices, DeviceLine, only, with_files, with_known, after_known, is_or, further_in, goes_on, with_or, after_call, after_words, after_line, listed_lines, joined_by, device_words, begins_comment, known_named, is_steady_test, line_of, heading_of, most_choices, with_choice}
 use Rattle.device_list.specs.DeviceLaws.{FilesChangeNothing}
 use Rattle.device_list.proofs.JoinedLines.{ok-same}
 use Rattle.device_list.proofs.MarkLemmas.{unmarked, lines_of}
@@ -155,17 +154,31 @@ module _ (files : Files) where
   abbrev IsBeside : Result Devices DevicesError → (next : Devices) → Type 0
   IsBeside r next = (next.files ≡ []) × (r ≡ Ok (beside next))
 
-  call-same : (devices : Devices) (without : devices.files ≡ []) (number : ℕ) (line first : Text) (words : List Text) (next : Devices)
-      → after_call devices (call_said [] number line first words) ≡ Ok next → IsBeside (after_call (beside devices) (call_said files number line first words)) next
-  call-same devices without number line first words next e = by (call_said [] number line first words) refl e
+  or-same : (devices : Devices) (without : devices.files ≡ []) (number : ℕ) (call : Call) (next : Devices) → with_or devices number call ≡ Ok next → IsBeside (with_or (beside devices) number call) next
+  or-same devices without number call next e = by (further_in devices.calls call) e
     where
-      by : (r : Result Call DevicesError) → call_said [] number line first words ≡ r → after_call devices r ≡ Ok next → IsBeside (after_call (beside devices) (call_said files number line first words)) next
-      by (Err fault) is f = absurd (let g = f in cc)
-      by (Ok call) is f =
-          let same = ok-same f in (
-            sym (ap (λ (d : Devices). d.files) same) ∙ without,
-            ap (after_call (beside devices)) (line-same number (cond (bytes_eq first (codes "call")) (drop 1 (quoted_words line)) (absent_words words)) call is) ∙ ap (λ (d : Devices). Ok (beside d)) same,
-          )
+      by : (o : Option (List (Text × List (Pattern × Effect)) × Text)) → goes_on devices number o ≡ Ok next → IsBeside (goes_on (beside devices) number o) next
+      by None f = absurd (let g = f in cc)
+      by (Some further) f = when (nat_eq (length devices.choices) most_choices) f
+        where
+          when : (b : Bool) → cond b (Err (BadLine number)) (Ok (with_choice (record devices { calls = further.0 }) further.1)) ≡ Ok next
+              → IsBeside (cond b (Err (BadLine number)) (Ok (with_choice (record (beside devices) { calls = further.0 }) further.1))) next
+          when true g = absurd (let x = g in cc)
+          when false g = let same = ok-same g in (sym (ap (λ (d : Devices). d.files) same) ∙ without, ap (λ (d : Devices). Ok (beside d)) same)
+
+  call-same : (devices : Devices) (without : devices.files ≡ []) (number : ℕ) (line first : Text) (words : List Text) (next : Devices)
+      → after_call devices number (is_or first) (call_said [] number line first words) ≡ Ok next → IsBeside (after_call (beside devices) number (is_or first) (call_said files number line first words)) next
+  call-same devices without number line first words next e = by (call_said [] number line first words) refl (is_or first) e
+    where
+      after : (or : Bool) (call : Call) → after_call devices number or (Ok call) ≡ Ok next → IsBeside (after_call (beside devices) number or (Ok call)) next
+      after true call f = or-same devices without number call next f
+      after false call f = let same = ok-same f in (sym (ap (λ (d : Devices). d.files) same) ∙ without, ap (λ (d : Devices). Ok (beside d)) same)
+
+      by : (r : Result Call DevicesError) → call_said [] number line first words ≡ r → (or : Bool) → after_call devices number or r ≡ Ok next → IsBeside (after_call (beside devices) number or (call_said files number line first words)) next
+      by (Err fault) is or f = absurd (let g = f in cc)
+      by (Ok call) is or f =
+          let beside_it = after or call f in
+          (beside_it.0, ap (after_call (beside devices) number or) (line-same number (words_said line first words) call is) ∙ beside_it.1)
 
   joined-same : (devices : Devices) (name : Text) (word : Option Text) (more : Effect) → (let d : Devices = joined_by devices name word more in (d.files ≡ devices.files) × (joined_by (beside devices) name word more ≡ beside d))
   joined-same devices name None more = (refl, refl)
@@ -199,7 +212,7 @@ module _ (files : Files) where
     where
       read : Files → Devices → (comment nul call : Bool) → Result Devices DevicesError
       read given d comment nul call =
-          cond comment (Ok d) (cond nul (Err (BadLine number)) (cond call (after_call d (call_said given number line first words))
+          cond comment (Ok d) (cond nul (Err (BadLine number)) (cond call (after_call d number (is_or first) (call_said given number line first words))
           (after_known d (known_named first words) (is_steady_test first words) (line_of number (heading_of first words)))))
 
       by : (comment nul call : Bool) → read [] devices comment nul call ≡ Ok next → IsBeside (read files (beside devices) comment nul call) next

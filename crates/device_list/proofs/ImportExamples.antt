@@ -167,7 +167,7 @@ imports_a_file : map (listed_with card) (codes "call env ** : imports u.txt" ∷
     ∷ Ok (one (codes "env") (record quiet { stays = true; sets = (Variable (codes "b"), Literal (codes "2")) ∷ from_text ∷ (Variable (codes "c"), Literal (codes "3")) ∷ from_text ∷ [] })) ∷ []
 imports_a_file = refl
 
-imports_and_runs : listed_with card (codes "call env ** : needs load imports u.txt runs b.scr") ≡ Ok (one (codes "env") (record quiet { needs = codes "load" ∷ []; runs = Some (codes "b.scr"); sets = from_text ∷ [] }))
+imports_and_runs : listed_with card (codes "call env ** : needs load imports u.txt runs b.scr") ≡ Ok (one (codes "env") (record quiet { needs = codes "load" ∷ []; runs = codes "b.scr" ∷ []; sets = from_text ∷ [] }))
 imports_and_runs = refl
 
 -- no file, an unknown one, an image, and a text with a fault

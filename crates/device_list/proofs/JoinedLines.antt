@@ -1,5 +1,5 @@
 -- The lines of one name, joined one after another.
-use Rattle.std.proofs.Common.{◌≡◌, ℕ, ◌||◌, ◌&&◌, Bool, true, false, cond, List, [], ◌∷◌, ◌++◌, map, Option, Some, None, Result, Ok, Err, refl, sym, ap, subst, ◌∙◌, append_assoc, inl, inr}
+use Rattle.std.proofs.Common.{◌≡◌, ℕ, ◌||◌, ◌&&◌, Bool, true, false, cond, List, [], ◌∷◌, ◌++◌, length, map, nat_eq, Option, Some, None, Result, Ok, Err, refl, sym, ap, subst, ◌∙◌, append_assoc, inl, inr}
 use Rattle.std.proofs.lemmas.Bool.{cases_Bool, and_parts}
 use Rattle.std.proofs.lemmas.Grind.{flat_map-append}
 use Rattle.std.proofs.lemmas.List.{append-nil}
@@ -15,7 +15,7 @@ use Rattle.std.proofs.Math.Bool.{or-false}
 use Rattle.text.specs.Lines.{Text}
 use Rattle.text.specs.Words.{has_nul}
 use Rattle.device_list.specs.CallLines.{Call, call_said, is_call}
-use Rattle.device_list.specs.DeviceList.{Effect, Effects, Devices, DeviceLine, effect_at, changed_at, joint_behind, joined_behind, joined_by, joined, only, device_words, begins_comment, heading_of, line_of, known_named, with_known, is_steady_test, with_call, after_call, after_known, after_words, after_line, listed_lines}
+use Rattle.device_list.specs.DeviceList.{Effect, Effects, Devices, DeviceLine, effect_at, changed_at, joint_behind, joined_behind, joined_by, joined, only, device_words, begins_comment, heading_of, line_of, known_named, with_known, is_steady_test, with_call, Pattern, further_in, asking_of, most_choices, with_choice, goes_on, is_or, after_call, after_known, after_words, after_line, listed_lines}
 use Rattle.device_list.specs.Finishes.{first_finish, first_of}
 use Rattle.device_list.specs.declared.finish.BoardEnd.{BoardEnd}
 use Rattle.device_list.proofs.LineLemmas.{known_is_bad, test_is_built_in, calls_are_bad}
@@ -156,14 +156,35 @@ IsWhole-test : (devices : Devices) (before : List DeviceLine) → IsWhole device
 IsWhole-test devices before h name None = h name None
 IsWhole-test devices before h name (Some word) = h name (Some word)
 
+-- or it is asked about one more file
+IsWhole-asking : (devices : Devices) (before : List DeviceLine) (choices : List Text) → IsWhole devices before → IsWhole (record devices { choices = choices }) before
+IsWhole-asking devices before choices h name None = h name None
+IsWhole-asking devices before choices h name (Some word) = h name (Some word)
+
 -- and after a line of calls
-IsWhole-call : (devices next : Devices) (before : List DeviceLine) (line : Result Call DevicesError) → after_call devices line ≡ Ok next → IsWhole devices before → IsWhole next (before ++ [])
-IsWhole-call devices next before (Err fault) e h = absurd (let f = e in cc)
-IsWhole-call devices next before (Ok call) e h = IsWhole-kept (with_call devices call) next before (ok-same e) same
+IsWhole-with : (devices : Devices) (before : List DeviceLine) (calls : List (Text × List (Pattern × Effect))) → IsWhole devices before → IsWhole (record devices { calls = calls }) before
+IsWhole-with devices before calls h name None = h name None
+IsWhole-with devices before calls h name (Some word) = h name (Some word)
+
+-- or of `or`
+IsWhole-or : (devices next : Devices) (before : List DeviceLine) (number : ℕ) (further : Option (List (Text × List (Pattern × Effect)) × Text)) → goes_on devices number further ≡ Ok next → IsWhole devices before → IsWhole next (before ++ [])
+IsWhole-or devices next before number None e h = absurd (let f = e in cc)
+IsWhole-or devices next before number (Some further) e h = by (nat_eq (length devices.choices) most_choices) e
   where
-    same : IsWhole (with_call devices call) before
-    same name None = h name None
-    same name (Some word) = h name (Some word)
+    lines : Devices
+    lines = record devices { calls = further.0 }
+
+    by : (b : Bool) → cond b (Err (BadLine number)) (Ok (with_choice lines further.1)) ≡ Ok next → IsWhole next (before ++ [])
+    by true f = absurd (let g = f in cc)
+    by false f =
+        let asked : Devices = with_choice lines further.1 in
+        IsWhole-kept asked next before (ok-same f) (IsWhole-with (asking_of lines further.1) before asked.calls (IsWhole-asking lines before (lines.choices ++ further.1 ∷ []) (IsWhole-with devices before further.0 h)))
+
+IsWhole-call : (devices next : Devices) (before : List DeviceLine) (number : ℕ) (or : Bool) (line : Result Call DevicesError) → after_call devices number or line ≡ Ok next → IsWhole devices before → IsWhole next (before ++ [])
+IsWhole-call devices next before number or (Err fault) e h = absurd (let f = e in cc)
+IsWhole-call devices next before number true (Ok call) e h = IsWhole-or devices next before number (further_in devices.calls call) e h
+IsWhole-call devices next before number false (Ok call) e h =
+    let called : Devices = with_call devices call in IsWhole-kept called next before (ok-same e) (IsWhole-with devices before called.calls h)
 
 -- one more line
 IsWhole-words : (devices next : Devices) (before : List DeviceLine) (number : ℕ) (line : Text) (words : List Text) → after_words devices number line words ≡ Ok next
@@ -173,11 +194,11 @@ IsWhole-words devices next before number line (first ∷ words) e h =
     by (known_named first words) refl (is_steady_test first words) refl (begins_comment first) (has_nul line) (is_call first words) refl (line_of number (heading_of first words)) refl e
   where
     by : (o : Option Text) → known_named first words ≡ o → (test : Bool) → is_steady_test first words ≡ test → (comment nul call : Bool) → is_call first words ≡ call → (r : Result DeviceLine DevicesError) → line_of number (heading_of first words) ≡ r
-        → cond comment (Ok devices) (cond nul (Err (BadLine number)) (cond call (after_call devices (call_said devices.files number line first words)) (after_known devices o test r))) ≡ Ok next
+        → cond comment (Ok devices) (cond nul (Err (BadLine number)) (cond call (after_call devices number (is_or first) (call_said devices.files number line first words)) (after_known devices o test r))) ≡ Ok next
         → IsWhole next (before ++ with_said (cond comment None (result_ok r)) [])
     by o is test at true nul call called r line_is e = IsWhole-kept devices next before (ok-same e) h
     by o is test at false true call called r line_is e = cc
-    by o is test at false false true called (Err fault) line_is e = IsWhole-call devices next before (call_said devices.files number line first words) e h
+    by o is test at false false true called (Err fault) line_is e = IsWhole-call devices next before number (is_or first) (call_said devices.files number line first words) e h
     by o is test at false false true called (Ok one) line_is e = absurd (let bad = sym (calls_are_bad number first words called) ∙ line_is in cc)
     by None is false at false false false called (Err fault) line_is e = cc
     by None is false at false false false called (Ok one) line_is e = IsWhole-next devices next before one (ok-same e) h

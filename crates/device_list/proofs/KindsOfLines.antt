@@ -9,7 +9,7 @@ use Rattle.text.specs.Lines.{numbered_lines}
 use Rattle.text.specs.Words.{has_nul, is_equals}
 use Rattle.text.specs.Lines.{Text}
 use Rattle.device_list.specs.CallLines.{call_said, is_call}
-use Rattle.device_list.specs.DeviceList.{Devices, DeviceLine, Heading, named, call_of, steady_of, finish_before, finishing, heading_of, line_of, with_line, after_call, with_known, known_named, is_steady_test, after_known, device_words, begins_comment, after_words, after_line, only, is_marked, listed_lines}
+use Rattle.device_list.specs.DeviceList.{Devices, DeviceLine, Heading, named, call_of, steady_of, finish_before, finishing, heading_of, line_of, with_line, is_or, after_call, with_known, known_named, is_steady_test, after_known, device_words, begins_comment, after_words, after_line, only, is_marked, listed_lines}
 use Rattle.device_list.specs.Kinds.{Kind, Settings, Final, Stops, Sub, Known, Steady, Calls, every_kind, kind_of, ends_by, has, has_words, uses, kinds_said, uses_only, call_among, steady_among, finish_among, finishing_among, heading_among, said_among, words_among, line_among, lines_among, LinesGoByKinds, ListsGoByKinds, FurtherKindsChangeNothing, KindsAreAll}
 use Rattle.device_list.specs.declared.finish.BoardEnd.{BoardEnd}
 use Rattle.device_list.specs.declared.finish.BoardEnd.TheVariants.{Boots, Restarts, Halts}
@@ -242,7 +242,7 @@ module _ (kinds : List Kind) where
     read_other first words = after_known devices (cond (has kinds Known) (known_named first words) None) (has kinds Steady && is_steady_test first words) (said first words)
 
     abbrev calls_of : (line first : Text) → List Text → Result Devices DevicesError
-    calls_of line first words = after_call devices (call_said devices.files number line first words)
+    calls_of line first words = after_call devices number (is_or first) (call_said devices.files number line first words)
 
     -- a line of calls
     calls-kinds : (line first : Text) (words : List Text) → is_call first words ≡ true → cond (has kinds Calls && true) (calls_of line first words) (read_other first words) ≡ cond (has kinds Calls && true) (calls_of line first words) refused

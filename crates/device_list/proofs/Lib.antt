@@ -5,6 +5,7 @@ mod CalledExamples
 mod CallExamples
 mod FileExamples
 mod ImportExamples
+mod OrExamples
 mod FilledExamples
 pub mod MarkLemmas
 pub mod ImportLemmas
@@ -20,4 +21,5 @@ pub mod SteadyLemmas
 pub mod WordLemmas
 pub mod QuoteLemmas
 pub mod FileLemmas
+pub mod FurtherLemmas
 pub mod FilledLemmas

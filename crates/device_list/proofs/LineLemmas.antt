@@ -157,25 +157,36 @@ IsCallLine first words = (first ≡ codes "call") × (list_any is_colon words �
 abbrev IsAbsentLine : Text → List Text → Type 0
 IsAbsentLine first words = (first ≡ codes "absent") × ((name : Text) × ((words ≡ name ∷ []) × (list_any is_equals name ≡ false)))
 
-call_is : (first : Text) (words : List Text) → is_call first words ≡ true → IsCallLine first words ⊎ IsAbsentLine first words
+abbrev IsOrLine : Text → List Text → Type 0
+IsOrLine first words = (first ≡ codes "or") × ((rest : List Text) × (words ≡ codes "call" ∷ rest))
+
+call_is : (first : Text) (words : List Text) → is_call first words ≡ true → IsCallLine first words ⊎ (IsAbsentLine first words ⊎ IsOrLine first words)
 call_is first [] e = absurd (let f = e in cc)
-call_is first (word ∷ words) e = by (bytes_eq first (codes "call")) refl e
+call_is first (word ∷ words) e = by (bytes_eq first (codes "call")) refl (bytes_eq first (codes "or")) refl e
   where
     lone : (ws : List Text) → is_lone word ws ≡ true → (name : Text) × ((word ∷ ws ≡ name ∷ []) × (list_any is_equals name ≡ false))
     lone [] f = (word, (refl, is_false (list_any is_equals word) f))
     lone (w ∷ ws) f = absurd (let g = f in cc)
 
-    by : (b : Bool) → bytes_eq first (codes "call") ≡ b → cond b (list_any is_colon (word ∷ words)) (bytes_eq first (codes "absent") && is_lone word words) ≡ true
-        → IsCallLine first (word ∷ words) ⊎ IsAbsentLine first (word ∷ words)
-    by true is f = inl ((bytes_decides first (codes "call")).0 is, f)
-    by false is f =
+    by : (b : Bool) → bytes_eq first (codes "call") ≡ b → (o : Bool) → bytes_eq first (codes "or") ≡ o
+        → cond b (list_any is_colon (word ∷ words)) (cond o (bytes_eq word (codes "call") && list_any is_colon words) (bytes_eq first (codes "absent") && is_lone word words)) ≡ true
+        → IsCallLine first (word ∷ words) ⊎ (IsAbsentLine first (word ∷ words) ⊎ IsOrLine first (word ∷ words))
+    by true is o of f = inl ((bytes_decides first (codes "call")).0 is, f)
+    by false is true of f =
+        let both = and_parts (bytes_eq word (codes "call")) (list_any is_colon words) f in
+        inr (inr ((bytes_decides first (codes "or")).0 of, (words, ap (λ (w : Text). w ∷ words) ((bytes_decides word (codes "call")).0 both.0))))
+    by false is false of f =
         let both = and_parts (bytes_eq first (codes "absent")) (is_lone word words) f in
-        inr ((bytes_decides first (codes "absent")).0 both.0, lone words both.1)
+        inr (inl ((bytes_decides first (codes "absent")).0 both.0, lone words both.1))
 
 call_heading : (words : List Text) → heading_of (codes "call") words ≡ named None false (codes "call") words
 call_heading [] = refl
 call_heading (word ∷ []) = refl
 call_heading (word ∷ second ∷ words) = refl
+
+or_heading : (rest : List Text) → heading_of (codes "or") (codes "call" ∷ rest) ≡ named None false (codes "or") (codes "call" ∷ rest)
+or_heading [] = refl
+or_heading (word ∷ rest) = refl
 
 pub calls_are_bad : (number : ℕ) (first : Text) (words : List Text) → is_call first words ≡ true → line_of number (heading_of first words) ≡ Err (BadLine number)
 calls_are_bad number first words e =
@@ -184,14 +195,22 @@ calls_are_bad number first words e =
           (λ i. line_of number (heading_of (call.0 i) words))
           ∙ ap (line_of number) (call_heading words)
           ∙ ap (line_with number (named None false (codes "call") words)) (colon_sets words call.1)
-      | inr absent ↦
+      | inr (inl absent) ↦
           let bad : line_of number (heading_of (codes "absent") (absent.1.0 ∷ [])) ≡ Err (BadLine number) = named_is_bad number None false (codes "absent") absent.1.0 [] absent.1.1.1 in
           (λ i. line_of number (heading_of (absent.0 i) (absent.1.1.0 i))) ∙ bad
+      | inr (inr further) ↦
+          (λ i. line_of number (heading_of (further.0 i) (further.1.1 i)))
+          ∙ ap (line_of number) (or_heading further.1.0)
+          ∙ named_is_bad number None false (codes "or") (codes "call") further.1.0 refl
     ]
 
 pub calls_are_not_known : (first : Text) (words : List Text) → is_call first words ≡ true → known_named first words ≡ None
 calls_are_not_known first words e =
-    elim (call_is first words e) [ inl call ↦ (λ i. known_named (call.0 i) words) ∙ none (codes "call") words refl | inr absent ↦ (λ i. known_named (absent.0 i) words) ∙ none (codes "absent") words refl ]
+    elim (call_is first words e) [
+      | inl call ↦ (λ i. known_named (call.0 i) words) ∙ none (codes "call") words refl
+      | inr (inl absent) ↦ (λ i. known_named (absent.0 i) words) ∙ none (codes "absent") words refl
+      | inr (inr further) ↦ (λ i. known_named (further.0 i) words) ∙ none (codes "or") words refl
+    ]
   where
     none : (name : Text) (ws : List Text) → bytes_eq name (codes "known") ≡ false → known_named name ws ≡ None
     none name [] f = refl
@@ -200,7 +219,11 @@ calls_are_not_known first words e =
 
 pub calls_are_no_test : (first : Text) (words : List Text) → is_call first words ≡ true → is_steady_test first words ≡ false
 calls_are_no_test first words e =
-    elim (call_is first words e) [ inl call ↦ (λ i. is_steady_test (call.0 i) words) ∙ no (codes "call") words refl | inr absent ↦ (λ i. is_steady_test (absent.0 i) words) ∙ no (codes "absent") words refl ]
+    elim (call_is first words e) [
+      | inl call ↦ (λ i. is_steady_test (call.0 i) words) ∙ no (codes "call") words refl
+      | inr (inl absent) ↦ (λ i. is_steady_test (absent.0 i) words) ∙ no (codes "absent") words refl
+      | inr (inr further) ↦ (λ i. is_steady_test (further.0 i) words) ∙ no (codes "or") words refl
+    ]
   where
     no : (name : Text) (ws : List Text) → bytes_eq name (codes "steady") ≡ false → is_steady_test name ws ≡ false
     no name [] f = refl

@@ -1,5 +1,5 @@
 -- Maps by names, seen as tables.
-use Rattle.std.proofs.Common.{◌≡◌, ◌||◌, Bool, true, false, cond, List, [], ◌∷◌, ◌++◌, map, Option, Some, None, is_some, refl, sym, ap, ◌∙◌}
+use Rattle.std.proofs.Common.{◌≡◌, ◌||◌, Bool, true, false, cond, List, [], ◌∷◌, ◌++◌, map, Option, Some, None, Vec, Global, is_some, refl, sym, ap, ◌∙◌}
 use Rattle.std.specs.Option.{option_map, option_copied}
 use Rattle.std.specs.Borrow.{Bor}
 use Rattle.std.specs.Str.{bytes_eq}
@@ -7,7 +7,7 @@ use Rattle.std.specs.Map.{lookup, set_value}
 use Rattle.std.proofs.lemmas.List.{map-append}
 use Rattle.indexmap.specs.IndexMap.{insert_entry}
 use Rattle.text.specs.Lines.{Text}
-use Rattle.text.specs.TextsShown.{option_items}
+use Rattle.commands.specs.TextsShown.{texts}
 use Rattle.device_list.specs.Finishes.{first_finish}
 use Rattle.device_list.specs.DeviceList.{joint, changed_at}
 use Rattle.device_list.specs.DevicesShown.{Bytes, setting_shown}
@@ -76,10 +76,20 @@ module _ {V S : Type 0} (shown : V → S) where
       let absent : lookup (is_key k.items) es ≡ None = ap (λ n. lookup (is_key n) es) key ∙ sym none in
       ap table inserted ∙ (changed-absent change es k w absent e ∙ ap (changed_at change (table es)) key)
 
+  -- a value that is set
+  pub set-table : (es : List (Bytes × V)) (name : Text) (w : V) → table (set_value (is_key name) es w) ≡ set_value (bytes_eq name) (table es) (shown w)
+  set-table [] name w = refl
+  set-table (d ∷ es) name w = by (bytes_eq name d.0.items) (set-table es name w)
+    where
+      by : (b : Bool) → table (set_value (is_key name) es w) ≡ set_value (bytes_eq name) (table es) (shown w)
+          → table (cond b ((d.0, w) ∷ es) (d ∷ set_value (is_key name) es w)) ≡ cond b ((d.0.items, shown w) ∷ table es) ((d.0.items, shown d.1) ∷ set_value (bytes_eq name) (table es) (shown w))
+      by true rest = refl
+      by false rest = ap (λ ds. (d.0.items, shown d.1) ∷ ds) rest
+
 -- one more line for what is listed
 pub listed-joined : (l w more : Listed) → w.ends ≡ first_finish l.ends more.ends → w.stays ≡ (l.stays || more.stays) → w.always ≡ l.always → w.needs ≡ l.needs → w.normal ≡ l.normal → w.runs ≡ l.runs → w.sets.items ≡ l.sets.items ++ more.sets.items → listed_shown w ≡ joint (listed_shown l) (listed_shown more)
 listed-joined l w more ends stays always needs normal runs sets =
-    let named : option_items w.runs ≡ option_items l.runs = ap option_items runs in
+    let named : texts w.runs.items ≡ texts l.runs.items = ap (λ (v : Vec Bytes Global). texts v.items) runs in
     let shown : map setting_shown w.sets.items ≡ map setting_shown l.sets.items ++ map setting_shown more.sets.items = ap (map setting_shown) sets ∙ map-append setting_shown l.sets.items more.sets.items in cc
 
 -- whether a map has a name

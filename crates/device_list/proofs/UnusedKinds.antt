@@ -11,7 +11,7 @@ use Rattle.text.specs.Lines.{Text}
 use Rattle.text.specs.Words.{has_nul}
 use Rattle.builtins.specs.Builtins.{is_built_in}
 use Rattle.device_list.specs.CallLines.{call_said, is_call}
-use Rattle.device_list.specs.DeviceList.{Effect, Effects, Devices, Setting, DeviceLine, Heading, effect_in, effect_at, line_effect, joint, joint_behind, joined_behind, joined_by, joined, changed_at, only, listed, device_words, begins_comment, heading_of, settings, line_with, line_of, known_named, with_known, is_steady_test, after_known, after_call, after_words, after_line, listed_lines}
+use Rattle.device_list.specs.DeviceList.{Effect, Effects, Devices, Setting, DeviceLine, Heading, effect_in, effect_at, line_effect, joint, joint_behind, joined_behind, joined_by, joined, changed_at, only, listed, device_words, begins_comment, heading_of, settings, line_with, line_of, known_named, with_known, is_steady_test, after_known, is_or, after_call, after_words, after_line, listed_lines}
 use Rattle.device_list.specs.Kinds.{Kind, Settings, Final, Stops, Sub, Known, Steady, Calls, ends_by, may_say, every_kind, same_kind, has, has_words, uses, kinds_said, kinds_of, EachCall, SaysNothing, UnusedKindsSayNothing}
 use Rattle.device_list.specs.Finishes.{first_finish}
 use Rattle.device_list.specs.declared.finish.BoardEnd.{BoardEnd}
@@ -72,7 +72,7 @@ module _ (kind : Kind) (P : Devices → Type 0)
 
       by : (comment nul call : Bool) (o : Option Text) (is_test : Bool) → is_steady_test first words ≡ is_test → (r : Result DeviceLine DevicesError) → line_of number (heading_of first words) ≡ r
           → may_say (cond comment [] (cond call (Calls ∷ []) (cond (is_some o) (Known ∷ []) (filter (uses (heading_of first words)) every_kind)))) kind ≡ false
-          → cond comment (Ok devices) (cond nul (Err (BadLine number)) (cond call (after_call devices (call_said devices.files number line first words)) (after_known devices o is_test r))) ≡ Ok next → P next
+          → cond comment (Ok devices) (cond nul (Err (BadLine number)) (cond call (after_call devices number (is_or first) (call_said devices.files number line first words)) (after_known devices o is_test r))) ≡ Ok next → P next
       by true nul call o is_test at r is without f = subst P (ok-same f) p
       by false true call o is_test at r is without f = absurd (let g = f in cc)
       by false false true o is_test at r is without f = absurd (let g = (or_parts (has (Calls ∷ []) kind) true without).1 in cc)
@@ -99,15 +99,15 @@ module _ (kind : Kind) (P : Devices → Type 0)
 
 -- what a line of a command says
 pub line-says : (number : ℕ) (h : Heading) (one : DeviceLine) → line_of number h ≡ Ok one
-    → (sets : List Setting) × (settings (is_some h.word) h.words ≡ Some sets) × ((let l : DeviceLine = record { name = h.name; word = h.word; effect = record { ends = h.ends; stays = h.stays; always = None; needs = []; normal = false; runs = None; sets = sets } } in l) ≡ one)
+    → (sets : List Setting) × (settings (is_some h.word) h.words ≡ Some sets) × ((let l : DeviceLine = record { name = h.name; word = h.word; effect = record { ends = h.ends; stays = h.stays; always = None; needs = []; normal = false; runs = []; sets = sets } } in l) ≡ one)
 line-says number h one e = by (settings (is_some h.word) h.words) refl (is_built_in h.name) refl e
   where
     by : (o : Option (List Setting)) → settings (is_some h.word) h.words ≡ o → (b : Bool) → is_built_in h.name ≡ b → line_with number h o ≡ Ok one
-        → (sets : List Setting) × (settings (is_some h.word) h.words ≡ Some sets) × ((let l : DeviceLine = record { name = h.name; word = h.word; effect = record { ends = h.ends; stays = h.stays; always = None; needs = []; normal = false; runs = None; sets = sets } } in l) ≡ one)
+        → (sets : List Setting) × (settings (is_some h.word) h.words ≡ Some sets) × ((let l : DeviceLine = record { name = h.name; word = h.word; effect = record { ends = h.ends; stays = h.stays; always = None; needs = []; normal = false; runs = []; sets = sets } } in l) ≡ one)
     by None found b is f = absurd (let g = f in cc)
     by (Some sets) found true is f = absurd (let g : line_with number h (Some sets) ≡ Err (BuiltIn number) = rw is refl in let k = sym g ∙ f in cc)
     by (Some sets) found false is f =
-        let made : DeviceLine = record { name = h.name; word = h.word; effect = record { ends = h.ends; stays = h.stays; always = None; needs = []; normal = false; runs = None; sets = sets } } in
+        let made : DeviceLine = record { name = h.name; word = h.word; effect = record { ends = h.ends; stays = h.stays; always = None; needs = []; normal = false; runs = []; sets = sets } } in
         let g : line_with number h (Some sets) ≡ Ok made = rw is refl in
         (sets, found, ok-same (sym g ∙ f))
 
@@ -286,7 +286,7 @@ known-unused text devices e none = list-keeps Known NoneKnown command (λ unlike
     command devices number h one is without all = same_known devices one.name one.word one.effect ∙ all
 
 abbrev TakesOutcomes : Effect → Type 0
-TakesOutcomes effect = (effect.always ≡ None) × (effect.needs ≡ []) × (effect.normal ≡ false) × (effect.runs ≡ None)
+TakesOutcomes effect = (effect.always ≡ None) × (effect.needs ≡ []) × (effect.normal ≡ false) × (effect.runs ≡ [])
 
 both-take : (before more : Effect) → TakesOutcomes before → TakesOutcomes more → TakesOutcomes (joint before more)
 both-take before more a b = a

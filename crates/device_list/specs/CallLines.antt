@@ -1,8 +1,10 @@
 -- The lines of a device list that are about the calls which fit a pattern. Ours.
 use Rattle.std.specs.Prelude.{ℕ, ◌+◌, ◌-◌, ◌==◌, nat_eq, nat_le, nat_lt, ◌&&◌, ◌||◌, not, Bool, true, false, List, [], ◌∷◌, ◌++◌, length, map, take, drop, slice_range, Option, Some, None, is_some, unwrap_or, option_map, Result, Ok, Err, codes, slice_get, if◌then◌else◌}
 use Rattle.std.specs.Str.{bytes_eq}
-use Rattle.std.specs.List.{list_any, starts_with}
+use Rattle.std.specs.Bool.{beq}
+use Rattle.std.specs.List.{list_all, list_any, starts_with}
 use Rattle.std.specs.Map.{lookup}
+use Rattle.text.specs.Numbers.{is_digit}
 use Rattle.text.specs.Words.{is_equals}
 use Rattle.text.specs.Lines.{Text}
 use Rattle.builtins.specs.Builtins.{is_built_in}
@@ -122,7 +124,7 @@ pub record Clauses : Type 0 where
   pub awaited : Awaited
 
 abbrev pub no_clause : Clauses
-no_clause = record { effect = record { ends = None; stays = false; always = None; needs = []; normal = false; runs = None; sets = [] }; awaited = Clause }
+no_clause = record { effect = record { ends = None; stays = false; always = None; needs = []; normal = false; runs = []; sets = [] }; awaited = Clause }
 
 -- the answer of a status
 abbrev pub answer_of : (word : Text) → Option Bool
@@ -157,7 +159,7 @@ has_answer effect = is_some effect.always || effect.normal
 
 -- how a success goes on stands once: it ends the run, or the text of a file runs
 abbrev pub is_decided : Effect → Bool
-is_decided effect = is_some effect.ends || is_some effect.runs
+is_decided effect = is_some effect.ends || not (length effect.runs == 0)
 
 -- another word is a setting
 abbrev pub with_finish : Files → Clauses → Option BoardEnd → (word : Text) → Option Clauses
@@ -209,7 +211,7 @@ with_first_word files clauses word =
 abbrev pub with_file : Files → Clauses → (name : Text) → Option Clauses
 with_file files clauses name =
     if is_some (lookup (bytes_eq name) files)
-    then Some (record { effect = record clauses.effect { runs = Some name }; awaited = Clause }) else None
+    then Some (record { effect = record clauses.effect { runs = name ∷ [] }; awaited = Clause }) else None
 
 -- A text that is imported is a plain one: no image, and without a NUL, at which the text of a script ends.
 abbrev pub imported_file : FileText → Option (List Setting)
@@ -312,18 +314,84 @@ call_line files number words =
 abbrev pub absent_words : (words : List Text) → List Text
 absent_words words = words ++ codes "**" ∷ codes ":" ∷ codes "always" ∷ codes "1" ∷ []
 
+-- the words behind `call`, or behind `or call`
+abbrev pub words_said : (line first : Text) → (words : List Text) → List Text
+words_said line first words =
+    if bytes_eq first (codes "call") then drop 1 (quoted_words line)
+    else (if bytes_eq first (codes "or") then drop 2 (quoted_words line) else absent_words words)
+
 -- what a line of calls says
 abbrev pub call_said : Files → ℕ → (line first : Text) → (words : List Text) → Result Call DevicesError
-call_said files number line first words =
-    call_line files number (if bytes_eq first (codes "call") then drop 1 (quoted_words line) else absent_words words)
+call_said files number line first words = call_line files number (words_said line first words)
+
+-- ---- a line `or call PATTERN : runs FILE`: a further file for the calls of the line of calls before it
+
+-- the name of a file of which the question `runs FILE` is asked has these bytes, so that a call of `runs` can name it
+abbrev pub is_file_byte : ℕ → Bool
+is_file_byte b = is_digit b
+    || ((nat_le 97 b && nat_le b 122) || ((nat_le 65 b && nat_le b 90) || ((nat_le 45 b && nat_le b 47) || b == 95)))
+
+abbrev pub is_plain_file : (name : Text) → Bool
+is_plain_file name = list_all is_file_byte name
+
+-- it says that a file runs, and nothing else
+abbrev pub is_only_run : Effect → Bool
+is_only_run effect = not (is_some effect.ends) && (not effect.stays && (not (is_some effect.always)
+    && (length effect.needs == 0 && (not effect.normal && (length effect.runs == 1 && length effect.sets == 0)))))
+
+-- patterns that are the same
+abbrev pub same_word : PatternWord → PatternWord → Bool
+same_word (Exactly text) (Exactly other) = bytes_eq text other
+same_word (Starting text) (Starting other) = bytes_eq text other
+same_word (Exactly text) (Starting other) = false
+same_word (Starting text) (Exactly other) = false
+
+abbrev pub same_words : List PatternWord → List PatternWord → Bool
+same_words [] [] = true
+same_words [] (other ∷ others) = false
+same_words (word ∷ words) [] = false
+same_words (word ∷ words) (other ∷ others) = same_word word other && same_words words others
+
+abbrev pub same_pattern : Pattern → Pattern → Bool
+same_pattern one other = same_words one.words other.words && beq one.more other.more
+
+-- the pattern of the calls with this word alone
+abbrev pub word_alone : Text → Pattern
+word_alone word = record { words = Exactly word ∷ []; more = false }
+
+-- the line goes on from one of calls that has the same pattern and runs files
+abbrev pub is_continued : Pattern × Effect → (further : Pattern × Effect) → Bool
+is_continued line further = is_only_run further.1
+    && (same_pattern line.0 further.0 && (not (length line.1.runs == 0) && list_all is_plain_file line.1.runs))
+
+abbrev pub with_further : Pattern × Effect → (further : Pattern × Effect) → Pattern × Effect
+with_further line further = (line.0, record line.1 { runs = line.1.runs ++ further.1.runs })
+
+abbrev pub last_of : List Text → Option Text
+last_of names = slice_get names (length names - 1)
+
+-- the line with one more file, and the file that it named last, if the further line goes on from it
+abbrev pub further_line : Pattern × Effect → (further : Pattern × Effect) → Option ((Pattern × Effect) × Text)
+further_line line further =
+    if is_continued line further then option_map (λ before. (with_further line further, before)) (last_of line.1.runs) else None
+
+-- and so for the last line of these
+abbrev pub further_lines : List (Pattern × Effect) → (further : Pattern × Effect) → Option (List (Pattern × Effect) × Text)
+further_lines [] further = None
+further_lines (line ∷ []) further = option_map (λ one. (one.0 ∷ [], one.1)) (further_line line further)
+further_lines (line ∷ next ∷ lines) further =
+    option_map (λ more. (line ∷ more.0, more.1)) (further_lines (next ∷ lines) further)
+
+-- ---- whether a line is one of calls
 
 abbrev pub is_lone : (name : Text) → (words : List Text) → Bool
 is_lone name [] = not (list_any is_equals name)
 is_lone name (word ∷ words) = false
 
--- whether a line is one of calls: `call` with a `:` among its words, or `absent` with one word that is no setting
+-- `call` with a `:` among its words, `or call` with one, or `absent` with one word that is no setting
 abbrev pub is_call : (first : Text) → (words : List Text) → Bool
 is_call first [] = false
 is_call first (word ∷ words) =
     if bytes_eq first (codes "call") then list_any is_colon (word ∷ words)
-    else bytes_eq first (codes "absent") && is_lone word words
+    else (if bytes_eq first (codes "or") then bytes_eq word (codes "call") && list_any is_colon words
+    else bytes_eq first (codes "absent") && is_lone word words)

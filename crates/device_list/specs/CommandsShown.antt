@@ -5,7 +5,6 @@ use Rattle.std.specs.Prelude.{Vec}
 use Rattle.std.specs.declared.alloc.Global.{Global}
 use Rattle.indexmap.specs.IndexMap.{IndexMap}
 use Rattle.text.specs.Lines.{Text}
-use Rattle.text.specs.TextsShown.{option_bytes, option_items}
 use Rattle.commands.specs.TextsShown.{texts}
 use Rattle.device_list.specs.DeviceList.{Effect, Effects}
 use Rattle.device_list.specs.CallLines as calls
@@ -18,13 +17,13 @@ use Rattle.device_list.specs.declared.call_line.CallLine.{CallLine}
 use Rattle.device_list.specs.declared.call_line.Call.{Call}
 
 abbrev pub listed_shown : Listed → Effect
-listed_shown l = record { ends = l.ends; stays = l.stays; always = l.always; needs = texts l.needs.items; normal = l.normal; runs = option_items l.runs; sets = settings_shown l.sets }
+listed_shown l = record { ends = l.ends; stays = l.stays; always = l.always; needs = texts l.needs.items; normal = l.normal; runs = texts l.runs.items; sets = settings_shown l.sets }
 
 abbrev pub found_shown : Bor Listed → Effect
 found_shown l = listed_shown l.now
 
 abbrev pub lent_effect : LentEffect → Effect
-lent_effect e = record { ends = e.ends; stays = e.stays; always = e.always; needs = texts e.needs.now; normal = e.normal; runs = option_bytes e.runs; sets = map setting_shown e.sets.now }
+lent_effect e = record { ends = e.ends; stays = e.stays; always = e.always; needs = texts e.needs.now; normal = e.normal; runs = texts e.runs.now; sets = map setting_shown e.sets.now }
 
 abbrev pub commands_shown : List (Bytes × Listed) → Effects
 commands_shown = map (λ c. (c.0.items, listed_shown c.1))
@@ -46,7 +45,7 @@ files_shown = map (λ f. (f.0.items, text_shown f.1))
 
 abbrev pub clauses_shown : Clauses → calls.Clauses
 clauses_shown c = record {
-  effect = record { ends = c.ends; stays = c.stays; always = c.always; needs = texts c.needs.items; normal = c.normal; runs = option_items c.runs; sets = settings_shown c.sets };
+  effect = record { ends = c.ends; stays = c.stays; always = c.always; needs = texts c.needs.items; normal = c.normal; runs = texts c.runs.items; sets = settings_shown c.sets };
   awaited = c.awaited;
 }
 
@@ -69,3 +68,8 @@ calls_shown = map (λ c. (c.0.items, lines_shown c.1))
 
 abbrev pub said_shown : Call → calls.Call
 said_shown c = record { name = c.name.now; pattern = pattern_shown c.line.pattern; effect = listed_shown c.line.listed }
+
+-- what goes on from a line, or from lines, is one of these, and the file before; or nothing goes on
+abbrev pub IsFurther : {A : Type 0} → (after : Option (A × Text)) → A → (before : Option Bytes) → Type 0
+IsFurther after new None = after ≡ None
+IsFurther after new (Some file) = after ≡ Some (new, file.items)

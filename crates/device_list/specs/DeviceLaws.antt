@@ -56,7 +56,7 @@ LinesAreJoined = (text : Text) (devices : Devices) → listed text ≡ Ok device
 
 -- a command that only succeeds or fails
 abbrev pub quiet : Effect
-quiet = record { ends = None; stays = false; always = None; needs = []; normal = false; runs = None; sets = [] }
+quiet = record { ends = None; stays = false; always = None; needs = []; normal = false; runs = []; sets = [] }
 
 abbrev pub is_name_alone : Text → Bool
 is_name_alone line = nat_le (length (device_words line)) 1

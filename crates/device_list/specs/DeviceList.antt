@@ -1,8 +1,8 @@
 -- The device list: which commands are device commands, and what each does on success. Ours.
-use Rattle.std.specs.Prelude.{ℕ, ◌==◌, nat_eq, ◌||◌, ◌&&◌, ◌++◌, not, Bool, true, false, List, [], ◌∷◌, length, map, filter, Option, Some, None, is_some, option_map, Result, Ok, Err, codes, if◌then◌else◌}
+use Rattle.std.specs.Prelude.{ℕ, ◌==◌, nat_eq, ◌||◌, ◌&&◌, ◌++◌, not, Bool, true, false, List, [], ◌∷◌, length, map, filter, take, Option, Some, None, is_some, option_map, Result, Ok, Err, codes, if◌then◌else◌}
 use Rattle.std.specs.Str.{bytes_eq}
 use Rattle.std.specs.List.{list_any, slice_split, starts_with}
-use Rattle.std.specs.Map.{lookup}
+use Rattle.std.specs.Map.{lookup, set_value}
 use Rattle.text.specs.Bytes as ascii
 use Rattle.text.specs.Lines.{numbered_lines}
 use Rattle.text.specs.Words.{has_nul, is_equals, is_space, trimmed}
@@ -11,7 +11,7 @@ use Rattle.builtins.specs.Builtins.{is_built_in}
 use Rattle.commands.specs.KnownCommands.{known_of}
 use Rattle.commands.specs.Computed.{Computed, computes}
 pub use Rattle.device_list.specs.Settings.{LeftSide, Variable, WordAt, LastWord, Imported, RightSide, Literal, ValueAt, LastValue, Deleted, Setting, Effect, is_variable, is_decimal, word_of_call, left_side, setting, settings}
-pub use Rattle.device_list.specs.CallLines.{Pattern, Call, FileText, Files, first_fitting, filled_line, call_said, is_call}
+pub use Rattle.device_list.specs.CallLines.{Pattern, Call, FileText, Files, first_fitting, word_alone, filled_line, further_lines, call_said, is_call}
 use Rattle.device_list.specs.Finishes.{finish_named, first_finish}
 use Rattle.device_list.specs.declared.finish.BoardEnd.{BoardEnd}
 use Rattle.device_list.specs.declared.devices_error.DevicesError.{DevicesError}
@@ -25,14 +25,15 @@ abbrev pub effect_in : Effects → Text → Option Effect
 effect_in effects name = lookup (bytes_eq name) effects
 
 -- what a list says of commands by their names, what its `sub` lines say of the calls of a name, and what its lines of calls
--- say of those that fit a pattern; which commands are computed, each once, and whether the answers of `test -e` stay; and
--- the files that lines may name
+-- say of those that fit a pattern; which commands are computed, each once, and whether the answers of `test -e` stay; of
+-- which files it is asked whether they run; and the files that lines may name
 pub record Devices : Type 0 where
   pub commands : Effects
   pub subs : List (Text × Effects)
   pub calls : List (Text × List (Pattern × Effect))
   pub known : List Text
   pub test_stays : Bool
+  pub choices : List Text
   pub files : Files
 
 -- what the lines of a name say, or its `sub` lines of a first word
@@ -66,6 +67,29 @@ abbrev pub fails_normally : Devices → (call : List Text) → Bool
 fails_normally devices [] = false
 fails_normally devices (name ∷ words) =
     elim (call_effect devices name words) [ Some effect ↦ effect.normal | None ↦ false ]
+
+-- whether the answer of a call stays
+abbrev pub stays_in : Devices → (name : Text) → (words : List Text) → Bool
+stays_in devices name words = elim (effect_of devices name words) [ Some effect ↦ effect.stays | None ↦ false ]
+
+-- a list asks at most so often which file runs
+abbrev pub most_choices : ℕ
+most_choices = 8
+
+abbrev pub asked_about : Devices → List Text
+asked_about devices = take most_choices devices.choices
+
+-- whether a call asks which file runs, and its answer stays
+abbrev pub is_choice : Devices → (call : List Text) → Bool
+is_choice devices (name ∷ file ∷ []) = bytes_eq name (codes "runs")
+    && (list_any (bytes_eq file) (asked_about devices) && stays_in devices (codes "runs") (file ∷ []))
+is_choice devices [] = false
+is_choice devices (name ∷ []) = false
+is_choice devices (name ∷ file ∷ second ∷ words) = false
+
+-- whether a success is what is expected of a call with these words, its name first; of a choice neither answer is
+abbrev pub expected : Devices → (call : List Text) → Option Bool
+expected devices call = if is_choice devices call then None else Some (not (fails_normally devices call))
 
 -- the result of a call, if the list has its command computed and its words can be
 abbrev pub computed_by : Devices → (name : Text) → (words : List Text) → Option Computed
@@ -146,7 +170,7 @@ pub record DeviceLine : Type 0 where
 abbrev pub line_with : ℕ → Heading → Option (List Setting) → Result DeviceLine DevicesError
 line_with number h None = Err (BadLine number)
 line_with number h (Some sets) = if is_built_in h.name then Err (BuiltIn number)
-    else Ok (record { name = h.name; word = h.word; effect = record { ends = h.ends; stays = h.stays; always = None; needs = []; normal = false; runs = None; sets = sets } })
+    else Ok (record { name = h.name; word = h.word; effect = record { ends = h.ends; stays = h.stays; always = None; needs = []; normal = false; runs = []; sets = sets } })
 
 -- a line with the first word of its calls is a `sub` line
 abbrev pub line_of : ℕ → Heading → Result DeviceLine DevicesError
@@ -209,9 +233,47 @@ with_fitting call (Some lines) = lines ++ (call.pattern, call.effect) ∷ []
 abbrev pub with_call : Devices → Call → Devices
 with_call devices call = record devices { calls = changed_at (with_fitting call) devices.calls call.name }
 
-abbrev pub after_call : Devices → Result Call DevicesError → Result Devices DevicesError
-after_call devices (Ok call) = Ok (with_call devices call)
-after_call devices (Err fault) = Err fault
+-- the table of calls with one more file at a name, and the file before, if a line `or` goes on from the last line
+-- there
+abbrev pub further_of : List (Text × List (Pattern × Effect)) → (name : Text) → (further : Pattern × Effect) →
+    Option (List (Pattern × Effect)) → Option (List (Text × List (Pattern × Effect)) × Text)
+further_of table name further None = None
+further_of table name further (Some lines) =
+    option_map (λ more. (set_value (bytes_eq name) table more.0, more.1)) (further_lines lines further)
+
+abbrev pub further_in : List (Text × List (Pattern × Effect)) → Call → Option (List (Text × List (Pattern × Effect)) × Text)
+further_in table call = further_of table call.name (call.pattern, call.effect) (lookup (bytes_eq call.name) table)
+
+-- Which of the files runs is asked by a call of `runs` for each but the last, in their order, and the answer stays.
+abbrev pub question_of : (file : Text) → Call
+question_of file = record {
+  name = codes "runs";
+  pattern = word_alone file;
+  effect = record { ends = None; stays = true; always = None; needs = []; normal = false; runs = []; sets = [] };
+}
+
+abbrev pub asking_of : Devices → (file : Text) → Devices
+asking_of devices file = record devices { choices = devices.choices ++ file ∷ [] }
+
+abbrev pub with_choice : Devices → (file : Text) → Devices
+with_choice devices file = with_call (asking_of devices file) (question_of file)
+
+abbrev pub goes_on : Devices → ℕ → Option (List (Text × List (Pattern × Effect)) × Text) → Result Devices DevicesError
+goes_on devices number None = Err (BadLine number)
+goes_on devices number (Some further) =
+    if length devices.choices == most_choices then Err (BadLine number)
+    else Ok (with_choice (record devices { calls = further.0 }) further.1)
+
+abbrev pub with_or : Devices → ℕ → Call → Result Devices DevicesError
+with_or devices number call = goes_on devices number (further_in devices.calls call)
+
+-- the list after a line of calls, or after one of `or`
+abbrev pub after_call : Devices → ℕ → (or : Bool) → Result Call DevicesError → Result Devices DevicesError
+after_call devices number or (Err fault) = Err fault
+after_call devices number or (Ok call) = if or then with_or devices number call else Ok (with_call devices call)
+
+abbrev pub is_or : (first : Text) → Bool
+is_or first = bytes_eq first (codes "or")
 
 -- a line `known NAME`, if NAME may be computed
 abbrev pub known_named : Text → List Text → Option Text
@@ -245,7 +307,7 @@ after_words devices number line [] = Ok devices
 after_words devices number line (first ∷ words) =
     if begins_comment first then Ok devices
     else (if has_nul line then Err (BadLine number)
-    else (if is_call first words then after_call devices (call_said devices.files number line first words)
+    else (if is_call first words then after_call devices number (is_or first) (call_said devices.files number line first words)
     else after_known devices (known_named first words) (is_steady_test first words)
     (line_of number (heading_of first words))))
 
@@ -263,7 +325,7 @@ listed_lines devices (l ∷ lines) =
 
 -- only commands by their names
 abbrev pub only : Effects → Devices
-only commands = record { commands = commands; subs = []; calls = []; known = []; test_stays = false; files = [] }
+only commands = record { commands = commands; subs = []; calls = []; known = []; test_stays = false; choices = []; files = [] }
 
 -- UTF-8's byte order mark, which some editors write in front of a text
 abbrev pub byte_order_mark : Text

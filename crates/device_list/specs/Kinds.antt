@@ -7,7 +7,7 @@ use Rattle.text.specs.Lines.{numbered_lines}
 use Rattle.text.specs.Words.{has_nul, is_equals}
 use Rattle.text.specs.Lines.{Text}
 use Rattle.device_list.specs.CallLines.{call_said, is_call}
-use Rattle.device_list.specs.DeviceList.{Effect, Devices, DeviceLine, Heading, effect_of, device_words, named, call_of, finish_before, heading_of, line_of, known_named, is_steady_test, after_known, after_call, begins_comment, after_line, only, is_marked, listed}
+use Rattle.device_list.specs.DeviceList.{Effect, Devices, DeviceLine, Heading, effect_of, device_words, named, call_of, finish_before, heading_of, line_of, known_named, is_steady_test, after_known, is_or, after_call, begins_comment, after_line, only, is_marked, listed}
 use Rattle.device_list.specs.declared.finish.BoardEnd.{BoardEnd}
 use Rattle.device_list.specs.declared.finish.BoardEnd.TheVariants.{Boots, Restarts, Halts}
 use Rattle.device_list.specs.declared.devices_error.DevicesError.{DevicesError}
@@ -125,7 +125,7 @@ module _ (kinds : List Kind) where
   words_among devices number line (first ∷ words) =
       if begins_comment first then Ok devices
       else (if has_nul line then Err (BadLine number)
-      else (if has kinds Calls && is_call first words then after_call devices (call_said devices.files number line first words)
+      else (if has kinds Calls && is_call first words then after_call devices number (is_or first) (call_said devices.files number line first words)
       else after_known devices (known_among first words) (has kinds Steady && is_steady_test first words)
       (said_among number (heading_among first words))))
 
@@ -179,7 +179,7 @@ SaysNothing Sub devices = devices.subs ≡ []
 SaysNothing Settings devices = EachCall (λ effect. effect.sets ≡ []) devices
 SaysNothing Known devices = devices.known ≡ []
 SaysNothing Calls devices =
-    EachCall (λ effect. (effect.always ≡ None) × (effect.needs ≡ []) × (effect.normal ≡ false) × (effect.runs ≡ None)) devices × (devices.calls ≡ [])
+    EachCall (λ effect. (effect.always ≡ None) × (effect.needs ≡ []) × (effect.normal ≡ false) × (effect.runs ≡ [])) devices × (devices.calls ≡ [])
 
 -- a `call` line may say something of each kind
 abbrev pub may_say : List Kind → Kind → Bool

@@ -29,12 +29,13 @@ files_behind behind [] = []
 files_behind true (word ∷ words) = word ∷ files_behind false words
 files_behind false (word ∷ words) = named_in word ++ files_behind (names_file word) words
 
--- whether a line is one of `call`
+-- whether a line is one of `call` or `or call`
 abbrev pub says_call : List Text → Bool
 says_call [] = false
-says_call (first ∷ words) = not (begins_comment first) && (bytes_eq first (codes "call") && is_call first words)
+says_call (first ∷ words) =
+    not (begins_comment first) && ((bytes_eq first (codes "call") || bytes_eq first (codes "or")) && is_call first words)
 
--- the words of a line of `call` behind its first `:`
+-- the words of such a line behind its first `:`
 abbrev pub clause_words : List Text → List Text
 clause_words words = drop (colon_place words + 1) words
 

@@ -32,7 +32,7 @@ abbrev pub Setting : Type 0
 Setting = LeftSide × RightSide
 
 -- what a device command does on success: what it sets in the environment, in order, how the run ends, if it ends, and the
--- file whose text runs then, if there is one; whether
+-- files of which the text of one runs then, if there are any; whether
 -- its answers stay: asked again with the same words in one run, it answers as before; the only answer that it has, if it
 -- has one: whether it succeeds; how the words of a call begin, its name first, that has to succeed before: none, if it needs
 -- no call; and whether a failure is what is expected of it
@@ -42,7 +42,7 @@ pub record Effect : Type 0 where
   pub always : Option Bool
   pub needs : List Text
   pub normal : Bool
-  pub runs : Option Text
+  pub runs : List Text
   pub sets : List Setting
 
 -- ---- the settings of a line

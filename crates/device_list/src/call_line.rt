@@ -205,17 +205,27 @@ pub(crate) fn call_said<'a>(
         };
         return call_line(alloc, files, number, behind);
     }
+    if first == b"or".as_slice() {
+        let words = quoted_words(alloc, line)?;
+        let [_, _, behind @ ..] = words.as_slice() else {
+            return Err(DevicesError::BadLine(number));
+        };
+        return call_line(alloc, files, number, behind);
+    }
     let words = absent_words(alloc, behind)?;
     call_line(alloc, files, number, &words)
 }
 
-/// Whether a line is one of calls: `call` with a `:` among its words, or `absent` with one word that is no
-/// setting.
+/// Whether a line is one of calls: `call` with a `:` among its words, `or call` with one, or `absent` with one
+/// word that is no setting.
 pub(crate) fn is_call(first: &[u8], behind: &[&[u8]]) -> bool
     ensures { result ≡ is_call first.now (map (λ w. w.now) behind.now) }
 {
     match behind {
         [_, ..] if first == b"call".as_slice() => has_colon(behind),
+        [word, rest @ ..] if first == b"or".as_slice() => {
+            *word == b"call".as_slice() && has_colon(rest)
+        }
         [name] => first == b"absent".as_slice() && !has_equals(name),
         _ => false,
     }

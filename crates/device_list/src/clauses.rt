@@ -43,7 +43,7 @@ pub(crate) struct Clauses {
     always: Option<bool>,
     needs: Vec<Vec<u8>>,
     normal: bool,
-    runs: Option<Vec<u8>>,
+    runs: Vec<Vec<u8>>,
     sets: Vec<Setting>,
     awaited: Awaited,
 }
@@ -129,7 +129,7 @@ impl Clauses {
             always: None,
             needs: Vec::new(alloc),
             normal: false,
-            runs: None,
+            runs: Vec::new(alloc),
             sets: Vec::new(alloc),
             awaited: Awaited::Clause,
         }
@@ -189,7 +189,10 @@ impl Clauses {
     {
         if files.contains_key(name) {
             self.awaited = Awaited::Clause;
-            self.runs = Some(Vec::from_slice(alloc, name)?);
+            let name = Vec::from_slice(alloc, name)?;
+            let mut runs = Vec::new(alloc);
+            runs.push(name)?;
+            self.runs = runs;
             return Ok(true);
         }
         Ok(false)
@@ -245,7 +248,7 @@ impl Clauses {
     fn is_decided(&self) -> bool
         ensures { result ≡ is_decided (clauses_shown self.now).effect }
     {
-        self.ends.is_some() || self.runs.is_some()
+        self.ends.is_some() || !self.runs.is_empty()
     }
 
     /// Takes a word that begins a clause. Returns whether it does.

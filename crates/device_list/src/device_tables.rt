@@ -1,8 +1,8 @@
 //! What the lines of a device list say, by the names of the commands.
 ghost use Rattle.std.specs.Prelude.{◌≡◌, [], map, OnOk, IfOk, Some, is_some, option_map, ◌||◌};
 ghost use Rattle.text.specs.TextsShown.{option_bytes};
-ghost use Rattle.device_list.specs.DeviceList.{file_in, filled, with_files, changed_at, with_fitting, joined_in, joined_behind, joined_by, effect_at, sub_effect, call_effect, fails_normally, line_effect, effect_of, computed_by, with_known, is_listed, after_known, known_named, is_steady_test, line_of, heading_of};
-ghost use Rattle.device_list.specs.CommandsShown.{commands_shown, subs_shown, calls_shown, files_shown, said_shown, listed_shown, found_shown};
+ghost use Rattle.device_list.specs.DeviceList.{file_in, filled, with_files, changed_at, with_fitting, asked_about, further_in, asking_of, with_call, question_of, with_choice, with_or, joined_in, joined_behind, joined_by, effect_at, sub_effect, call_effect, fails_normally, line_effect, effect_of, computed_by, with_known, is_listed, after_known, known_named, is_steady_test, line_of, heading_of};
+ghost use Rattle.device_list.specs.CommandsShown.{commands_shown, subs_shown, calls_shown, files_shown, said_shown, listed_shown, found_shown, IsFurther};
 ghost use Rattle.std.specs.List.{list_any};
 ghost use Rattle.std.specs.Map.{lookup};
 ghost use Rattle.std.specs.Str.{bytes_eq};
@@ -16,6 +16,7 @@ use crate::devices_error::DevicesError;
 use crate::file_text::FileText;
 use crate::filled::fill_calls;
 use crate::finish::first_finish;
+use crate::further::{go_on, question_of};
 use crate::listed::{Effect, Listed};
 use crate::setting::settings;
 use builtins::is_built_in;
@@ -40,6 +41,9 @@ pub struct Places {
 
 /// UTF-8's byte order mark.
 const BYTE_ORDER_MARK: [u8; 3] = [0xEF, 0xBB, 0xBF];
+
+/// How often a list may ask which file runs.
+const MOST_CHOICES: usize = 8;
 
 /// A map by the names of a list, found by a hash whose key is made from the list.
 pub type ByName<V> = IndexMap<Vec<u8>, V, KeyedHash>;
@@ -88,6 +92,8 @@ pub struct DeviceTables {
     known: Vec<Vec<u8>>,
     /// Whether the answers of `test -e` stay.
     test_stays: bool,
+    /// The files of which it is asked whether they run.
+    choices: Vec<Vec<u8>>,
     /// The files that lines may name.
     files: FileTexts,
 }
@@ -112,6 +118,23 @@ fn add_call(
     let name = Vec::from_slice(alloc, name)?;
     calls.insert(name, lines)?;
     Ok(())
+}
+
+/// Adds the file of a line `or` to the last line of calls with its name, if it goes on from it. Returns the file
+/// that this named last. Errors: memory ran out.
+fn add_further(
+    alloc: Global,
+    calls: &mut ByName<Vec<CallLine>>,
+    call: Call<'_>,
+) -> Result<Option<Vec<u8>>, AllocError>
+    ensures { IfOk result (IsFurther (further_in (calls_shown calls.old.entries) (said_shown call.entry)) (calls_shown calls.new.entries)) }
+{
+    let Call { name, line } = call;
+    if let Some(lines) = calls.get_mut(name) {
+        let before = go_on(alloc, lines, line)?;
+        return Ok(before);
+    }
+    Ok(None)
 }
 
 /// Joins one more line to the earlier ones with its name. Errors: memory ran out.
@@ -158,6 +181,7 @@ impl Model for DeviceTables {
       calls = calls_shown d.calls.entries;
       known = texts d.known.items;
       test_stays = d.test_stays;
+      choices = texts d.choices.items;
       files = files_shown d.files.entries;
     } };
 }
@@ -187,6 +211,7 @@ impl DeviceTables {
             calls: IndexMap::with_hasher(alloc, hasher),
             known: Vec::new(alloc),
             test_stays: false,
+            choices: Vec::new(alloc),
             files,
         }
     }
@@ -258,6 +283,23 @@ impl DeviceTables {
             Some(listed) => listed.normal,
             None => false,
         }
+    }
+
+    /// The files of which it is asked whether they run.
+    fn asked_about(&self) -> &[Vec<u8>]
+        ensures { texts result.now ≡ asked_about self.now }
+    {
+        if self.choices.len() <= MOST_CHOICES {
+            return &self.choices;
+        }
+        &self.choices[..MOST_CHOICES]
+    }
+
+    /// Whether it is asked of a file whether it runs. Takes no memory.
+    pub fn asks_of(&self, file: &[u8]) -> bool
+        ensures { result ≡ list_any (bytes_eq file.now) (asked_about self.now) }
+    {
+        is_among(self.asked_about(), file)
     }
 
     /// What the other lines say of a call.
@@ -431,10 +473,52 @@ impl DeviceTables {
         }
         if is_call(first, behind) {
             let call = call_said(self.alloc, &self.files, number, line, first, behind)?;
+            if *first == b"or".as_slice() {
+                return self.add_or(number, call);
+            }
             add_call(self.alloc, &mut self.calls, call)?;
             return Ok(());
         }
         self.add_other(number, first, behind)
+    }
+
+    /// Reads one more line `or`. Errors: `BadLine`, `Memory`.
+    fn add_or(&mut self, number: usize, call: Call<'_>) -> Result<(), DevicesError>
+        ensures { Adds (with_or self.old number (said_shown call.entry)) self.new result }
+    {
+        let Some(before) = add_further(self.alloc, &mut self.calls, call)? else {
+            return Err(DevicesError::BadLine(number));
+        };
+        if self.choices.len() == MOST_CHOICES {
+            return Err(DevicesError::BadLine(number));
+        }
+        self.ask_of(before)?;
+        Ok(())
+    }
+
+    /// Keeps that it is asked of a file whether it runs. Errors: memory ran out.
+    fn keep_choice(&mut self, file: &[u8]) -> Result<(), AllocError>
+        ensures { OnOk result (self.new ≡ asking_of self.old file.now) }
+    {
+        let file = Vec::from_slice(self.alloc, file)?;
+        self.choices.push(file)?;
+        Ok(())
+    }
+
+    /// Adds the line of calls that asks it. Errors: memory ran out.
+    fn add_question(&mut self, file: Vec<u8>) -> Result<(), AllocError>
+        ensures { OnOk result (self.new ≡ with_call self.old (question_of file.items)) }
+    {
+        let question = question_of(self.alloc, file)?;
+        add_call(self.alloc, &mut self.calls, question)
+    }
+
+    /// Adds the question whether a file runs. Errors: memory ran out.
+    fn ask_of(&mut self, file: Vec<u8>) -> Result<(), AllocError>
+        ensures { OnOk result (self.new ≡ with_choice self.old file.items) }
+    {
+        self.keep_choice(&file)?;
+        self.add_question(file)
     }
 
     /// Reads one more line that is not about calls. Errors: `BadLine`, `BuiltIn`, `Memory`.
@@ -464,7 +548,7 @@ impl DeviceTables {
             return Err(DevicesError::BuiltIn(number));
         }
         let (ends, stays, always, normal) = (heading.ends, heading.stays, None, false);
-        let (needs, runs) = (Vec::new(self.alloc), None);
+        let (needs, runs) = (Vec::new(self.alloc), Vec::new(self.alloc));
         self.add(
             heading.name,
             heading.word,

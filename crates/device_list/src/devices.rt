@@ -3,7 +3,7 @@ ghost use Rattle.std.specs.Prelude.{◌≡◌, IfOk, IfSome, option_map};
 ghost use Rattle.std.specs.List.{list_any};
 ghost use Rattle.std.specs.Str.{bytes_eq};
 ghost use Rattle.text.specs.TextsShown.{option_bytes};
-ghost use Rattle.device_list.specs.DeviceList.{effect_of, file_in, fails_normally, computed_by, is_listed, all_steady, filled};
+ghost use Rattle.device_list.specs.DeviceList.{effect_of, file_in, fails_normally, stays_in, is_choice, expected, computed_by, is_listed, all_steady, filled};
 ghost use Rattle.device_list.specs.DeviceListAnswers.{IsListed, IsListedWith};
 ghost use Rattle.device_list.specs.CommandsShown.{files_shown, lent_effect};
 ghost use Rattle.commands.specs.ComputedShown.{call_shown};
@@ -95,13 +95,18 @@ impl Devices {
         )
     }
 
-    /// The same of a list whose lines may name these files. A line of calls may have the clause
-    /// `runs FILE`: then the text of this file runs after a success. It may have `imports FILE`, also more
-    /// than once: then the variables of this file are set after a success, in their place among the
-    /// settings, as `env import -t` reads a text, with `-r` if the call has it, and only the names of the
-    /// call, if it has any. Its settings may have the value `@size(FILE)`, the size of this file in
-    /// hexadecimal. A line that names another file is a `BadLine`, and so is one that imports a file which
-    /// is a script image or holds NUL, or in which `env import` finds an empty name.
+    /// The same of a list whose lines may name these files. A line of calls may have the clause `runs FILE`:
+    /// then the text of this file runs after a success. A line `or call PATTERN : runs FILE`, with the
+    /// pattern of the last line of calls of its name, adds a file to those of that line, of which the text
+    /// of one runs. Each of them but the last gets a line `call runs FILE : steady`: calls of
+    /// `runs` ask which one it is. A line of calls may have `imports FILE`, also more than once: then the
+    /// variables of this file are set after a success, in their place among the settings, as `env import -t`
+    /// reads a text, with `-r` if the call has it, and only the names of the call, if it has any. Its
+    /// settings may have the value `@size(FILE)`, the size of this file in hexadecimal. A line that names
+    /// another file is a `BadLine`, and so is one that imports a file which is a script image or holds NUL,
+    /// or in which `env import` finds an empty name. A line `or` is one too where no such line comes before,
+    /// where it has another clause, where eight came before, or where a file that is asked for has another
+    /// byte in its name than letters, digits, `-`, `.`, `/` and `_`.
     pub fn parse_with(alloc: Global, text: &[u8], files: FileTexts) -> Result<Self, DevicesError>
         ensures { IsListedWith (files_shown files.entries) text.now result }
     {
@@ -168,11 +173,45 @@ impl Devices {
         Some(effect.steady_if(self.all_steady))
     }
 
-    /// Whether a failure is what is expected of a call with these words, its name first. Takes no memory.
-    pub fn fails_normally(&self, call: &[Vec<u8>]) -> bool
+    /// Whether a failure is what is expected of a call with these words, its name first.
+    fn fails_normally(&self, call: &[Vec<u8>]) -> bool
         ensures { result ≡ fails_normally self.now (texts call.now) }
     {
         self.tables.fails_normally(call)
+    }
+
+    /// Whether the answer of a call stays.
+    fn stays(&self, name: &[u8], words: &[Vec<u8>]) -> bool
+        ensures { result ≡ stays_in self.now name.now (texts words.now) }
+    {
+        match self.effect(name, words) {
+            Some(effect) => effect.stays,
+            None => false,
+        }
+    }
+
+    /// Whether a call with these words, its name first, asks which file runs.
+    fn is_choice(&self, call: &[Vec<u8>]) -> bool
+        ensures { result ≡ is_choice self.now (texts call.now) }
+    {
+        let [name, file] = call else {
+            return false;
+        };
+        if name.as_slice() != b"runs".as_slice() || !self.tables.asks_of(file) {
+            return false;
+        }
+        self.stays(b"runs", &call[1..])
+    }
+
+    /// Whether a success is what is expected of a call with these words, its name first. A call that asks which
+    /// file runs is expected to be answered in neither way. Takes no memory.
+    pub fn expected(&self, call: &[Vec<u8>]) -> Option<bool>
+        ensures { result ≡ expected self.now (texts call.now) }
+    {
+        if self.is_choice(call) {
+            return None;
+        }
+        Some(!self.fails_normally(call))
     }
 
     /// What `effect` says. The name is looked up only if it is not at the place that is given. Takes no

@@ -57,17 +57,19 @@ fn add_files(alloc: Global, names: &mut Vec<Vec<u8>>, words: &[&[u8]]) -> Result
     Ok(())
 }
 
-/// Whether the words of a line are those of `call`.
+/// Whether the words of a line are those of `call` or `or call`.
 fn says_call(words: &[&[u8]]) -> bool
     ensures { result ≡ says_call (map (λ w. w.now) words.now) }
 {
     let [first, behind @ ..] = words else {
         return false;
     };
-    !begins_comment(first) && *first == b"call".as_slice() && is_call(first, behind)
+    !begins_comment(first)
+        && (*first == b"call".as_slice() || *first == b"or".as_slice())
+        && is_call(first, behind)
 }
 
-/// Adds the files that a line of `call` names. Errors: memory ran out.
+/// Adds the files that a line of `call` or `or call` names. Errors: memory ran out.
 fn add_named(alloc: Global, names: &mut Vec<Vec<u8>>, line: &[u8]) -> Result<(), AllocError>
     ensures { OnOk result (texts names.new.items
         ≡ texts names.old.items ++ files_behind false (clause_words (quoted_words line.now))) }

@@ -12,6 +12,7 @@ mod file_names;
 mod file_text;
 mod filled;
 mod finish;
+mod further;
 mod import_call;
 mod imports;
 mod listed;

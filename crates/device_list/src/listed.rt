@@ -17,8 +17,8 @@ pub struct Effect<'a> {
     pub needs: &'a [Vec<u8>],
     /// Whether a failure is what is expected of it.
     pub normal: bool,
-    /// The file whose text runs on success, if there is one.
-    pub runs: Option<&'a [u8]>,
+    /// The files of which the text of one runs on success, if there are any. Which one is a choice.
+    pub runs: &'a [Vec<u8>],
     /// What it sets in the environment, in order.
     pub sets: &'a [Setting],
 }
@@ -31,7 +31,7 @@ pub(crate) struct Listed {
     pub(crate) always: Option<bool>,
     pub(crate) needs: Vec<Vec<u8>>,
     pub(crate) normal: bool,
-    pub(crate) runs: Option<Vec<u8>>,
+    pub(crate) runs: Vec<Vec<u8>>,
     pub(crate) sets: Vec<Setting>,
 }
 
@@ -49,7 +49,7 @@ impl Listed {
             always: self.always,
             needs: &self.needs,
             normal: self.normal,
-            runs: self.runs.as_deref(),
+            runs: &self.runs,
             sets: &self.sets,
         }
     }

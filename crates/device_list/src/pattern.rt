@@ -1,6 +1,6 @@
 //! The patterns that a list's lines of calls begin with.
 ghost use Rattle.std.specs.Prelude.{◌≡◌, map, option_map, IfOk, OnOk};
-ghost use Rattle.device_list.specs.CallLines.{filled_pattern, fits_word, fits, is_rest, pattern_word, pattern_words, ends_in_rest, fixed_words, pattern_of};
+ghost use Rattle.device_list.specs.CallLines.{same_word, same_words, same_pattern, word_alone, filled_pattern, fits_word, fits, is_rest, pattern_word, pattern_words, ends_in_rest, fixed_words, pattern_of};
 ghost use Rattle.device_list.specs.DevicesShown.{word_shown, pattern_shown};
 ghost use Rattle.commands.specs.TextsShown.{texts};
 ghost use Rattle.envtools.specs.Environment.{value_of};
@@ -36,12 +36,58 @@ fn fits_word(pattern: &PatternWord, word: &[u8]) -> bool
     }
 }
 
+/// Whether two words of patterns are the same.
+fn same_word(word: &PatternWord, other: &PatternWord) -> bool
+    ensures { result ≡ same_word (word_shown word.now) (word_shown other.now) }
+{
+    match (word, other) {
+        (PatternWord::Exactly(text), PatternWord::Exactly(other)) => text.as_slice()
+            == other.as_slice(),
+        (PatternWord::Starting(text), PatternWord::Starting(other)) => text.as_slice()
+            == other.as_slice(),
+        _ => false,
+    }
+}
+
+/// Whether two patterns have the same words.
+fn same_words(words: &[PatternWord], others: &[PatternWord]) -> bool
+    ensures { result ≡ same_words (map word_shown words.now) (map word_shown others.now) }
+{
+    let mut left = others;
+    for word in words {
+        let [other, rest @ ..] = left else {
+            return false;
+        };
+        if !same_word(word, other) {
+            return false;
+        }
+        left = rest;
+    }
+    left.is_empty()
+}
+
 impl Pattern {
+    /// The pattern of the calls with this word alone. Errors: memory ran out.
+    pub(crate) fn exactly(alloc: Global, word: Vec<u8>) -> Result<Pattern, AllocError>
+        ensures { IfOk result (λ p. pattern_shown p ≡ word_alone word.items) }
+    {
+        let mut words = Vec::new(alloc);
+        words.push(PatternWord::Exactly(word))?;
+        Ok(Pattern { words, more: false })
+    }
+
     /// Puts the values in the places of words that name a variable. Errors: memory ran out.
     pub(crate) fn fill(&mut self, alloc: Global, env: &Env) -> Result<(), AllocError>
         ensures { OnOk result (pattern_shown self.new ≡ filled_pattern (value_of env.now) (pattern_shown self.old)) }
     {
         fill_words(alloc, &mut self.words, env)
+    }
+
+    /// Whether two patterns are the same. Takes no memory.
+    pub(crate) fn is_same(&self, other: &Pattern) -> bool
+        ensures { result ≡ same_pattern (pattern_shown self.now) (pattern_shown other.now) }
+    {
+        same_words(&self.words, &other.words) && self.more == other.more
     }
 
     /// Whether a call with these words fits. Takes no memory.
