@@ -30,7 +30,7 @@ plain text = record { text = text; size = length text }
 abbrev devices : Devices
 devices = record (only ((codes "load", quiet) ∷ (codes "stay", record quiet { stays = true })
     ∷ (codes "set", record quiet { sets = (Variable (codes "b"), Literal (codes "1")) ∷ [] })
-    ∷ (codes "file", record quiet { runs = Some (codes "boot.scr") }) ∷ (codes "none", record quiet { runs = Some (codes "none") }) ∷ (codes "left", record quiet { runs = Some (codes "left.scr") }) ∷ [])) {
+    ∷ (codes "file", record quiet { runs = codes "boot.scr" ∷ [] }) ∷ (codes "none", record quiet { runs = codes "none" ∷ [] }) ∷ (codes "left", record quiet { runs = codes "left.scr" ∷ [] }) ∷ [])) {
       calls = (codes "boot", (record { words = []; more = true }, record quiet { needs = codes "load" ∷ [] }) ∷ []) ∷ [];
       known = codes "env" ∷ [];
       files = (codes "boot.scr", plain (codes "echo $a")) ∷ (codes "left.scr", plain (codes "exit 2")) ∷ [];

@@ -73,9 +73,9 @@ module _ (limits : Limits) (i j : ℕ) (k l : List LoggedCommand) where
   writes_alike request Failure known s t near = normal_alike limits i j k l (Status ∷ known) (logged Failure request s) (logged Failure request t) (near_logged limits i j k l known s t Failure request near)
 
   -- the status that is kept for the text of a file
-  handing_alike : (runs : Option Text) (known : List Key) (xs : List Access) (a b : Answer) → Is (known_after known xs) a b → Is (known_after known (handing_reads runs ++ xs)) a b
-  handing_alike None known xs a b h = h
-  handing_alike (Some name) known xs a b h = h
+  handing_alike : (runs : List Text) (known : List Key) (xs : List Access) (a b : Answer) → Is (known_after known xs) a b → Is (known_after known (handing_reads runs ++ xs)) a b
+  handing_alike [] known xs a b h = h
+  handing_alike (name ∷ others) known xs a b h = h
 
   with_alike : (request : Request) (d : Outcome) (known : List Key) (s t : State) → Near known s t → Is (known_after known (outcome_accesses d request)) (with_outcome d request s) (with_outcome d request t)
   with_alike request d known s t near =
@@ -145,22 +145,22 @@ module _ (limits : Limits) (i j : ℕ) (k l : List LoggedCommand) where
 
   -- ---- the status is known where a command that may hand over has its outcome
 
-  outcome_knows : (known : List Key) (request : Request) (name : Text) → request.effect.runs ≡ Some name → (d : Outcome) → ReadsWithin known (outcome_accesses d request) → IsAmong Status known
-  outcome_knows known request name e d w = (subst (λ (runs : Option Text). ReadsWithin known (handing_reads runs ++ outcome_writes d request)) e w).0
+  outcome_knows : (known : List Key) (request : Request) (name : Text) (others : List Text) → request.effect.runs ≡ name ∷ others → (d : Outcome) → ReadsWithin known (outcome_accesses d request) → IsAmong Status known
+  outcome_knows known request name others e d w = (subst (λ (runs : List Text). ReadsWithin known (handing_reads runs ++ outcome_writes d request)) e w).0
 
-  taken_knows : (known : List Key) (request : Request) (name : Text) → request.effect.runs ≡ Some name → (v : OutcomeWord) (s u : State) → take_outcome request v s ≡ Normal u → ReadsWithin known (taken_accesses request v) → IsAmong Status known
-  taken_knows known request name e [] s u f w = absurd (let g = f in cc)
-  taken_knows known request name e (d ∷ rest) s u f w = outcome_knows known request name e d w
+  taken_knows : (known : List Key) (request : Request) (name : Text) (others : List Text) → request.effect.runs ≡ name ∷ others → (v : OutcomeWord) (s u : State) → take_outcome request v s ≡ Normal u → ReadsWithin known (taken_accesses request v) → IsAmong Status known
+  taken_knows known request name others e [] s u f w = absurd (let g = f in cc)
+  taken_knows known request name others e (d ∷ rest) s u f w = outcome_knows known request name others e d w
 
-  told_knows : (known : List Key) (request : Request) (name : Text) → request.effect.runs ≡ Some name → (o : Option Bool) (s u : State) → tell_or_take o request s ≡ Normal u → ReadsWithin known (answer_accesses o request s) → IsAmong Status known
-  told_knows known request name e (Some success) s u f w = outcome_knows known request name e (outcome_when success) w
-  told_knows known request name e None s u f w = taken_knows known request name e s.word s u f w
+  told_knows : (known : List Key) (request : Request) (name : Text) (others : List Text) → request.effect.runs ≡ name ∷ others → (o : Option Bool) (s u : State) → tell_or_take o request s ≡ Normal u → ReadsWithin known (answer_accesses o request s) → IsAmong Status known
+  told_knows known request name others e (Some success) s u f w = outcome_knows known request name others e (outcome_when success) w
+  told_knows known request name others e None s u f w = taken_knows known request name others e s.word s u f w
 
-  pub asked_knows : (known : List Key) (request : Request) (name : Text) → request.effect.runs ≡ Some name → (s u : State) → device limits request s ≡ Normal u → ReadsWithin known (device_accesses limits request s) → IsAmong Status known
-  asked_knows known request name e s u = by (nat_lt (length s.log) limits.device_bound)
+  pub asked_knows : (known : List Key) (request : Request) (name : Text) (others : List Text) → request.effect.runs ≡ name ∷ others → (s u : State) → device limits request s ≡ Normal u → ReadsWithin known (device_accesses limits request s) → IsAmong Status known
+  asked_knows known request name others e s u = by (nat_lt (length s.log) limits.device_bound)
     where
       by : (b : Bool) → elim b [ true ↦ tell_or_take (told request s.log) request s | false ↦ Ended CutDevices s ] ≡ Normal u → ReadsWithin known (elim b [ true ↦ all_read (told_reads request) ++ answer_accesses (told request s.log) request s | false ↦ [] ]) → IsAmong Status known
-      by true f w = told_knows known request name e (told request s.log) s u f (read_then known (told_reads request) (answer_accesses (told request s.log) request s) w)
+      by true f w = told_knows known request name others e (told request s.log) s u f (read_then known (told_reads request) (answer_accesses (told request s.log) request s) w)
       by false f w = absurd (let g = f in cc)
 
   -- ---- a command of the list, whose need is met or not

@@ -13,11 +13,11 @@ use Rattle.rehearse_rules.specs.Parameters.{parameters_in}
 use Rattle.rehearse_rules.specs.ByShell.{unread, reads_again, leaves_in, status_of_exit, asks_in, truth_in, fields_in, turns_in, skips_rest, follows, call_in}
 use Rattle.rehearse_rules.specs.Needs.{effect_now}
 use Rattle.rehearse_rules.proofs.NeedsLemmas.{now_runs}
-use Rattle.rehearse_rules.specs.Execution.{Limits, Answer, Normal, Exit, Ended, Dry, Ending, CutSteps, Unknown, Unsupported, Panic, go_on, set_status, status_when, remember, goes, device, test_request, text_end, run_read, run_text, started_text, run_all, command, simple, sized, assign, exec_script, exec_list, exec_joined, exec_command, exec_arms, exec, turns_of, for_words, for_begun, block_skipped, turns, simple_call, request_of, run_file, file_follows, handed_over, sourced_text, Request}
-use Rattle.rehearse_rules.proofs.TakenOutcomes.{KeepsAll, Keeps-if, Keeps-run, Keeps-simple, Keeps-sized, Keeps-assign, Keeps-script, Keeps-joined, Keeps-arms, Keeps-exec, Keeps-ended, Keeps-words, Keeps-skip, Keeps-stays, Keeps-file}
+use Rattle.rehearse_rules.specs.Execution.{Limits, Answer, Normal, Exit, Ended, Dry, Ending, CutSteps, Unknown, Unsupported, Panic, go_on, choice_text, chosen, run_one, set_status, status_when, remember, goes, device, test_request, text_end, run_read, run_text, started_text, run_all, command, simple, sized, assign, exec_script, exec_list, exec_joined, exec_command, exec_arms, exec, turns_of, for_words, for_begun, block_skipped, turns, simple_call, request_of, run_file, file_follows, handed_over, sourced_text, Request}
+use Rattle.rehearse_rules.proofs.TakenOutcomes.{KeepsAll, Keeps-if, Keeps-run, Keeps-simple, Keeps-sized, Keeps-assign, Keeps-script, Keeps-joined, Keeps-arms, Keeps-exec, Keeps-ended, Keeps-words, Keeps-skip, Keeps-stays, Keeps-file, Keeps-one_file, Keeps-chosen}
 use Rattle.rehearse_reads.specs.Keys.{Key, Environment, Status, Access, Reads, Writes, AreAmong, AgreeOn, all_read, ReadsWithin, known_after}
 use Rattle.rehearse_reads.specs.Alike.{AreAbreast, IsAlike, same, cut_here, beyond}
-use Rattle.rehearse_reads.specs.Accesses.{behind, behind_text, status_written, words_reads, needs_reads, device_accesses, listed_accesses, computed_accesses, setenv_accesses, tree_accesses, read_accesses, text_accesses, started_accesses, run_accesses, builtin_accesses, call_accesses, simple_accesses, sized_accesses, assign_accesses, script_accesses, list_accesses, joined_accesses, command_accesses, arms_accesses, accesses, modern_accesses, turns_of_accesses, for_words_accesses, turns_accesses, simple_call_accesses, file_accesses, follow_accesses, handed_accesses, sourced_text_accesses}
+use Rattle.rehearse_reads.specs.Accesses.{here_accesses, chosen_accesses, one_accesses, behind, behind_text, status_written, words_reads, needs_reads, device_accesses, listed_accesses, computed_accesses, setenv_accesses, tree_accesses, read_accesses, text_accesses, started_accesses, run_accesses, builtin_accesses, call_accesses, simple_accesses, sized_accesses, assign_accesses, script_accesses, list_accesses, joined_accesses, command_accesses, arms_accesses, accesses, modern_accesses, turns_of_accesses, for_words_accesses, turns_accesses, simple_call_accesses, file_accesses, follow_accesses, handed_accesses, sourced_text_accesses}
 use Rattle.rehearse_reads.proofs.AccessLemmas.{read_first, read_then, within_first, within_then}
 use Rattle.rehearse_reads.proofs.AbreastLemmas.{near_status, near_computed, near_sets, near_echoed}
 use Rattle.rehearse_reads.proofs.SameWords.{fields_agree, turns_agree}
@@ -92,14 +92,34 @@ module _ (limits : Limits) (i j : ℕ) (k l : List LoggedCommand) where
     Alike-found (Some text) name known s t near w =
         Alike-text_end limits i j k l known s t (sourced_text limits script name text) Normal (sourced_text_accesses limits script of_script name text) (λ x. []) (Alike-sourced_text name text known s t) stays_alike (Keeps-stays limits.device_bound) near w
 
-    pub Alike-file : (name : Text) (before : ℕ) → AlwaysDoes (file_follows limits script name before) (follow_accesses limits script of_script name before)
-    Alike-file name before known s t near w =
-        let here : State = set_status before s in
-        let there : State = set_status before t in
+    Alike-here : (name : Text) (before : ℕ) → AlwaysDoes (λ s. run_file limits script name (set_status before s)) (here_accesses limits script of_script name before)
+    Alike-here name before known s t near w = Alike-found (file_in limits.devices name) name (Status ∷ known) (set_status before s) (set_status before t) (near_status limits i j k l known s t before near) w
+
+    pub Alike-chosen : (name : Text) (before : ℕ) (next : State → Answer) (u : State → List Access) → AlwaysDoes next u → AlwaysDoes (chosen limits script name before next) (chosen_accesses limits script of_script name before u)
+    Alike-chosen name before next u h known s t near w =
         if_alike limits i j k l known (nat_eq s.memory.status 0) (nat_eq t.memory.status 0) (ap (λ (n : ℕ). nat_eq n 0) (near.keys Status w.0))
-        (run_file limits script name here) (Normal s) (run_file limits script name there) (Normal t) (Writes Status ∷ file_accesses limits script of_script name here) []
-        (Alike-found (file_in limits.devices name) name (Status ∷ known) here there (near_status limits i j k l known s t before near))
-        (stays_alike known s t near) w.1
+        (run_file limits script name (set_status before s)) (next s) (run_file limits script name (set_status before t)) (next t) (here_accesses limits script of_script name before s) (u s)
+        (Alike-here name before known s t near) (h known s t near) w.1
+
+    pub Alike-one_file : (name : Text) (others : List Text) (before : ℕ) → AlwaysDoes (run_one limits script name others before) (one_accesses limits script of_script name others before)
+    Alike-one_file name [] before known s t near w = Alike-here name before known s t near w
+    Alike-one_file name (other ∷ others) before known s t near w =
+        let next : State → Answer = run_one limits script other others before in
+        let u : State → List Access = one_accesses limits script of_script other others before in
+        let f : State → Answer = started_text limits script name (choice_text name) in
+        let g : State → Answer = chosen limits script name before next in
+        let v : State → List Access = chosen_accesses limits script of_script name before u in
+        let asked : List Access = started_accesses limits script of_script (choice_text name) s in
+        let within : ReadsWithin known asked = within_first known asked (behind (f s) v) w in
+        after_then limits i j k l known asked (behind (f s) v) (go_on (f s) g) (go_on (f t) g)
+        (go_on_alike limits i j k l (known_after known asked) (f s) (f t) g v (Alike-chosen name before next u (Alike-one_file other others before)) (Keeps-chosen limits script kept name before next (Keeps-one_file limits script kept other others before)) (within_then known asked (behind (f s) v) w)
+        (Alike-started name (choice_text name) known s t near within))
+
+    pub Alike-file : (name : Text) (others : List Text) (before : ℕ) → AlwaysDoes (file_follows limits script name others before) (follow_accesses limits script of_script name others before)
+    Alike-file name others before known s t near w =
+        if_alike limits i j k l known (nat_eq s.memory.status 0) (nat_eq t.memory.status 0) (ap (λ (n : ℕ). nat_eq n 0) (near.keys Status w.0))
+        (run_one limits script name others before s) (Normal s) (run_one limits script name others before t) (Normal t) (one_accesses limits script of_script name others before s) []
+        (Alike-one_file name others before known s t near) (stays_alike known s t near) w.1
 
     -- what follows an answer may go by the state before it, which is the same where something follows
     before_alike : (ks known : List Key) (a b : Answer) (g h : State → Answer) → ((u : State) → a ≡ Normal u → h ≡ g) → Is ks a b → Is known (go_on a g) (go_on b g) → Is known (go_on a g) (go_on b h)
@@ -114,23 +134,23 @@ module _ (limits : Limits) (i j : ℕ) (k l : List LoggedCommand) where
     before_alike ks known (Dry u) b g h e (cut_here x) y = absurd x
     before_alike ks known (Dry u) b g h e (beyond x) y = beyond x
 
-    Alike-handed : (name : Text) (words : List Text) (effect : Effect) (runs : Option Text) → effect.runs ≡ runs
+    Alike-handed : (name : Text) (words : List Text) (effect : Effect) (runs : List Text) → effect.runs ≡ runs
         → AlwaysDoes (λ s. handed_over limits script runs s.memory.status (device limits (request_of name words (effect_now s.log effect)) s))
         (λ s. handed_accesses limits script of_script runs s.memory.status (listed_accesses limits name words effect s) (device limits (request_of name words (effect_now s.log effect)) s))
-    Alike-handed name words effect None e known s t near w = Alike-listed limits i j k l name words effect known s t near w
-    Alike-handed name words effect (Some file) e known s t near w =
+    Alike-handed name words effect [] e known s t near w = Alike-listed limits i j k l name words effect known s t near w
+    Alike-handed name words effect (file ∷ others) e known s t near w =
         let request : Request = request_of name words (effect_now s.log effect) in
         let f : State → Answer = λ x. device limits (request_of name words (effect_now x.log effect)) x in
-        let g : ℕ → State → Answer = file_follows limits script file in
+        let g : ℕ → State → Answer = file_follows limits script file others in
         let asked : List Access = listed_accesses limits name words effect s in
-        let v : State → List Access = follow_accesses limits script of_script file s.memory.status in
+        let v : State → List Access = follow_accesses limits script of_script file others s.memory.status in
         let within : ReadsWithin known asked = within_first known asked (behind (f s) v) w in
         let near_asked : Is (known_after known asked) (f s) (f t) = Alike-listed limits i j k l name words effect known s t near within in
         let status : (u : State) → f s ≡ Normal u → g t.memory.status ≡ g s.memory.status =
-        λ u is. ap g (near.keys Status (asked_knows limits i j k l known request file (now_runs s.log effect ∙ e) s u is (read_then known (needs_reads effect.needs) (device_accesses limits request s) within))) in
+        λ u is. ap g (near.keys Status (asked_knows limits i j k l known request file others (now_runs s.log effect ∙ e) s u is (read_then known (needs_reads effect.needs) (device_accesses limits request s) within))) in
         after_then limits i j k l known asked (behind (f s) v) (go_on (f s) (g s.memory.status)) (go_on (f t) (g t.memory.status))
         (before_alike (known_after known asked) (known_after (known_after known asked) (behind (f s) v)) (f s) (f t) (g s.memory.status) (g t.memory.status) status near_asked
-        (go_on_alike limits i j k l (known_after known asked) (f s) (f t) (g s.memory.status) v (Alike-file file s.memory.status) (Keeps-file limits script kept file s.memory.status) (within_then known asked (behind (f s) v) w) near_asked))
+        (go_on_alike limits i j k l (known_after known asked) (f s) (f t) (g s.memory.status) v (Alike-file file others s.memory.status) (Keeps-file limits script kept file others s.memory.status) (within_then known asked (behind (f s) v) w) near_asked))
 
     Alike-leave : (status : Option ℕ) (other : ℕ) → AlwaysDoes (λ s. elim status [ Some n ↦ Exit (set_status n s) | None ↦ Normal (set_status other s) ]) (λ s. status_written)
     Alike-leave (Some n) other known s t near w = exit_alike limits i j k l (Status ∷ known) (set_status n s) (set_status n t) (near_status limits i j k l known s t n near)

@@ -20,7 +20,7 @@ use Rattle.rehearse_terms.specs.declared.shell.Shell.TheVariants.{Profile, Old20
 use Rattle.rehearse_rules.specs.Parameters.{parameters_in}
 use Rattle.rehearse_rules.specs.ByShell.{call_in, asks_in, fields_in, turns_in, skips_rest, follows, assigned_in, is_refused, follows_turns}
 use Rattle.rehearse_rules.specs.Needs.{effect_now}
-use Rattle.rehearse_rules.specs.Execution.{Limits, Answer, Normal, Exit, Ended, Dry, CutSteps, Request, set_status, goes, holds, outcome_when, told, assign_local, begin_turn, request_of, test_request, started_text, sourced_text, run_read, run_text, exec_script, exec_list, exec_command, exec, for_begun, block_skipped, turns, for_each, exec_arms, device}
+use Rattle.rehearse_rules.specs.Execution.{choice_text, Limits, Answer, Normal, Exit, Ended, Dry, CutSteps, Request, set_status, goes, holds, outcome_when, told, assign_local, begin_turn, request_of, test_request, started_text, sourced_text, run_read, run_text, exec_script, exec_list, exec_command, exec, for_begun, block_skipped, turns, for_each, exec_arms, device}
 use Rattle.rehearse_reads.specs.Keys.{Key, Environment, Local, AnswerTo, Succeeded, Status, Access, Reads, Writes, all_read}
 
 -- what the next part of a script accesses, if this one has ended normally
@@ -93,9 +93,9 @@ abbrev pub told_reads : Request → List Key
 told_reads request = if request.effect.stays then AnswerTo (request.name ∷ request.words) ∷ [] else []
 
 -- a command that may hand over to the text of a file keeps the status for it
-abbrev pub handing_reads : (runs : Option Text) → List Access
-handing_reads None = []
-handing_reads (Some name) = Reads Status ∷ []
+abbrev pub handing_reads : (runs : List Text) → List Access
+handing_reads [] = []
+handing_reads (name ∷ others) = Reads Status ∷ []
 
 -- on success it sets what its settings say
 abbrev pub outcome_writes : Outcome → Request → List Access
@@ -293,18 +293,30 @@ module _ (limits : Limits) where
               ++ behind_text (sourced_text limits script name text s) (λ t. [])
         ]
 
-    -- the status says whether the text of a file follows, which begins with the status from before
-    abbrev pub follow_accesses : (name : Text) → (before : ℕ) → State → List Access
-    follow_accesses name before s =
-        Reads Status ∷ elim (nat_eq s.memory.status 0) [
-          | true ↦ Writes Status ∷ file_accesses name (set_status before s)
-          | false ↦ []
-        ]
+    -- the text of a file begins with the status from before
+    abbrev pub here_accesses : (name : Text) → (before : ℕ) → State → List Access
+    here_accesses name before s = Writes Status ∷ file_accesses name (set_status before s)
+
+    -- the status says whether it is this file
+    abbrev pub chosen_accesses : (name : Text) → (before : ℕ) → (next : State → List Access) → State → List Access
+    chosen_accesses name before next s =
+        Reads Status ∷ elim (nat_eq s.memory.status 0) [ true ↦ here_accesses name before s | false ↦ next s ]
+
+    -- which one it is, is asked of each but the last, in turn
+    abbrev pub one_accesses : (name : Text) → (others : List Text) → (before : ℕ) → State → List Access
+    one_accesses name [] before s = here_accesses name before s
+    one_accesses name (other ∷ others) before s = started_accesses (choice_text name) s
+        ++ behind (started_text limits script name (choice_text name) s) (chosen_accesses name before (one_accesses other others before))
+
+    -- the status says whether the text of one of the files follows
+    abbrev pub follow_accesses : (name : Text) → (others : List Text) → (before : ℕ) → State → List Access
+    follow_accesses name others before s =
+        Reads Status ∷ elim (nat_eq s.memory.status 0) [ true ↦ one_accesses name others before s | false ↦ [] ]
 
     -- `asked` is what a device command has accessed that came to an answer; then it may hand over
-    abbrev pub handed_accesses : (runs : Option Text) → (before : ℕ) → (asked : List Access) → Answer → List Access
-    handed_accesses None before asked a = asked
-    handed_accesses (Some name) before asked a = asked ++ behind a (follow_accesses name before)
+    abbrev pub handed_accesses : (runs : List Text) → (before : ℕ) → (asked : List Access) → Answer → List Access
+    handed_accesses [] before asked a = asked
+    handed_accesses (name ∷ others) before asked a = asked ++ behind a (follow_accesses name others before)
 
     abbrev pub builtin_accesses : Builtin → (name : Text) → (words : List Text) → State → List Access
     builtin_accesses SetEnv name words s = setenv_accesses words

@@ -12,7 +12,7 @@ use Rattle.device_list.specs.DeviceList.{file_in}
 use Rattle.device_list.specs.Called.{Called, BuiltIn, Device, NoCommand, called_by, sets_in}
 use Rattle.commands.specs.BuiltInCommands.{ChangesVariables, WritesText, RunsTexts, Tests, Exits}
 use Rattle.rehearse_rules.specs.ByShell.{call_in, unread, leaves_in, status_of_exit, asks_in, truth_in, fields_in, turns_in, skips_rest, status_of_loop, follows, assigned_in, reads_again, follows_turns}
-use Rattle.rehearse_rules.specs.Execution.{Limits, Answer, Normal, Exit, Ended, Dry, Ending, CutDevices, CutSteps, Size, go_on, set_status, status_when, goes, holds, begin, take_outcome, with_outcome, outcome_when, told, told_again, tell_or_take, device, Request, logged, set_environment, finish, text_end, run_read, run_text, run_all, command, simple_call, simple, sized, assign, turns, begin_turn, for_each, exec_script, exec_list, exec_joined, exec_command, exec_arms, exec, Unsupported, assign_local, request_of, test_request, started_text, text_failed, turns_of, for_words, for_begun, block_skipped, compound, compound_end, run_file, file_follows, handed_over, sourced, left_to_prompt, sourced_text}
+use Rattle.rehearse_rules.specs.Execution.{Limits, Answer, Normal, Exit, Ended, Dry, Ending, CutDevices, CutSteps, Size, go_on, set_status, status_when, goes, holds, begin, take_outcome, with_outcome, outcome_when, told, told_again, tell_or_take, device, Request, logged, set_environment, finish, text_end, run_read, run_text, run_all, command, simple_call, simple, sized, assign, turns, begin_turn, for_each, exec_script, exec_list, exec_joined, exec_command, exec_arms, exec, Unsupported, assign_local, request_of, test_request, started_text, text_failed, turns_of, for_words, for_begun, block_skipped, compound, compound_end, run_file, choice_text, chosen, run_one, file_follows, handed_over, sourced, left_to_prompt, sourced_text}
 use Rattle.rehearse_rules.specs.Needs.{effect_now}
 use Rattle.rehearse_rules.specs.Runs.{Task, run_on, state_of, steps}
 use Rattle.hushlang_shells.proofs.TreeByShellLemmas.{first_texts_are_proper, started_texts_are_proper, sourced_texts_are_proper}
@@ -156,14 +156,25 @@ module _ (limits : Limits) where
         let read : Answer = run_read limits script name (sourced_in limits.shell v) t in
         Ends-text_end t (sourced limits.shell read) Normal (Keeps-sourced_text limits script kept name v t).0 (Ends-sourced limits.shell read (read-ends (sourced_in limits.shell v) name t (λ a e. sourced_texts_are_proper limits.shell v a e) h r)) (λ u w l. w)
 
-    file-ends : (name : Text) (before : ℕ) (t : State) → IsWithin t → limits.step_bound < n + t.steps → Ends (file_follows limits script name before t)
-    file-ends name before t h r =
+    chosen-ends : (name : Text) (before : ℕ) (next : State → Answer) (t : State) → IsWithin t → limits.step_bound < n + t.steps → Ends (next t) → Ends (chosen limits script name before next t)
+    chosen-ends name before next t h r more =
         let u : State = set_status before t in
-        Ends-if (nat_eq t.memory.status 0) (run_file limits script name u) (Normal t) (λ e. found-ends (file_in limits.devices name) name u h r) (λ e. h)
+        Ends-if (nat_eq t.memory.status 0) (run_file limits script name u) (next t) (λ e. found-ends (file_in limits.devices name) name u h r) (λ e. more)
 
-    handed-ends : (runs : Option Text) (before : ℕ) (t : State) (a : Answer) → Track limits.device_bound t a → Ends a → limits.step_bound < n + t.steps → Ends (handed_over limits script runs before a)
-    handed-ends None before t a k h r = h
-    handed-ends (Some name) before t a k h r = Ends-go_on t a (file_follows limits script name before) k h (λ u w l. file-ends name before u w (omega arith))
+    one_file-ends : (name : Text) (others : List Text) (before : ℕ) (t : State) → IsWithin t → limits.step_bound < n + t.steps → Ends (run_one limits script name others before t)
+    one_file-ends name [] before t h r = found-ends (file_in limits.devices name) name (set_status before t) h r
+    one_file-ends name (other ∷ others) before t h r =
+        let next : State → Answer = run_one limits script other others before in
+        Ends-go_on t (started_text limits script name (choice_text name) t) (chosen limits script name before next) (Keeps-started limits script kept name (choice_text name) t).0 (started-ends name (choice_text name) t h r)
+        (λ u w l. chosen-ends name before next u w (omega arith) (one_file-ends other others before u w (omega arith)))
+
+    file-ends : (name : Text) (others : List Text) (before : ℕ) (t : State) → IsWithin t → limits.step_bound < n + t.steps → Ends (file_follows limits script name others before t)
+    file-ends name others before t h r =
+        Ends-if (nat_eq t.memory.status 0) (run_one limits script name others before t) (Normal t) (λ e. one_file-ends name others before t h r) (λ e. h)
+
+    handed-ends : (runs : List Text) (before : ℕ) (t : State) (a : Answer) → Track limits.device_bound t a → Ends a → limits.step_bound < n + t.steps → Ends (handed_over limits script runs before a)
+    handed-ends [] before t a k h r = h
+    handed-ends (name ∷ others) before t a k h r = Ends-go_on t a (file_follows limits script name others before) k h (λ u w l. file-ends name others before u w (omega arith))
 
     leave-ends : (status : Option ℕ) (other : ℕ) (t : State) → IsWithin t → Ends (elim status [ Some k ↦ Exit (set_status k t) | None ↦ Normal (set_status other t) ])
     leave-ends (Some k) other t h = h

@@ -116,7 +116,7 @@ module _ (bounds : Limits) (own : bounds.shell ≡ Profile) (devices : Devices) 
     asked_in shell stays name words = record {
       name = name;
       words = question_in shell words;
-      effect = record { ends = None; stays = stays; always = None; needs = []; normal = false; runs = None; sets = [] };
+      effect = record { ends = None; stays = stays; always = None; needs = []; normal = false; runs = []; sets = [] };
       again = false;
       on_success = status_when (truth_if shell true words);
       on_failure = status_when (truth_if shell false words);

@@ -12,7 +12,7 @@ use Rattle.rehearse_rules.proofs.TakenOutcomes.{skipped}
 use Rattle.rehearse_terms.specs.declared.shell.Shell.{Shell}
 use Rattle.rehearse_terms.specs.declared.shell.Shell.TheVariants.{Profile, Old2023, Old2025, Modern2025}
 use Rattle.rehearse_rules.specs.ByShell.{call_in, unread, reads_again, leaves_in, status_of_exit, asks_in, question_in, truth_in, fields_in, turns_in, skips_rest, status_of_loop, follows, assigned_in, follows_turns}
-use Rattle.rehearse_rules.specs.Execution.{Limits, Answer, Normal, Exit, Ended, Dry, CutSteps, Size, Request, go_on, set_status, status_when, goes, holds, begin, device, test_effect, text_end, run_read, run_text, run_all, command, simple_call, simple, sized, assign, turns, begin_turn, for_each, exec_script, exec_list, exec_joined, exec_command, exec_arms, exec, Unsupported, assign_local, request_of, test_request, started_text, text_failed, turns_of, for_words, for_begun, block_skipped, compound, compound_end, run_file, file_follows, handed_over, sourced, left_to_prompt, sourced_text}
+use Rattle.rehearse_rules.specs.Execution.{Limits, Answer, Normal, Exit, Ended, Dry, CutSteps, Size, Request, go_on, set_status, status_when, goes, holds, begin, device, test_effect, text_end, run_read, run_text, run_all, command, simple_call, simple, sized, assign, turns, begin_turn, for_each, exec_script, exec_list, exec_joined, exec_command, exec_arms, exec, Unsupported, assign_local, request_of, test_request, started_text, text_failed, turns_of, for_words, for_begun, block_skipped, compound, compound_end, run_file, choice_text, chosen, run_one, file_follows, handed_over, sourced, left_to_prompt, sourced_text}
 use Rattle.rehearse_rules.specs.Needs.{effect_now}
 use Rattle.rehearse_rules.specs.Runs.{state_of}
 use Rattle.rehearse_terms.specs.State.{Text, get, LoggedCommand, State}
@@ -139,14 +139,26 @@ module _ (P : List LoggedCommand → Type 0) where
           let read : Answer = run_read limits script name (sourced_in limits.shell v) s in
           keeps-text_end limits.shell (sourced limits.shell read) Normal (keeps-sourced limits.shell read (keeps-read (sourced_in limits.shell v) name s h)) (λ t i. i)
 
-      keeps-file : (name : Text) (before : ℕ) → KeepsLog (file_follows limits script name before)
-      keeps-file name before s h =
-          let t : State = set_status before s in
-          keeps-if (nat_eq s.memory.status 0) (run_file limits script name t) (Normal s) (keeps-found (file_in limits.devices name) name t h) h
+      keeps-here : (name : Text) (before : ℕ) → KeepsLog (λ s. run_file limits script name (set_status before s))
+      keeps-here name before s h = keeps-found (file_in limits.devices name) name (set_status before s) h
 
-      keeps-handed : (runs : Option Text) (before : ℕ) (a : Answer) → Holds (state_of a) → Holds (state_of (handed_over limits script runs before a))
-      keeps-handed None before a h = h
-      keeps-handed (Some name) before a h = keeps-go_on a (file_follows limits script name before) h (keeps-file name before)
+      keeps-chosen : (name : Text) (before : ℕ) (next : State → Answer) → KeepsLog next → KeepsLog (chosen limits script name before next)
+      keeps-chosen name before next k s h =
+          keeps-if (nat_eq s.memory.status 0) (run_file limits script name (set_status before s)) (next s) (keeps-here name before s h) (k s h)
+
+      keeps-one_file : (name : Text) (others : List Text) (before : ℕ) → KeepsLog (run_one limits script name others before)
+      keeps-one_file name [] before s h = keeps-here name before s h
+      keeps-one_file name (other ∷ others) before s h =
+          keeps-go_on (started_text limits script name (choice_text name) s) (chosen limits script name before (run_one limits script other others before)) (keeps-started name (choice_text name) s h)
+          (keeps-chosen name before (run_one limits script other others before) (keeps-one_file other others before))
+
+      keeps-file : (name : Text) (others : List Text) (before : ℕ) → KeepsLog (file_follows limits script name others before)
+      keeps-file name others before s h =
+          keeps-if (nat_eq s.memory.status 0) (run_one limits script name others before s) (Normal s) (keeps-one_file name others before s h) h
+
+      keeps-handed : (runs : List Text) (before : ℕ) (a : Answer) → Holds (state_of a) → Holds (state_of (handed_over limits script runs before a))
+      keeps-handed [] before a h = h
+      keeps-handed (name ∷ others) before a h = keeps-go_on a (file_follows limits script name others before) h (keeps-file name others before)
 
       keeps-leave : (status : Option ℕ) (other : ℕ) (s : State) → Holds s → Holds (state_of (elim status [ Some n ↦ Exit (set_status n s) | None ↦ Normal (set_status other s) ]))
       keeps-leave (Some n) other s h = h

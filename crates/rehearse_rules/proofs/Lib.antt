@@ -2,6 +2,7 @@ pub mod ChoiceTreeLemmas
 pub mod NextRunLemmas
 pub mod TakenOutcomes
 pub mod UnexpectedAnswers
+pub mod ChoicesAsked
 pub mod TaskChoices
 pub mod StepLemmas
 pub mod FewFailures

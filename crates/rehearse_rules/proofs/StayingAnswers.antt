@@ -31,7 +31,7 @@ lookup_behind {K} {V} test (x ∷ front) behind e = by (test x.0) e (lookup_behi
     by true f later = cc
     by false f later = later f
 
-words_same : (ws : List Text) → same_words ws ws ≡ true
+pub words_same : (ws : List Text) → same_words ws ws ≡ true
 words_same [] = refl
 words_same (w ∷ ws) = ap (λ (b : Bool). b && same_words ws ws) ((bytes_eq-Decides w w).1 refl) ∙ words_same ws
 
@@ -42,12 +42,12 @@ answers-append front behind =
     ∙ map-append (λ e. (e.words, e.success)) (filter (λ e. e.stays) (asked_of front)) (filter (λ e. e.stays) (asked_of behind))
 
 -- an answer is that of the whole log
-answer_stays : (front behind : List LoggedCommand) (call : List Text) (success : Bool) → answer_in front call ≡ Some success → answer_in (front ++ behind) call ≡ Some success
+pub answer_stays : (front behind : List LoggedCommand) (call : List Text) (success : Bool) → answer_in front call ≡ Some success → answer_in (front ++ behind) call ≡ Some success
 answer_stays front behind call success e =
     ap (lookup (same_words call)) (answers-append front behind) ∙ lookup_in_front (same_words call) (answers_in front) (answers_in behind) success e
 
 -- one that was asked is the answer of the log from then on
-answer_begins : (front behind : List LoggedCommand) (one : LoggedCommand) → answer_in front one.words ≡ None → one.stays ≡ true → one.again ≡ false → answer_in (front ++ one ∷ behind) one.words ≡ Some one.success
+pub answer_begins : (front behind : List LoggedCommand) (one : LoggedCommand) → answer_in front one.words ≡ None → one.stays ≡ true → one.again ≡ false → answer_in (front ++ one ∷ behind) one.words ≡ Some one.success
 answer_begins front behind one none stays fresh =
     ap (lookup (same_words one.words)) (answers-append front (one ∷ behind))
     ∙ lookup_behind (same_words one.words) (answers_in front) (answers_in (one ∷ behind)) none
@@ -62,14 +62,14 @@ answer_begins front behind one none stays fresh =
 -- ---- each command by the log before it
 
 -- it was told the answer that the log has, or it was asked
-abbrev Fits : Option Bool → LoggedCommand → Type 0
+abbrev pub Fits : Option Bool → LoggedCommand → Type 0
 Fits (Some success) one = (one.success ≡ success) × (one.again ≡ true)
 Fits None one = one.again ≡ false
 
-abbrev FitsBehind : List LoggedCommand → LoggedCommand → Type 0
+abbrev pub FitsBehind : List LoggedCommand → LoggedCommand → Type 0
 FitsBehind front one = one.stays ≡ true → Fits (answer_in front one.words) one
 
-abbrev AllFit : List LoggedCommand → List LoggedCommand → Type 0
+abbrev pub AllFit : List LoggedCommand → List LoggedCommand → Type 0
 AllFit front [] = Unit {0}
 AllFit front (one ∷ log) = FitsBehind front one × AllFit (front ++ one ∷ []) log
 
@@ -78,14 +78,14 @@ one_more front [] one h fits = (subst (λ (l : List LoggedCommand). FitsBehind l
 one_more front (first ∷ log) one h fits =
     (h.0, one_more (front ++ first ∷ []) log one h.1 (subst (λ (l : List LoggedCommand). FitsBehind l one) (sym (append_assoc front (first ∷ []) log)) fits))
 
-one_of : (front before behind : List LoggedCommand) (one : LoggedCommand) → AllFit front (before ++ one ∷ behind) → FitsBehind (front ++ before) one
+pub one_of : (front before behind : List LoggedCommand) (one : LoggedCommand) → AllFit front (before ++ one ∷ behind) → FitsBehind (front ++ before) one
 one_of front [] behind one h = subst (λ (l : List LoggedCommand). FitsBehind l one) (sym (append-nil front)) h.0
 one_of front (first ∷ before) behind one h =
     subst (λ (l : List LoggedCommand). FitsBehind l one) (append_assoc front (first ∷ []) before) (one_of (front ++ first ∷ []) before behind one h.1)
 
 -- ---- a device command keeps it
 
-abbrev Fitting : List LoggedCommand → Type 0
+abbrev pub Fitting : List LoggedCommand → Type 0
 Fitting log = AllFit [] log
 
 abbrev FittingAnswer : Answer → Type 0
@@ -131,7 +131,7 @@ device-fits limits r fresh any s h = by (nat_lt (length s.log) limits.device_bou
 
 -- ---- of a run
 
-all-fit : (task : Task) (w : OutcomeWord) → Fitting (state_of (run_on task w)).log
+pub all-fit : (task : Task) (w : OutcomeWord) → Fitting (state_of (run_on task w)).log
 all-fit task w =
     run-keeps Fitting task.limits (λ log name words effect. Unit {0}) (λ name named log words. tt) (λ name words effect e log. tt) (λ r fresh s any h. device-fits task.limits r fresh tt s h) task.limits.step_bound task.name task.text (start task.written task.environment w) tt
 

@@ -14,7 +14,7 @@ use Rattle.device_list.specs.DeviceList.{file_in}
 use Rattle.device_list.specs.Called.{Called, BuiltIn, Device, NoCommand, called_by, sets_in}
 use Rattle.commands.specs.BuiltInCommands.{ChangesVariables, WritesText, RunsTexts, Tests, Exits, variables_changed, text_written}
 use Rattle.rehearse_rules.specs.ByShell.{call_in, unread, leaves_in, status_of_exit, asks_in, truth_in, fields_in, turns_in, skips_rest, status_of_nothing, status_of_no_block, status_of_loop, follows, assigned_in, reads_again, status_of_text, follows_turns, status_of_for, status_of_skipped, left_status}
-use Rattle.rehearse_rules.specs.Execution.{Limits, Answer, Normal, Exit, Ended, Dry, Ending, CutDevices, CutSteps, Unknown, Size, go_on, remember, set_status, status_when, goes, holds, begin, take_outcome, with_outcome, outcome_when, told, told_again, tell_or_take, device, Request, logged, set_environment, finish, text_end, run_read, run_text, run_all, command, simple_call, simple, sized, assign, turns, begin_turn, for_each, exec_script, exec_list, exec_joined, exec_command, exec_arms, exec, succeeds, Unsupported, Panic, assign_local, request_of, test_request, started_text, text_failed, turns_of, for_words, for_begun, block_skipped, compound, compound_end, compound_left, run_file, file_follows, handed_over, sourced, left_to_prompt, sourced_text}
+use Rattle.rehearse_rules.specs.Execution.{Limits, Answer, Normal, Exit, Ended, Dry, Ending, CutDevices, CutSteps, Unknown, Size, go_on, remember, set_status, status_when, goes, holds, begin, take_outcome, with_outcome, outcome_when, told, told_again, tell_or_take, device, Request, logged, set_environment, finish, text_end, run_read, run_text, run_all, command, simple_call, simple, sized, assign, turns, begin_turn, for_each, exec_script, exec_list, exec_joined, exec_command, exec_arms, exec, succeeds, Unsupported, Panic, assign_local, request_of, test_request, started_text, text_failed, turns_of, for_words, for_begun, block_skipped, compound, compound_end, compound_left, run_file, choice_text, chosen, run_one, file_follows, handed_over, sourced, left_to_prompt, sourced_text}
 use Rattle.rehearse_rules.specs.Needs.{effect_now}
 use Rattle.rehearse_rules.specs.Expected.{Answered, asked_in}
 use Rattle.rehearse_terms.specs.declared.shell.Shell.{Shell}
@@ -471,16 +471,29 @@ module _ (limits : Limits) where
     Keeps-found None name s = Keeps-normal limits.device_bound s (λ m. record m { status = 1 })
     Keeps-found (Some v) name s = Keeps-text_end s (sourced_text limits script name v) Normal (Keeps-sourced_text name v s) (Keeps-stays limits.device_bound)
 
-    pub Keeps-file : (name : Text) (before : ℕ) → KeepsAll (file_follows limits script name before)
-    Keeps-file name before s =
+    pub Keeps-here : (name : Text) (before : ℕ) → KeepsAll (λ t. run_file limits script name (set_status before t))
+    Keeps-here name before s =
         let change : Memory → Memory = λ m. record m { status = before } in
-        Keeps-if limits.device_bound s (nat_eq s.memory.status 0) (λ t. run_file limits script name (remember change t)) Normal
-        (Keeps-remember limits.device_bound s change (run_file limits script name) (Keeps-found (file_in limits.devices name) name (remember change s))) (Keeps-stays limits.device_bound s)
+        Keeps-remember limits.device_bound s change (run_file limits script name) (Keeps-found (file_in limits.devices name) name (remember change s))
+
+    pub Keeps-chosen : (name : Text) (before : ℕ) (next : State → Answer) → KeepsAll next → KeepsAll (chosen limits script name before next)
+    Keeps-chosen name before next k s =
+        Keeps-if limits.device_bound s (nat_eq s.memory.status 0) (λ t. run_file limits script name (set_status before t)) next (Keeps-here name before s) (k s)
+
+    pub Keeps-one_file : (name : Text) (others : List Text) (before : ℕ) → KeepsAll (run_one limits script name others before)
+    Keeps-one_file name [] before s = Keeps-here name before s
+    Keeps-one_file name (other ∷ others) before s =
+        let next : State → Answer = run_one limits script other others before in
+        Keeps-go_on limits.device_bound s (started_text limits script name (choice_text name)) (chosen limits script name before next) (Keeps-started name (choice_text name) s) (Keeps-chosen name before next (Keeps-one_file other others before))
+
+    pub Keeps-file : (name : Text) (others : List Text) (before : ℕ) → KeepsAll (file_follows limits script name others before)
+    Keeps-file name others before s =
+        Keeps-if limits.device_bound s (nat_eq s.memory.status 0) (run_one limits script name others before) Normal (Keeps-one_file name others before s) (Keeps-stays limits.device_bound s)
 
     -- the status before the command is that of the state in which it is asked, whatever the word
-    pub Keeps-handed : (runs : Option Text) (s : State) (f : State → Answer) → Keeps limits.device_bound s f → Keeps limits.device_bound s (λ t. handed_over limits script runs t.memory.status (f t))
-    Keeps-handed None s f h = h
-    Keeps-handed (Some name) s f h = Keeps-go_on limits.device_bound s f (file_follows limits script name s.memory.status) h (Keeps-file name s.memory.status)
+    pub Keeps-handed : (runs : List Text) (s : State) (f : State → Answer) → Keeps limits.device_bound s f → Keeps limits.device_bound s (λ t. handed_over limits script runs t.memory.status (f t))
+    Keeps-handed [] s f h = h
+    Keeps-handed (name ∷ others) s f h = Keeps-go_on limits.device_bound s f (file_follows limits script name others s.memory.status) h (Keeps-file name others s.memory.status)
 
     pub Keeps-leave : (status : Option ℕ) (other : ℕ) (s : State) → Keeps limits.device_bound s (λ t. elim status [ Some n ↦ Exit (set_status n t) | None ↦ Normal (set_status other t) ])
     Keeps-leave (Some n) other s = Keeps-exit limits.device_bound s (λ m. record m { status = n })

@@ -1,6 +1,6 @@
 -- What a script does to a state, for the outcomes that its word still holds (U-Boot documentation, doc/usage/cmdline
 -- and doc/usage/cmd). The bounds are ours, and so is how a run ends that meets one.
-use Rattle.std.specs.Prelude.{ℕ, zero, suc, nat_lt, nat_le, nat_eq, Bool, true, false, not, List, [], ◌∷◌, ◌++◌, length, Option, Some, None, if◌then◌else◌}
+use Rattle.std.specs.Prelude.{ℕ, zero, suc, nat_lt, nat_le, nat_eq, Bool, true, false, not, List, [], ◌∷◌, ◌++◌, length, Option, Some, None, codes, if◌then◌else◌}
 use Rattle.device_list.specs.declared.finish.BoardEnd.{BoardEnd}
 use Rattle.hushlang.specs.Tree as tree
 use Rattle.hushlang.specs.Tree.{Script, AndOr, Joined, Command, Arms}
@@ -106,7 +106,7 @@ status_after Failure request = request.on_failure
 
 -- `test -e` changes nothing; its answers stay if the list says so
 abbrev pub test_effect : Devices → Effect
-test_effect devices = record { ends = None; stays = devices.test_stays; always = None; needs = []; normal = false; runs = None; sets = [] }
+test_effect devices = record { ends = None; stays = devices.test_stays; always = None; needs = []; normal = false; runs = []; sets = [] }
 
 -- the question of a `test`: its status says whether the words hold
 abbrev pub test_request : Limits → (name : Text) → (words : List Text) → Request
@@ -175,6 +175,10 @@ told_again request = record request { again = true }
 abbrev pub tell_or_take : (told : Option Bool) → Request → State → Answer
 tell_or_take (Some success) request s = with_outcome (outcome_when success) (told_again request) s
 tell_or_take None request s = take_outcome request s.word s
+
+-- the question whether a file is the one whose text runs, as a text
+abbrev pub choice_text : (name : Text) → Text
+choice_text name = codes "runs " ++ name
 
 -- ---- parts of scripts, by the meaning of what they are made of
 
@@ -328,15 +332,29 @@ module _ (limits : Limits) where
         | Some text ↦ text_end limits.shell (sourced_text script name text s) Normal
       ]
 
-  -- after a success the text of a file runs, with the status that was before the command
-  abbrev pub file_follows : (script : Script → State → Answer) → (name : Text) → (before : ℕ) → State → Answer
-  file_follows script name before s =
-      elim (nat_eq s.memory.status 0) [ true ↦ run_file script name (set_status before s) | false ↦ Normal s ]
+  -- the text of this file runs if the question has said so, with the status that was before the command
+  abbrev pub chosen : (script : Script → State → Answer) → (name : Text) → (before : ℕ) → (next : State → Answer) → State →
+      Answer
+  chosen script name before next s =
+      elim (nat_eq s.memory.status 0) [ true ↦ run_file script name (set_status before s) | false ↦ next s ]
+
+  -- the text of one of these files: which one it is, is asked of each but the last, in turn
+  abbrev pub run_one : (script : Script → State → Answer) → (name : Text) → (others : List Text) → (before : ℕ) → State →
+      Answer
+  run_one script name [] before s = run_file script name (set_status before s)
+  run_one script name (other ∷ others) before s =
+      go_on (started_text script name (choice_text name) s) (chosen script name before (run_one script other others before))
+
+  -- after a success the text of one of the files runs
+  abbrev pub file_follows : (script : Script → State → Answer) → (name : Text) → (others : List Text) → (before : ℕ) → State →
+      Answer
+  file_follows script name others before s =
+      elim (nat_eq s.memory.status 0) [ true ↦ run_one script name others before s | false ↦ Normal s ]
 
   -- a device command hands over to the text of a file if it names one and has succeeded
-  abbrev pub handed_over : (script : Script → State → Answer) → (runs : Option Text) → (before : ℕ) → Answer → Answer
-  handed_over script None before a = a
-  handed_over script (Some name) before a = go_on a (file_follows script name before)
+  abbrev pub handed_over : (script : Script → State → Answer) → (runs : List Text) → (before : ℕ) → Answer → Answer
+  handed_over script [] before a = a
+  handed_over script (name ∷ others) before a = go_on a (file_follows script name others before)
 
   -- a command by its fields, the name first; `again` says whether it is read again
   abbrev pub command : (again : Bool) → (script : Script → State → Answer) → Called → (name : Text) →

@@ -1,9 +1,9 @@
 -- The laws of rehearsals, over the definitions alone. Ours.
-use Rattle.std.specs.Prelude.{ℕ, ◌+◌, ◌^◌, true, false, filter, List, [], ◌∷◌, ◌++◌, length, map, flat_map, take, drop, Option, Some, None, ◌≡◌, ◌≢◌, ◌⊎◌, ◌↔◌, ◌≤◌, ◌<◌, codes}
+use Rattle.std.specs.Prelude.{ℕ, ◌+◌, ◌*◌, ◌^◌, true, false, filter, List, [], ◌∷◌, ◌++◌, length, map, flat_map, take, drop, Option, Some, None, ◌≡◌, ◌≢◌, ◌⊎◌, ◌↔◌, ◌≤◌, ◌<◌, codes}
 use Rattle.rehearse_terms.specs.Outcomes.{OutcomeWord, Outcome, Success, Failure, Run, Short, failures, common_prefix, comes_before}
 use Rattle.rehearse_terms.specs.State.{Text, LoggedCommand, State, asked_of}
 use Rattle.builtins.specs.Builtins.{builtin_of}
-use Rattle.device_list.specs.DeviceList.{Effect, effect_of}
+use Rattle.device_list.specs.DeviceList.{Effect, asked_about, effect_of}
 use Rattle.device_list.specs.Kinds.{Steady, EachCall, SaysNothing}
 use Rattle.rehearse_rules.specs.Needs.{is_met}
 use Rattle.rehearse_rules.specs.Choosing.{has_success, turned, first_run, first_from}
@@ -141,15 +141,22 @@ abbrev pub IsExpected : Task → (p : OutcomeWord) → (expected other : Outcome
 IsExpected task p expected other = (unexpected task (p ++ expected ∷ []) ≡ unexpected task p)
     × (unexpected task (p ++ other ∷ []) ≡ unexpected task p + 1)
 
--- At a device command that asks, one of the two outcomes is expected, and the other one counts.
+-- after p, neither outcome counts
+abbrev pub NeitherCounts : Task → (p : OutcomeWord) → Type 0
+NeitherCounts task p = (d : Outcome) → unexpected task (p ++ d ∷ []) ≡ unexpected task p
+
+-- At a device command that asks, one of the two outcomes is expected, and the other one counts; or neither counts, which is so
+-- only if the list asks which file runs.
 abbrev pub OneIsExpected : Type 0
 OneIsExpected = (task : Task) (p : OutcomeWord) → kind task p ≡ Short →
-    IsExpected task p Success Failure ⊎ IsExpected task p Failure Success
+    IsExpected task p Success Failure ⊎ (IsExpected task p Failure Success
+    ⊎ (NeitherCounts task p × (0 < length (asked_about task.limits.devices))))
 
--- Over a device list that says of no failure that it is expected, the failures of a run count.
+-- Over a device list that says of no failure that it is expected, and that does not ask which file runs, the failures of a run
+-- count.
 abbrev pub FailuresCount : Type 0
 FailuresCount = (task : Task) (w : OutcomeWord) → EachCall (λ effect. effect.normal ≡ false) task.limits.devices →
-    kind task w ≡ Run → unexpected task w ≡ failures w
+    task.limits.devices.choices ≡ [] → kind task w ≡ Run → unexpected task w ≡ failures w
 
 -- the task in which so many answers may be unexpected
 abbrev pub failing : Task → ℕ → Task
@@ -170,13 +177,14 @@ FewerAreMore = (task : Task) (most : ℕ) (w : OutcomeWord) → IsListed (failin
     IsListed (failing task (most + 1)) w
 
 -- there are at most as many as the words are that say at which device commands the unexpected answers are: one more than
--- a run may ask, so often multiplied
+-- a run may ask, so often multiplied; and twice as many for each file of which it is asked whether it runs
 abbrev pub FewRuns : Type 0
-FewRuns = (task : Task) (most : ℕ) → length (runs (failing task most)) ≤ (task.limits.device_bound + 1) ^ most
+FewRuns = (task : Task) (most : ℕ) →
+    length (runs (failing task most)) ≤ 2 ^ length (asked_about task.limits.devices) * (task.limits.device_bound + 1) ^ most
 
--- if none may be, the first run is the only one
+-- if none may be, and no file is asked about, the first run is the only one
 abbrev pub NoneMayFail : Type 0
-NoneMayFail = (task : Task) →
+NoneMayFail = (task : Task) → task.limits.devices.choices ≡ [] →
     runs (failing task 0) ≡ first_run (is_allowed (failing task 0)) (kind task) task.limits.device_bound ∷ []
 
 -- ---- pages
