@@ -30,8 +30,8 @@ use Rattle.rehearse_reuse.specs.Futures.{came_kind, came_to_end, came_log}
 use Rattle.rehearse_states.specs.Flow.{Node, Asks, Ends, Answered, asked_in, Seen, behind, stands_at, goes_on, walk}
 use Rattle.rehearse_reuse.specs.DrawnRuns.{further, seen_behind, Draws, seen_at}
 use Rattle.rehearse_states.specs.Drawing.{HasMore}
-use Rattle.device_list.specs.DeviceList.{Devices, fails_normally}
-use Rattle.rehearse_rules.specs.Expected.{is_unexpected, unexpected_of}
+use Rattle.device_list.specs.DeviceList.{Devices, expected}
+use Rattle.rehearse_rules.specs.Expected.{is_other, unexpected_of}
 use Rattle.rehearse_states.specs.Endings.{counts_at}
 use Rattle.rehearse_reuse.specs.SummedRuns.{came_count}
 use Rattle.rehearse_states.specs.Words.{words_in}
@@ -127,15 +127,16 @@ took limits known request Success w s = ended_itself limits known request.effect
 took limits known request Failure w s = normal_alike limits s.steps s.steps _ _ known _ _ (beside_itself limits known (logged Failure request (record s { word = w })))
 
 -- what the answer of one command counts
-first_counts : (devices : Devices) (call : List Text) (normal : Bool) → normal ≡ fails_normally devices call → (d : Outcome) (rest : List Answered) → length (unexpected_of devices ((succeeds d, call) ∷ rest)) ≡ counts_at normal d + length (unexpected_of devices rest)
-first_counts devices call normal e d rest =
-    ap (λ (b : Bool). let so : Bool = elim b [ true ↦ succeeds d | false ↦ not (succeeds d) ] in length (cond so ((succeeds d, call) ∷ unexpected_of devices rest) (unexpected_of devices rest))) (sym e) ∙ by normal d
+first_counts : (devices : Devices) (call : List Text) (answer : Option Bool) → answer ≡ expected devices call → (d : Outcome) (rest : List Answered) → length (unexpected_of devices ((succeeds d, call) ∷ rest)) ≡ counts_at answer d + length (unexpected_of devices rest)
+first_counts devices call answer e d rest =
+    ap (λ (o : Option Bool). length (cond (is_other o (succeeds d)) ((succeeds d, call) ∷ unexpected_of devices rest) (unexpected_of devices rest))) (sym e) ∙ by answer d
   where
-    by : (b : Bool) (o : Outcome) → (let so : Bool = elim b [ true ↦ succeeds o | false ↦ not (succeeds o) ] in length (cond so ((succeeds d, call) ∷ unexpected_of devices rest) (unexpected_of devices rest))) ≡ counts_at b o + length (unexpected_of devices rest)
-    by true Success = omega arith
-    by true Failure = omega arith
-    by false Success = omega arith
-    by false Failure = omega arith
+    by : (o : Option Bool) (outcome : Outcome) → length (cond (is_other o (succeeds outcome)) ((succeeds d, call) ∷ unexpected_of devices rest) (unexpected_of devices rest)) ≡ counts_at o outcome + length (unexpected_of devices rest)
+    by None outcome = omega arith
+    by (Some true) Success = omega arith
+    by (Some true) Failure = omega arith
+    by (Some false) Success = omega arith
+    by (Some false) Failure = omega arith
 
 module _ (limits : Limits) (m : Moment) (asking : Asking limits m) where
   logs_next : (d : Outcome) (w : OutcomeWord) → (rest : List LoggedCommand) × (came_log (asked_at limits m (d ∷ w)) ≡ m.log ++ entry_of asking.request d ∷ rest)
@@ -170,16 +171,16 @@ module _ (limits : Limits) (m : Moment) (asking : Asking limits m) where
       ∙ ap (further (length (asked_in m.log))) (sym h.1))
 
   -- how much it counts
-  pub counts_next : (normal : Bool) → normal ≡ fails_normally limits.devices (asking.request.name ∷ asking.request.words) → asking.request.again ≡ false → (d : Outcome) (w : OutcomeWord)
-      → came_count limits.devices (length (asked_in m.log)) (asked_at limits m (d ∷ w)) ≡ counts_at normal d + came_count limits.devices (suc (length (asked_in m.log))) (asked_at limits m (d ∷ w))
-  counts_next normal e fresh d w =
+  pub counts_next : (answer : Option Bool) → answer ≡ expected limits.devices (asking.request.name ∷ asking.request.words) → asking.request.again ≡ false → (d : Outcome) (w : OutcomeWord)
+      → came_count limits.devices (length (asked_in m.log)) (asked_at limits m (d ∷ w)) ≡ counts_at answer d + came_count limits.devices (suc (length (asked_in m.log))) (asked_at limits m (d ∷ w))
+  counts_next answer e fresh d w =
       let h = asked_next d w fresh in
       let entry : Answered = (succeeds d, asking.request.name ∷ asking.request.words) in
       ap (λ (log : List Answered). length (unexpected_of limits.devices (further (length (asked_in m.log)) log))) h.1
       ∙ ap (λ (log : List Answered). length (unexpected_of limits.devices log)) (further_behind (asked_in m.log) (entry ∷ h.0))
-      ∙ first_counts limits.devices (asking.request.name ∷ asking.request.words) normal e d h.0
-      ∙ ap (λ (log : List Answered). counts_at normal d + length (unexpected_of limits.devices log)) (sym (further_one (asked_in m.log) h.0 entry))
-      ∙ ap (λ (log : List Answered). counts_at normal d + length (unexpected_of limits.devices (further (suc (length (asked_in m.log))) log))) (sym h.1)
+      ∙ first_counts limits.devices (asking.request.name ∷ asking.request.words) answer e d h.0
+      ∙ ap (λ (log : List Answered). counts_at answer d + length (unexpected_of limits.devices log)) (sym (further_one (asked_in m.log) h.0 entry))
+      ∙ ap (λ (log : List Answered). counts_at answer d + length (unexpected_of limits.devices (further (suc (length (asked_in m.log))) log))) (sym h.1)
 
   -- the words of the device command, read from the log once it has answered
   pub words_logged : (log : List LoggedCommand) (d : Outcome) (w : OutcomeWord) → came_log (asked_at limits m (d ∷ w)) ≡ log → words_in (slice_get log (length m.log)) ≡ asking.request.name ∷ asking.request.words

@@ -13,7 +13,7 @@ use Rattle.rehearse_terms.specs.Outcomes.{OutcomeWord, Outcome, Success, Failure
 use Rattle.rehearse_terms.specs.State.{Text, State, LoggedCommand, asked_of, start}
 use Rattle.bootstore_state.specs.StoredState.{state_at}
 use Rattle.rehearse_rules.specs.Execution.{Limits, Answer, Normal, Exit, Ended, Dry, Ending, succeeds}
-use Rattle.device_list.specs.DeviceList.{Devices, fails_normally}
+use Rattle.device_list.specs.DeviceList.{Devices, expected}
 use Rattle.rehearse_rules.specs.Expected.{Answered, unexpected_of}
 use Rattle.rehearse_rules.specs.Runs.{Task, run_on, state_of, kind, kind_of, ending_of, unexpected}
 use Rattle.rehearse_rules.proofs.TakenOutcomes.{answers, GoesTo, Track-of}
@@ -168,14 +168,14 @@ log_there limits Asks f n h = ap came_log h.2
 log_there limits (Ends halt) f n h = ap came_log (h [])
 
 -- what each outcome counts, by the words that the log has
-counts_there : (limits : Limits) (m : Moment) (won_stop : Stop) (won_at : Moment) (devices : ℕ) (normal : Bool) (words : List Text) → IsAsking limits m → Stops limits won_stop (λ w. asked_at limits m (Success ∷ w)) won_at → devices ≡ length m.log
-    → words ≡ words_in (slice_get won_at.log devices) → normal ≡ fails_normally limits.devices words → (d : Outcome) (w : OutcomeWord)
-    → came_count limits.devices (length (asked_in m.log)) (asked_at limits m (d ∷ w)) ≡ counts_at normal d + came_count limits.devices (suc (length (asked_in m.log))) (asked_at limits m (d ∷ w))
+counts_there : (limits : Limits) (m : Moment) (won_stop : Stop) (won_at : Moment) (devices : ℕ) (answer : Option Bool) (words : List Text) → IsAsking limits m → Stops limits won_stop (λ w. asked_at limits m (Success ∷ w)) won_at → devices ≡ length m.log
+    → words ≡ words_in (slice_get won_at.log devices) → answer ≡ expected limits.devices words → (d : Outcome) (w : OutcomeWord)
+    → came_count limits.devices (length (asked_in m.log)) (asked_at limits m (d ∷ w)) ≡ counts_at answer d + came_count limits.devices (suc (length (asked_in m.log))) (asked_at limits m (d ∷ w))
 unfolding IsAsking
-counts_there limits m won_stop won_at devices normal words asking won logged are is d w =
+counts_there limits m won_stop won_at devices answer words asking won logged are is d w =
     let call : words ≡ asking.request.name ∷ asking.request.words =
     are ∙ ap (λ (n : ℕ). words_in (slice_get won_at.log n)) logged ∙ words_logged limits m asking won_at.log Success [] (log_there limits won_stop (λ v. asked_at limits m (Success ∷ v)) won_at won) in
-    counts_next limits m asking normal (is ∙ ap (fails_normally limits.devices) call) (asks_anew limits m asking) d w
+    counts_next limits m asking answer (is ∙ ap (expected limits.devices) call) (asks_anew limits m asking) d w
 
 module _ (names : List Text) (task : Task) (depth : ℕ) (m : Moment) (reached : IsReached task depth Asks m) where
   -- what follows one outcome
@@ -188,21 +188,21 @@ module _ (names : List Text) (task : Task) (depth : ℕ) (m : Moment) (reached :
       (subst (λ (k : ℕ). Sums names task.limits.devices k (future task.limits stop n) s) one sums)
 
   -- a device command that asks, from its two sides
-  pub summed_sides : (won_stop lost_stop : Stop) (won_at lost_at : Moment) (won lost s : Summary) (steps devices : ℕ) (normal : Bool) (words : List Text) → steps ≡ m.steps → devices ≡ length m.log
+  pub summed_sides : (won_stop lost_stop : Stop) (won_at lost_at : Moment) (won lost s : Summary) (steps devices : ℕ) (answer : Option Bool) (words : List Text) → steps ≡ m.steps → devices ≡ length m.log
       → Stops task.limits won_stop (λ w. asked_at task.limits m (Success ∷ w)) won_at → Stops task.limits lost_stop (λ w. asked_at task.limits m (Failure ∷ w)) lost_at
-      → words ≡ words_in (slice_get won_at.log devices) → normal ≡ fails_normally task.limits.devices words
+      → words ≡ words_in (slice_get won_at.log devices) → answer ≡ expected task.limits.devices words
       → SummedFrom names task.limits won_stop won_at won → SummedFrom names task.limits lost_stop lost_at lost
-      → s ≡ summary_of_sides (of_both_up normal) steps devices won lost → SummedFrom names task.limits Asks m s
-  summed_sides won_stop lost_stop won_at lost_at won lost s steps devices normal words k log a b are is h g e = (
-    of_sides m normal h.0 g.0,
-    sums_sides names task.limits.devices (length (asked_in m.log)) (asked_at task.limits m) m normal h.0 g.0 (reached_wants task depth m reached) (side_sums Success won_stop won_at h.0 a h.1) (side_sums Failure lost_stop lost_at g.0 b g.1)
-        (counts_there task.limits m won_stop won_at devices normal words (reached_asks task depth m reached) a log are is),
+      → s ≡ summary_of_sides (of_both_up answer) steps devices won lost → SummedFrom names task.limits Asks m s
+  summed_sides won_stop lost_stop won_at lost_at won lost s steps devices answer words k log a b are is h g e = (
+    of_sides m answer h.0 g.0,
+    sums_sides names task.limits.devices (length (asked_in m.log)) (asked_at task.limits m) m answer h.0 g.0 (reached_wants task depth m reached) (side_sums Success won_stop won_at h.0 a h.1) (side_sums Failure lost_stop lost_at g.0 b g.1)
+        (counts_there task.limits m won_stop won_at devices answer words (reached_asks task depth m reached) a log are is),
     e
-        ∙ ap (λ (n : ℕ). summary_of_sides (of_both_up normal) n devices won lost) k
-        ∙ ap (λ (n : ℕ). summary_of_sides (of_both_up normal) m.steps n won lost) log
-        ∙ ap (λ (x : Summary). summary_of_sides (of_both_up normal) m.steps (length m.log) x lost) h.2
-        ∙ ap (λ (x : Summary). summary_of_sides (of_both_up normal) m.steps (length m.log) (saturated_summary h.0) x) g.2
-        ∙ ap (λ (rows : List Row). record (of_sides m normal h.0 g.0) { rows = rows }) (sym (both_up normal h.0.rows g.0.rows)),
+        ∙ ap (λ (n : ℕ). summary_of_sides (of_both_up answer) n devices won lost) k
+        ∙ ap (λ (n : ℕ). summary_of_sides (of_both_up answer) m.steps n won lost) log
+        ∙ ap (λ (x : Summary). summary_of_sides (of_both_up answer) m.steps (length m.log) x lost) h.2
+        ∙ ap (λ (x : Summary). summary_of_sides (of_both_up answer) m.steps (length m.log) (saturated_summary h.0) x) g.2
+        ∙ ap (λ (rows : List Row). record (of_sides m answer h.0 g.0) { rows = rows }) (sym (both_up answer h.0.rows g.0.rows)),
   )
 
 -- ---- the table

@@ -1,5 +1,5 @@
 -- Summaries: of an end, and of both sides.
-use Rattle.std.proofs.Common.{ℕ, suc, ◌+◌, ◌≤◌, max, Bool, true, false, ◌||◌, List, [], ◌∷◌, length, refl, sym, ap, subst, ◌∙◌, ◌≡◌, arith}
+use Rattle.std.proofs.Common.{ℕ, suc, ◌+◌, ◌≤◌, max, Bool, true, false, ◌||◌, List, [], ◌∷◌, length, Option, refl, sym, ap, subst, ◌∙◌, ◌≡◌, arith}
 use Rattle.bootstore_state.specs.Moment.{Moment}
 use Rattle.rehearse_terms.specs.Outcomes.{OutcomeWord, Outcome, Success, Failure, WordKind}
 use Rattle.rehearse_terms.specs.State.{Text}
@@ -57,8 +57,8 @@ or_right false b h = h
 not_wanted : (f : OutcomeWord → Came) (m : Moment) (ending : Ending) → f [] ≡ Wants (state_at m []) → came_ending (f []) ≡ ending → End m.status ≡ ending
 not_wanted f m ending e h = sym (ap came_ending e) ∙ h
 
-module _ (names : List Text) (devices : Devices) (before : ℕ) (f : OutcomeWord → Came) (m : Moment) (normal : Bool) (won lost : Summary) (wants : f [] ≡ Wants (state_at m [])) (up : Sums names devices (suc before) (λ w. f (Success ∷ w)) won) (down : Sums names devices (suc before) (λ w. f (Failure ∷ w)) lost)
-    (counts : (d : Outcome) (w : OutcomeWord) → came_count devices before (f (d ∷ w)) ≡ counts_at normal d + came_count devices (suc before) (f (d ∷ w))) where
+module _ (names : List Text) (devices : Devices) (before : ℕ) (f : OutcomeWord → Came) (m : Moment) (answer : Option Bool) (won lost : Summary) (wants : f [] ≡ Wants (state_at m [])) (up : Sums names devices (suc before) (λ w. f (Success ∷ w)) won) (down : Sums names devices (suc before) (λ w. f (Failure ∷ w)) lost)
+    (counts : (d : Outcome) (w : OutcomeWord) → came_count devices before (f (d ∷ w)) ≡ counts_at answer d + came_count devices (suc before) (f (d ∷ w))) where
   side_steps : (w : OutcomeWord) → came_steps (f w) ≤ max m.steps (max won.steps lost.steps)
   side_steps [] = let e : came_steps (f []) ≡ m.steps = ap came_steps wants in omega arith
   side_steps (Success ∷ w) = let l = up.steps w in omega arith
@@ -80,5 +80,5 @@ module _ (names : List Text) (devices : Devices) (before : ℕ) (f : OutcomeWord
   side_cut_devices u (Failure ∷ w) e = down.uncut_devices (or_right won.cut_devices lost.cut_devices u) w e
 
   -- a device command that asks
-  pub sums_sides : Sums names devices before f (of_sides m normal won lost)
-  sums_sides = record { has_rows = asks normal (ap came_kind wants) (counts Success) (counts Failure) up.has_rows down.has_rows; steps = side_steps; reached = side_devices; uncut_steps = side_cut_steps; uncut_devices = side_cut_devices }
+  pub sums_sides : Sums names devices before f (of_sides m answer won lost)
+  sums_sides = record { has_rows = asks answer (ap came_kind wants) (counts Success) (counts Failure) up.has_rows down.has_rows; steps = side_steps; reached = side_devices; uncut_steps = side_cut_steps; uncut_devices = side_cut_devices }

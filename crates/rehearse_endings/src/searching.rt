@@ -325,7 +325,7 @@ fn summed<S: Store>(
                 lost.keys,
             )?;
             let below = behind_both(won_frames, won.below, lost_frames, lost.below);
-            let normal = rehearsal.devices.fails_normally(&words);
+            let expected = rehearsal.devices.expected(&words);
             let place = table
                 .flow
                 .ask(words, won.summary.place, lost.summary.place)?;
@@ -334,7 +334,7 @@ fn summed<S: Store>(
                 &mut table.sums,
                 steps,
                 devices,
-                normal,
+                expected,
                 won.summary,
                 lost.summary,
                 place,

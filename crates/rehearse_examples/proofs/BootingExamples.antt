@@ -7,10 +7,10 @@ use Rattle.rehearse_rules.specs.Runs.{Task}
 use Rattle.rehearse_rules.proofs.ExampleRehearsals.{limits, bootcmd, bootcmd_among, z, listed, works, ends_along, listed_along, works_along, along, working}
 
 abbrev final : Effect
-final = record { ends = Some Boots; stays = false; always = None; needs = []; normal = false; runs = None; sets = [] }
+final = record { ends = Some Boots; stays = false; always = None; needs = []; normal = false; runs = []; sets = [] }
 
 abbrev sets_one : Text → Text → Effect
-sets_one name value = record { ends = None; stays = false; always = None; needs = []; normal = false; runs = None; sets = (Variable name, Literal (value)) ∷ [] }
+sets_one name value = record { ends = None; stays = false; always = None; needs = []; normal = false; runs = []; sets = (Variable name, Literal (value)) ∷ [] }
 
 -- the device list `load filesize=1000`, `final bootm`
 abbrev loads_and_boots : Devices
@@ -39,7 +39,7 @@ sets_before_shell = along 1 _ _ _ _ refl refl
 
 -- the device list `load a=1`, `final load`, `load a=2`: of two settings of one name the later one counts, and the run
 -- ends
-joined_lines : listed (bootcmd (limits (only ((codes "load", record { ends = Some Boots; stays = false; always = None; needs = []; normal = false; runs = None; sets = (Variable (codes "a"), Literal (codes "1")) ∷ (Variable (codes "a"), Literal (codes "2")) ∷ [] }) ∷ [])) 16 10000) (codes "load; echo no")) (codes "a" ∷ []) None ≡ codes "run 0\ndev 0 load\nvar a=2\nbooted load\nrun 1\ndev 1 load\ntext no\\n\nunset a\nend 0\ndone\n"
+joined_lines : listed (bootcmd (limits (only ((codes "load", record { ends = Some Boots; stays = false; always = None; needs = []; normal = false; runs = []; sets = (Variable (codes "a"), Literal (codes "1")) ∷ (Variable (codes "a"), Literal (codes "2")) ∷ [] }) ∷ [])) 16 10000) (codes "load; echo no")) (codes "a" ∷ []) None ≡ codes "run 0\ndev 0 load\nvar a=2\nbooted load\nrun 1\ndev 1 load\ntext no\\n\nunset a\nend 0\ndone\n"
 unfolding listed_along ends_along
 joined_lines = along 1 _ _ _ _ refl refl
 
@@ -51,7 +51,7 @@ test_has_no_effect = along 1 _ _ _ _ refl refl
 -- the device list `sub part list @last=1`, `part`: on success the last word of the call is set; the line of the name is
 -- for the other calls
 abbrev part_list : Devices
-part_list = record { commands = (codes "part", record { ends = None; stays = false; always = None; needs = []; normal = false; runs = None; sets = [] }) ∷ []; subs = (codes "part", (codes "list", record { ends = None; stays = false; always = None; needs = []; normal = false; runs = None; sets = (LastWord, Literal (codes "1")) ∷ [] }) ∷ []) ∷ []; calls = []; known = []; test_stays = false; files = [] }
+part_list = record { commands = (codes "part", record { ends = None; stays = false; always = None; needs = []; normal = false; runs = []; sets = [] }) ∷ []; subs = (codes "part", (codes "list", record { ends = None; stays = false; always = None; needs = []; normal = false; runs = []; sets = (LastWord, Literal (codes "1")) ∷ [] }) ∷ []) ∷ []; calls = []; known = []; test_stays = false; choices = []; files = [] }
 
 sets_by_the_call : listed (bootcmd (limits part_list 16 10000) (codes "part list mmc 0 v || part uuid mmc w")) (codes "v" ∷ codes "w" ∷ []) None ≡ codes "run 0\ndev 0 part list mmc 0 v\nvar v=1\nunset w\nend 0\nrun 10\ndev 1 part list mmc 0 v\ndev 0 part uuid mmc w\nunset v\nunset w\nend 0\nrun 11\ndev 1 part list mmc 0 v\ndev 1 part uuid mmc w\nunset v\nunset w\nend 1\ndone\n"
 unfolding listed_along ends_along

@@ -50,11 +50,11 @@ unfolding told_of
 loops_at_step_bound_0 = refl
 
 -- steps and work with a final command and settings: a setting is no step
-steps_of_a_final_command : map (steps (bootcmd (limits (only ((codes "go", record { ends = Some Boots; stays = false; always = None; needs = []; normal = false; runs = None; sets = (Variable (codes "a"), Literal (codes "1")) ∷ (Variable (codes "b"), Literal (codes "2")) ∷ [] }) ∷ [])) 3 100) (codes "for i in 1 2; do x=1; go $i; done; true"))) ((Success ∷ []) ∷ (Failure ∷ Success ∷ []) ∷ (Failure ∷ Failure ∷ []) ∷ []) ≡ 3 ∷ 5 ∷ 6 ∷ []
+steps_of_a_final_command : map (steps (bootcmd (limits (only ((codes "go", record { ends = Some Boots; stays = false; always = None; needs = []; normal = false; runs = []; sets = (Variable (codes "a"), Literal (codes "1")) ∷ (Variable (codes "b"), Literal (codes "2")) ∷ [] }) ∷ [])) 3 100) (codes "for i in 1 2; do x=1; go $i; done; true"))) ((Success ∷ []) ∷ (Failure ∷ Success ∷ []) ∷ (Failure ∷ Failure ∷ []) ∷ []) ≡ 3 ∷ 5 ∷ 6 ∷ []
 unfolding tree_of fields joined atoms digits
 steps_of_a_final_command = refl
 
-work_of_a_final_command : work (bootcmd (limits (only ((codes "go", record { ends = Some Boots; stays = false; always = None; needs = []; normal = false; runs = None; sets = [] }) ∷ [])) 3 100) (codes "for i in 1 2; do x=1; go $i; done; true")) ((Success ∷ []) ∷ (Failure ∷ Success ∷ []) ∷ (Failure ∷ Failure ∷ []) ∷ []) ≡ 6
+work_of_a_final_command : work (bootcmd (limits (only ((codes "go", record { ends = Some Boots; stays = false; always = None; needs = []; normal = false; runs = []; sets = [] }) ∷ [])) 3 100) (codes "for i in 1 2; do x=1; go $i; done; true")) ((Success ∷ []) ∷ (Failure ∷ Success ∷ []) ∷ (Failure ∷ Failure ∷ []) ∷ []) ≡ 6
 unfolding tree_of fields joined atoms digits
 work_of_a_final_command = refl
 

@@ -60,14 +60,14 @@ unfolding listed
 test_e_before_a_comparison = refl
 
 abbrev going : Devices
-going = only ((codes "go", record { ends = Some Boots; stays = false; always = None; needs = []; normal = false; runs = None; sets = (Variable (codes "v"), Literal (codes "1")) ∷ [] }) ∷ [])
+going = only ((codes "go", record { ends = Some Boots; stays = false; always = None; needs = []; normal = false; runs = []; sets = (Variable (codes "v"), Literal (codes "1")) ∷ [] }) ∷ [])
 
 boot_in_the_condition_of_a_loop : listed (bootcmd_among (limits going 1 10000) ((codes "bootcmd", codes "while run t; do echo n; done; echo z") ∷ (codes "t", codes "if go; then echo y; fi; false") ∷ []) (codes "while run t; do echo n; done; echo z")) (codes "v" ∷ []) None ≡ codes "run 0\ndev 0 go\nvar v=1\nbooted go\nrun 1\ndev 1 go\ntext z\\n\nunset v\nend 0\ndone\n"
 unfolding listed
 boot_in_the_condition_of_a_loop = refl
 
 abbrev loads_a : Text → Devices
-loads_a value = only ((codes "load", record { ends = None; stays = false; always = None; needs = []; normal = false; runs = None; sets = (Variable (codes "a"), Literal value) ∷ [] }) ∷ [])
+loads_a value = only ((codes "load", record { ends = None; stays = false; always = None; needs = []; normal = false; runs = []; sets = (Variable (codes "a"), Literal value) ∷ [] }) ∷ [])
 
 settings_in_front_of_a_later_setenv : listed (bootcmd (limits (loads_a (codes "1")) 2 10000) (codes "setenv a 0; load; setenv a $a$a; load")) (codes "a" ∷ []) None ≡ codes "run 00\ndev 0 load\ndev 0 load\nvar a=1\nend 0\nrun 01\ndev 0 load\ndev 1 load\nvar a=11\nend 1\nrun 10\ndev 1 load\ndev 0 load\nvar a=1\nend 0\nrun 11\ndev 1 load\ndev 1 load\nvar a=00\nend 1\ndone\n"
 unfolding listed
@@ -77,7 +77,7 @@ an_empty_setting : listed (bootcmd_among (limits (loads_a []) 1 10000) ((codes "
 unfolding listed
 an_empty_setting = refl
 
-a_setting_of_the_running_text : listed (bootcmd (limits (only ((codes "load", record { ends = None; stays = false; always = None; needs = []; normal = false; runs = None; sets = (Variable (codes "bootcmd"), Literal (codes "fi")) ∷ [] }) ∷ [])) 1 10000) (codes "load; echo a; run bootcmd")) (codes "bootcmd" ∷ []) None ≡ codes "run 0\ndev 0 load\ntext a\\n\nvar bootcmd=fi\nstop syntax bootcmd\nrun 1\ndev 1 load\ntext a\\n\nvar bootcmd=load; echo a; run bootcmd\ncut devices\ndone\n"
+a_setting_of_the_running_text : listed (bootcmd (limits (only ((codes "load", record { ends = None; stays = false; always = None; needs = []; normal = false; runs = []; sets = (Variable (codes "bootcmd"), Literal (codes "fi")) ∷ [] }) ∷ [])) 1 10000) (codes "load; echo a; run bootcmd")) (codes "bootcmd" ∷ []) None ≡ codes "run 0\ndev 0 load\ntext a\\n\nvar bootcmd=fi\nstop syntax bootcmd\nrun 1\ndev 1 load\ntext a\\n\nvar bootcmd=load; echo a; run bootcmd\ncut devices\ndone\n"
 unfolding listed
 a_setting_of_the_running_text = refl
 
@@ -123,7 +123,7 @@ odd_names_asked : listed (bootcmd_among (limits only_load 0 10000) ((odd, odd) �
 unfolding listed
 odd_names_asked = refl
 
-booted_odd_name : listed (bootcmd (limits (only ((odd, record { ends = Some Boots; stays = false; always = None; needs = []; normal = false; runs = None; sets = (Variable (odd), Literal (codes "1")) ∷ [] }) ∷ [])) 1 10000) (codes "'" ++ odd ++ codes "'")) (odd ∷ []) None ≡ codes "run 0\ndev 0 a\\x20b\\\\\\n\\xff\nvar a\\x20b\\\\\\n\\xff=1\nbooted a\\x20b\\\\\\n\\xff\nrun 1\ndev 1 a\\x20b\\\\\\n\\xff\nunset a\\x20b\\\\\\n\\xff\nend 1\ndone\n"
+booted_odd_name : listed (bootcmd (limits (only ((odd, record { ends = Some Boots; stays = false; always = None; needs = []; normal = false; runs = []; sets = (Variable (odd), Literal (codes "1")) ∷ [] }) ∷ [])) 1 10000) (codes "'" ++ odd ++ codes "'")) (odd ∷ []) None ≡ codes "run 0\ndev 0 a\\x20b\\\\\\n\\xff\nvar a\\x20b\\\\\\n\\xff=1\nbooted a\\x20b\\\\\\n\\xff\nrun 1\ndev 1 a\\x20b\\\\\\n\\xff\nunset a\\x20b\\\\\\n\\xff\nend 1\ndone\n"
 unfolding listed
 booted_odd_name = refl
 

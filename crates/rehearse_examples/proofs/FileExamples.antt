@@ -11,7 +11,7 @@ use Rattle.rehearse_rules.proofs.ExampleRehearsals.{limits, bootcmd, z, listed, 
 
 -- `source` runs boot.scr
 abbrev source : Effect
-source = record quiet { runs = Some (codes "boot.scr") }
+source = record quiet { runs = codes "boot.scr" ∷ [] }
 
 -- a text that is no image
 abbrev plain : Text → FileText

@@ -17,4 +17,5 @@ mod FailuresExamples
 mod ModernShellExamples
 mod ShellExamples
 mod FileExamples
+mod ChosenFileExamples
 mod LogLinesExamples

@@ -42,7 +42,7 @@ broken_page = refl
 
 -- listings of a run that is cut, stopped or booted
 abbrev ends : List Text
-ends = listed (bootcmd (limits only_load 0 10000) (codes "load")) (codes "z" ∷ []) None ∷ listed (bootcmd (limits only_load 0 10000) (codes "foo")) (codes "z" ∷ []) None ∷ listed (bootcmd (limits (only ((codes "go", record { ends = Some Boots; stays = false; always = None; needs = []; normal = false; runs = None; sets = [] }) ∷ [])) 1 10000) (codes "go")) (codes "z" ∷ []) (Some 1) ∷ []
+ends = listed (bootcmd (limits only_load 0 10000) (codes "load")) (codes "z" ∷ []) None ∷ listed (bootcmd (limits only_load 0 10000) (codes "foo")) (codes "z" ∷ []) None ∷ listed (bootcmd (limits (only ((codes "go", record { ends = Some Boots; stays = false; always = None; needs = []; normal = false; runs = []; sets = [] }) ∷ [])) 1 10000) (codes "go")) (codes "z" ∷ []) (Some 1) ∷ []
 
 points_at_ends : map resume_point_of ends ≡ point (codes ".") 26 ∷ point (codes ".") 31 ∷ point (codes "0") 33 ∷ []
 unfolding listed

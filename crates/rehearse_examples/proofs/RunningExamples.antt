@@ -113,7 +113,7 @@ words_of_a_command = refl
 -- ---- computed commands
 
 abbrev known_three : Devices
-known_three = record { commands = []; subs = []; calls = []; known = codes "env" ∷ codes "itest" ∷ codes "setexpr" ∷ []; test_stays = false; files = [] }
+known_three = record { commands = []; subs = []; calls = []; known = codes "env" ∷ codes "itest" ∷ codes "setexpr" ∷ []; test_stays = false; choices = []; files = [] }
 
 abbrev told_known : Variables → Text → Told
 told_known variables text = told_of (bootcmd_among (limits known_three 0 10000) variables text)

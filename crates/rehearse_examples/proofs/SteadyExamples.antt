@@ -10,7 +10,7 @@ use Rattle.rehearse_rules.specs.Runs.{Task}
 use Rattle.rehearse_rules.proofs.ExampleRehearsals.{limits, bootcmd, bootcmd_among, z, listed, ends_along, listed_along, along}
 
 abbrev steady : Effect
-steady = record { ends = None; stays = true; always = None; needs = []; normal = false; runs = None; sets = [] }
+steady = record { ends = None; stays = true; always = None; needs = []; normal = false; runs = []; sets = [] }
 
 -- the device list `steady load`
 abbrev steady_load : Devices
@@ -107,7 +107,7 @@ in_a_text_listed = along 1 in_a_text z None _ refl refl
 
 -- the device list `steady sub mmc dev`, `mmc`: other calls of the name are asked each time
 abbrev sub_list : Devices
-sub_list = record { commands = (codes "mmc", quiet) ∷ []; subs = (codes "mmc", (codes "dev", steady) ∷ []) ∷ []; calls = []; known = []; test_stays = false; files = [] }
+sub_list = record { commands = (codes "mmc", quiet) ∷ []; subs = (codes "mmc", (codes "dev", steady) ∷ []) ∷ []; calls = []; known = []; test_stays = false; choices = []; files = [] }
 
 abbrev steady_sub : Task
 steady_sub = failing (bootcmd (limits sub_list 16 10000) (codes "mmc dev 1; mmc dev 1; mmc rescan; mmc rescan")) 0
@@ -118,7 +118,7 @@ steady_sub_listed = along 0 steady_sub z None _ refl refl
 
 -- the device list `steady sub part list @last=1`: the variable is that of the call, and is set by each of them
 abbrev part_list : Devices
-part_list = record { commands = []; subs = (codes "part", (codes "list", record steady { sets = (LastWord, Literal (codes "1")) ∷ [] }) ∷ []) ∷ []; calls = []; known = []; test_stays = false; files = [] }
+part_list = record { commands = []; subs = (codes "part", (codes "list", record steady { sets = (LastWord, Literal (codes "1")) ∷ [] }) ∷ []) ∷ []; calls = []; known = []; test_stays = false; choices = []; files = [] }
 
 abbrev parts : Task
 parts = bootcmd (limits part_list 16 10000) (codes "part list mmc v; setenv v; part list mmc v")
@@ -128,7 +128,7 @@ unfolding listed_along ends_along
 parts_listed = along 1 parts (codes "v" ∷ []) None _ refl refl
 
 -- the device list `steady mmc`, `sub mmc rescan`: the `sub` lines decide for a call
-sub_lines_decide : effect_of (record { commands = (codes "mmc", steady) ∷ []; subs = (codes "mmc", (codes "rescan", quiet) ∷ []) ∷ []; calls = []; known = []; test_stays = false; files = [] }) (codes "mmc") (codes "rescan" ∷ []) ≡ Some quiet
+sub_lines_decide : effect_of (record { commands = (codes "mmc", steady) ∷ []; subs = (codes "mmc", (codes "rescan", quiet) ∷ []) ∷ []; calls = []; known = []; test_stays = false; choices = []; files = [] }) (codes "mmc") (codes "rescan" ∷ []) ≡ Some quiet
 sub_lines_decide = refl
 
 -- an answer that is told again counts against the bound of device commands
@@ -158,6 +158,7 @@ fixed_list = record {
   calls = (codes "usb", (record { words = Exactly (codes "start") ∷ []; more = false }, record quiet { always = Some true }) ∷ []) ∷ (codes "part", (record { words = []; more = true }, record quiet { always = Some false }) ∷ []) ∷ [];
   known = [];
   test_stays = false;
+  choices = [];
   files = [];
 }
 

@@ -3,16 +3,16 @@ use Rattle.std.proofs.Common.{◌≡◌, ◌∙◌, refl, sym, ap, subst, ℕ, s
 use Rattle.hushlang.specs.Tree.{Script, Joined, Arms}
 use Rattle.rehearse_terms.specs.Outcomes.{OutcomeWord, WordKind, Run, Long}
 use Rattle.rehearse_terms.specs.State.{Text, State, LoggedCommand, get}
-use Rattle.rehearse_rules.specs.Execution.{Limits, Answer, Normal, Exit, Ended, Dry, Ending, End, take_outcome, run_all, turns, block_skipped, go_on, file_follows, text_end, sourced, Request}
+use Rattle.rehearse_rules.specs.Execution.{Limits, Answer, Normal, Exit, Ended, Dry, Ending, End, take_outcome, run_all, turns, block_skipped, go_on, file_follows, text_end, sourced, Request, chosen, run_one}
 use Rattle.rehearse_rules.specs.Runs.{taken_kind}
-use Rattle.rehearse_rules.proofs.TakenOutcomes.{KeepsAll, Keeps-script, Keeps-joined, Keeps-arms, Keeps-exec, Keeps-run, Keeps-turns, Keeps-for, Keeps-if, Keeps-stays, after_condition, Keeps-after_condition, Keeps-skip, Keeps-file}
+use Rattle.rehearse_rules.proofs.TakenOutcomes.{KeepsAll, Keeps-script, Keeps-joined, Keeps-arms, Keeps-exec, Keeps-run, Keeps-turns, Keeps-for, Keeps-if, Keeps-stays, after_condition, Keeps-after_condition, Keeps-skip, Keeps-file, Keeps-chosen, Keeps-one_file}
 use Rattle.rehearse_machine.specs.Came as came
 use Rattle.rehearse_machine.specs.Came.{Over, settled}
-use Rattle.rehearse_machine.specs.Frames.{Frame, Lists, Linked, IfCondition, LoopCondition, LoopBody, ForBody, RunNames, RunText, CommandEnd, RunFile, FileText, with_file}
+use Rattle.rehearse_machine.specs.Frames.{Frame, Lists, Linked, IfCondition, LoopCondition, LoopBody, ForBody, RunNames, RunText, CommandEnd, RunFile, FileText, with_file, ChosenFile}
 use Rattle.rehearse_machine.specs.Meaning.{with, first_or_next, full, script, joined_of, arms_of, again, resume, continue}
 use Rattle.rehearse_machine.proofs.MoveMeaning.{continue-dry}
 use Rattle.rehearse_reads.specs.Keys.{Key, Environment, Status, Access, AgreeOn, ReadsWithin, known_after}
-use Rattle.rehearse_reads.specs.Accesses.{turns_accesses, each_accesses, taken_accesses, handing_reads, outcome_writes, modern_accesses, behind, behind_text, sourced_accesses}
+use Rattle.rehearse_reads.specs.Accesses.{turns_accesses, each_accesses, taken_accesses, handing_reads, outcome_writes, modern_accesses, behind, behind_text, sourced_accesses, one_accesses}
 use Rattle.rehearse_reads.specs.Alike as alike
 use Rattle.rehearse_reads.specs.Alike.{AreAbreast, IsAlike}
 use Rattle.rehearse_reads.proofs.AccessLemmas.{within_first, within_then}
@@ -21,9 +21,9 @@ use Rattle.rehearse_reads.proofs.AbreastLemmas.{moved_at, near_moved}
 use Rattle.rehearse_reads.proofs.AlikeParts.{further_apart, normal_later, if_later, normal_alike, ended_alike, dry_alike, if_alike, go_on_alike, text_end_alike, Alike-read, after_then}
 use Rattle.rehearse_reads.proofs.AlikeDevices.{take_alike}
 use Rattle.rehearse_reads.proofs.AlikeLoops.{Alike-turns, Alike-each, Alike-skip, after_alike, compound_then, compound_alike, sourced_alike}
-use Rattle.rehearse_reads.proofs.AlikeScripts.{Alike-run, Alike-script, Alike-joined, Alike-arms, Alike-exec, Alike-file}
+use Rattle.rehearse_reads.proofs.AlikeScripts.{Alike-run, Alike-script, Alike-joined, Alike-arms, Alike-exec, Alike-file, Alike-chosen, Alike-one_file}
 use Rattle.rehearse_reads.proofs.AlikeRuns.{from_the_start}
-use Rattle.rehearse_frames.specs.ToCome.{names_read, first_behind, of_full, of_script, of_joined, of_arms, of_again, of_condition, of_choice, of_names, of_frame, of_end, of_frames, choice, condition, turns_left, of_file}
+use Rattle.rehearse_frames.specs.ToCome.{names_read, first_behind, of_full, of_script, of_joined, of_arms, of_again, of_condition, of_choice, of_names, of_frame, of_end, of_frames, choice, condition, turns_left, of_file, of_chosen}
 use Rattle.rehearse_frames.specs.AlikeFutures.{CameAlike, same, cut_here, beyond}
 use Rattle.rehearse_frames.specs.Laws.{FramesGoAlike, AskedAlike}
 
@@ -120,8 +120,14 @@ module _ (limits : Limits) (i j : ℕ) (k l : List LoggedCommand) where
       (λ t. Keeps-for limits name (script limits body) (kept_script body) t.memory.status values t) v h) w
   resume_alike (RunNames names) known a b w h = first_alike known a b (run_all limits (full limits) names) (of_names limits names) (names_does names) (kept_names names) w h
   resume_alike (RunText names) known a b w h = text_end_alike limits i j k l known a b (run_all limits (full limits) names) (of_names limits names) (names_does names) (kept_names names) w h
-  resume_alike (RunFile name before) known a b w h =
-      go_on_alike limits i j k l known a b (file_follows limits (full limits) name before) (of_file limits name before) (Alike-file limits i j k l (full limits) (of_full limits) kept_full full_does name before) (Keeps-file limits (full limits) kept_full name before) w h
+  resume_alike (RunFile name others before) known a b w h =
+      go_on_alike limits i j k l known a b (file_follows limits (full limits) name others before) (of_file limits name others before) (Alike-file limits i j k l (full limits) (of_full limits) kept_full full_does name others before) (Keeps-file limits (full limits) kept_full name others before) w h
+  resume_alike (ChosenFile name other others before) known a b w h =
+      let next : State → Answer = run_one limits (full limits) other others before in
+      let of_next : State → List Access = one_accesses limits (full limits) (of_full limits) other others before in
+      go_on_alike limits i j k l known a b (chosen limits (full limits) name before next) (of_chosen limits name other others before)
+      (Alike-chosen limits i j k l (full limits) (of_full limits) kept_full full_does name before next of_next (Alike-one_file limits i j k l (full limits) (of_full limits) kept_full full_does other others before))
+      (Keeps-chosen limits (full limits) kept_full name before next (Keeps-one_file limits (full limits) kept_full other others before)) w h
   resume_alike FileText known a b w h =
       let last : List Access = sourced_accesses limits.shell a in
       let ended : List Access = behind_text (sourced limits.shell a) (λ t. []) in
@@ -206,9 +212,9 @@ file_alike limits request fs keys s t agree [] within =
 file_alike limits request fs keys s t agree (d ∷ w) within =
     ap (λ (gs : List Frame). continue limits gs (take_outcome request (d ∷ w) (with (d ∷ w) t))) (by request.effect.runs within)
   where
-    by : (runs : Option Text) → ReadsWithin keys (handing_reads runs ++ outcome_writes d request) → with_file t.memory.status runs fs ≡ with_file s.memory.status runs fs
-    by None h = refl
-    by (Some name) h = ap (λ (n : ℕ). RunFile name n ∷ fs) (agree Status h.0)
+    by : (runs : List Text) → ReadsWithin keys (handing_reads runs ++ outcome_writes d request) → with_file t.memory.status runs fs ≡ with_file s.memory.status runs fs
+    by [] h = refl
+    by (name ∷ others) h = ap (λ (n : ℕ). RunFile name others n ∷ fs) (agree Status h.0)
 
 pub asked_alike : AskedAlike
 asked_alike limits wanted w request fs keys s t within agree =

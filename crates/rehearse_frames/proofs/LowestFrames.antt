@@ -81,9 +81,9 @@ one_more : (below : ℕ) (f : RunningFrame) (ps : List RunningFrame) → below �
 one_more below f ps within =
     let more : length (f ∷ ps) - below ≡ suc (length ps - below) = omega arith in ap (λ (count : ℕ). take count (f ∷ ps)) more
 
-lifted_file : (below before : ℕ) (runs : Option Text) (ps : List RunningFrame) → below ≤ length ps → above below (above_file before runs ps) ≡ above_file before runs (above below ps)
-lifted_file below before None ps within = refl
-lifted_file below before (Some name) ps within = one_more below (file_frame before name) ps within
+lifted_file : (below before : ℕ) (runs : List Text) (ps : List RunningFrame) → below ≤ length ps → above below (above_file before runs ps) ≡ above_file before runs (above below ps)
+lifted_file below before [] ps within = refl
+lifted_file below before (name ∷ others) ps within = one_more below (file_frame before (name ∷ others)) ps within
 
 lifted_answered : (below : ℕ) (outcome : Outcome) (r : Request) (ps : List RunningFrame) (s : State) → below ≤ length ps
     → lifted below (place_answered outcome r ps s) ≡ place_answered outcome r (above below ps) s
@@ -191,9 +191,9 @@ pub asks_above : AsksAbove
 unfolding IsAsking
 asks_above limits below m asking within = asking_above limits below m asking within
 
-file_joins : (before : ℕ) (runs : Option Text) (xs ys : List Frame) → with_file before runs (xs ++ ys) ≡ with_file before runs xs ++ ys
-file_joins before None xs ys = refl
-file_joins before (Some name) xs ys = refl
+file_joins : (before : ℕ) (runs : List Text) (xs ys : List Frame) → with_file before runs (xs ++ ys) ≡ with_file before runs xs ++ ys
+file_joins before [] xs ys = refl
+file_joins before (name ∷ others) xs ys = refl
 
 -- ---- what is to come
 

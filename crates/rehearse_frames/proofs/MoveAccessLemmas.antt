@@ -18,20 +18,20 @@ use Rattle.rehearse_terms.specs.declared.shell.Shell.TheVariants.{Profile, Old20
 use Rattle.rehearse_rules.specs.Parameters.{parameters_in}
 use Rattle.rehearse_rules.specs.ByShell.{unread, leaves_in, status_of_exit, asks_in, truth_in, fields_in, turns_in, skips_rest, status_of_loop, follows, assigned_in, reads_again, follows_turns, status_of_no_block, call_in}
 use Rattle.rehearse_rules.specs.Needs.{effect_now}
-use Rattle.rehearse_rules.specs.Execution.{Limits, Answer, Normal, Exit, Ended, Ending, End, CutDevices, CutSteps, Unknown, Size, Finished, Unsupported, Panic, Request, go_on, set_status, status_when, goes, holds, begin, finish, tell_or_take, told, told_again, logged, set_environment, device, text_end, run_all, command, simple, sized, assign, assign_local, turns, for_each, begin_turn, run_read, started_text, request_of, test_request, text_failed, turns_of, for_words, for_begun, block_skipped, compound, compound_left, Dry, simple_call, run_file, handed_over, sourced, sourced_text}
+use Rattle.rehearse_rules.specs.Execution.{Limits, Answer, Normal, Exit, Ended, Ending, End, CutDevices, CutSteps, Unknown, Size, Finished, Unsupported, Panic, Request, go_on, set_status, status_when, goes, holds, begin, finish, tell_or_take, told, told_again, logged, set_environment, device, text_end, run_all, command, simple, sized, assign, assign_local, turns, for_each, begin_turn, run_read, started_text, request_of, test_request, text_failed, turns_of, for_words, for_begun, block_skipped, compound, compound_left, Dry, simple_call, run_file, handed_over, sourced, sourced_text, choice_text, chosen, run_one}
 use Rattle.rehearse_rules.proofs.NeedsLemmas.{now_runs}
 use Rattle.rehearse_rules.proofs.CompoundLemmas.{compound_normal, compound_ended, sourced_normal, sourced_ended}
 use Rattle.rehearse_rules.proofs.GrowingSteps.{Grew, AtLeast-track, Grew-block}
 use Rattle.rehearse_rules.proofs.TakenOutcomes.{KeepsAll, Keeps-script, Keeps-exec}
-use Rattle.rehearse_machine.specs.Frames.{Frame, Lists, Linked, IfCondition, LoopCondition, LoopBody, ForBody, RunNames, RunText, Next, Go, Ask, Stop, tell_or_ask, finish_next, leave, begin_assign, begin_for, begin_arms, begin_read, begin_text, begin_names, begin_exit, fitting, ask, begin_called, begin_fields, counted, begin_command, answered, move, begin_turns, begin_words, CommandEnd, leave_compound, behind_block, begin_simple_call, RunFile, FileText, with_file, leave_file, begin_sourced, begin_file}
+use Rattle.rehearse_machine.specs.Frames.{Frame, Lists, Linked, IfCondition, LoopCondition, LoopBody, ForBody, RunNames, RunText, Next, Go, Ask, Stop, tell_or_ask, finish_next, leave, begin_assign, begin_for, begin_arms, begin_read, begin_text, begin_names, begin_exit, fitting, ask, begin_called, begin_fields, counted, begin_command, answered, move, begin_turns, begin_words, CommandEnd, leave_compound, behind_block, begin_simple_call, RunFile, FileText, with_file, leave_file, begin_sourced, begin_file, ChosenFile, begin_one, begin_question}
 use Rattle.rehearse_machine.specs.Meaning.{with, full, script, one, joined_of, arms_of, again, resume, AreProperFrames}
 use Rattle.rehearse_machine.proofs.MoveMeaning.{failed_with_1, turn_more}
 use Rattle.rehearse_machine.proofs.StepBoundLemmas.{closed_exec}
 use Rattle.rehearse_machine.proofs.BoundLemmas.{Cut-block}
 use Rattle.rehearse_reads.specs.Keys.{Access, Reads, Writes, Environment, Status, all_read}
-use Rattle.rehearse_reads.specs.Accesses.{needs_reads, listed_accesses, behind, behind_text, status_written, word_reads, words_reads, sized_accesses, local_accesses, assign_accesses, turns_accesses, turn_accesses, each_accesses, for_accesses, begun_accesses, told_reads, answer_accesses, outcome_accesses, device_accesses, computed_accesses, read_accesses, started_accesses, builtin_accesses, call_accesses, simple_accesses, modern_accesses, turns_of_accesses, for_words_accesses, left_accesses, compound_accesses, nothing_accesses, simple_call_accesses, file_accesses, handed_accesses, sourced_accesses, sourced_text_accesses}
-use Rattle.rehearse_frames.specs.ToCome.{names_read, of_full, of_script, of_one, of_joined, of_arms, of_again, of_condition, of_choice, of_names, of_frames, of_next, choice, condition, turns_left, of_compound, of_file}
-use Rattle.rehearse_frames.specs.MoveAccesses.{of_listed, of_leaving, of_exit, of_telling, of_beginning_for, of_beginning_arms, of_beginning_read, of_beginning_text, of_beginning_file, of_beginning_names, of_asking, of_builtin, of_call, of_fields, of_command, of_move, of_beginning_turns, of_beginning_words, of_leaving_compound, of_simple_call}
+use Rattle.rehearse_reads.specs.Accesses.{needs_reads, listed_accesses, behind, behind_text, status_written, word_reads, words_reads, sized_accesses, local_accesses, assign_accesses, turns_accesses, turn_accesses, each_accesses, for_accesses, begun_accesses, told_reads, answer_accesses, outcome_accesses, device_accesses, computed_accesses, read_accesses, started_accesses, builtin_accesses, call_accesses, simple_accesses, modern_accesses, turns_of_accesses, for_words_accesses, left_accesses, compound_accesses, nothing_accesses, simple_call_accesses, file_accesses, handed_accesses, sourced_accesses, sourced_text_accesses, one_accesses}
+use Rattle.rehearse_frames.specs.ToCome.{names_read, of_full, of_script, of_one, of_joined, of_arms, of_again, of_condition, of_choice, of_names, of_frames, of_next, choice, condition, turns_left, of_compound, of_file, of_chosen}
+use Rattle.rehearse_frames.specs.MoveAccesses.{of_listed, of_leaving, of_exit, of_telling, of_beginning_for, of_beginning_arms, of_beginning_read, of_beginning_text, of_beginning_file, of_beginning_names, of_asking, of_builtin, of_call, of_fields, of_command, of_move, of_beginning_turns, of_beginning_words, of_leaving_compound, of_simple_call, of_beginning_one, of_beginning_question}
 use Rattle.rehearse_frames.specs.Laws.{MovesComeFirst, OutcomesComeFirst}
 use Rattle.rehearse_frames.proofs.NoneBegun.{nothing_behind, None-block}
 use Rattle.rehearse_frames.proofs.SameAccesses.{either, same_behind, turns_same, closed_accesses}
@@ -57,7 +57,8 @@ module _ (limits : Limits) (wanted : List Text) (w : OutcomeWord) where
   frames_ended (ForBody name values body ∷ fs) ending s = ap (Rest fs) (compound_ended limits.shell ending s) ∙ frames_ended fs ending s
   frames_ended (RunNames names ∷ fs) ending s = frames_ended fs ending s
   frames_ended (RunText names ∷ fs) ending s = frames_ended fs ending s
-  frames_ended (RunFile name before ∷ fs) ending s = frames_ended fs ending s
+  frames_ended (RunFile name others before ∷ fs) ending s = frames_ended fs ending s
+  frames_ended (ChosenFile name other others before ∷ fs) ending s = frames_ended fs ending s
   frames_ended (FileText ∷ fs) ending s =
       ap (λ (a : Answer). behind_text a (λ t. []) ++ Rest fs (text_end limits.shell a Normal)) (sourced_ended limits.shell ending s) ∙ frames_ended fs ending s
   frames_ended (CommandEnd ∷ fs) ending s = ap (Rest fs) (compound_ended limits.shell ending s) ∙ frames_ended fs ending s
@@ -133,7 +134,8 @@ module _ (limits : Limits) (wanted : List Text) (w : OutcomeWord) where
   leave_so (LoopCondition until c b last ∷ fs) s = left_compound_so limits.shell refl (CommandEnd ∷ fs) fs s (of_leaving limits.shell s.memory.status fs) (leave limits.shell fs s) (λ t. sym (over_so fs t)) (leave_so fs s)
   leave_so (LoopBody until c b ∷ fs) s = left_compound_so limits.shell refl (CommandEnd ∷ fs) fs s (of_leaving limits.shell s.memory.status fs) (leave limits.shell fs s) (λ t. sym (over_so fs t)) (leave_so fs s)
   leave_so (ForBody name fields body ∷ fs) s = left_compound_so limits.shell refl fs fs s (of_leaving limits.shell s.memory.status fs) (leave limits.shell fs s) (λ t. refl) (leave_so fs s)
-  leave_so (RunFile name before ∷ fs) s = leave_so fs s
+  leave_so (RunFile name others before ∷ fs) s = leave_so fs s
+  leave_so (ChosenFile name other others before ∷ fs) s = leave_so fs s
   leave_so (FileText ∷ fs) s = left_file_so limits.shell refl fs s
   leave_so (CommandEnd ∷ fs) s = left_compound_so limits.shell refl (CommandEnd ∷ fs) fs s (of_leaving limits.shell s.memory.status fs) (leave limits.shell fs s) (λ t. sym (over_so fs t)) (leave_so fs s)
 
@@ -217,6 +219,31 @@ module _ (limits : Limits) (wanted : List Text) (w : OutcomeWord) where
   file_so None name fs s = refl
   file_so (Some v) name fs s = sourced_so (sourced_in limits.shell v) name fs s (sourced_texts_are_proper limits.shell v)
 
+  -- which of the files it is
+  closed_question_so : (a : Script) → IsProper a → (fs : List Frame) (t : State) → of_script limits a t ++ Rest fs (script limits a t) ≡ of_full limits a t ++ Rest fs (full limits a t)
+  closed_question_so a p fs t =
+      sym (ap (λ (xs : List Access). xs ++ Rest fs (full limits a t)) (closed_accesses limits limits.step_bound a p t (omega arith))
+      ∙ ap (λ (x : Answer). of_script limits a t ++ Rest fs x) (closed_exec limits limits.step_bound a p t (omega arith)))
+
+  question_so : (found : TextRead) (name : Text) (after : Frame) (fs : List Frame) (s : State) → ((t : Script) → found ≡ Runs t → IsProper t)
+      → of_beginning_question found ++ After (begin_question limits.shell found name after fs s)
+      ≡ read_accesses limits (full limits) (of_full limits) found (with w s) ++ Rest (after ∷ fs) (run_read limits (full limits) name found (with w s))
+  question_so Fails name after fs s p = refl
+  question_so Panics name after fs s p = stops_so (after ∷ fs) (Panic name) s
+  question_so Unread name after fs s p = stops_so (after ∷ fs) (unread limits.shell name) s
+  question_so (Runs tree.Empty) name after fs s p = ap (λ (xs : List Access). Writes Status ∷ xs) (closed_question_so tree.Empty tt (after ∷ fs) (set_status 0 (with w s)))
+  question_so (Runs (tree.Runs l ls)) name after fs s p = closed_question_so (tree.Runs l ls) (p (tree.Runs l ls) refl) (after ∷ fs) (with w s)
+
+  one_so : (name : Text) (others : List Text) (before : ℕ) (fs : List Frame) (s : State)
+      → of_beginning_one limits name others ++ After (begin_one limits name others before fs s)
+      ≡ one_accesses limits (full limits) (of_full limits) name others before (with w s) ++ Rest fs (run_one limits (full limits) name others before (with w s))
+  one_so name [] before fs s = ap (λ (xs : List Access). Writes Status ∷ xs) (file_so (file_in limits.devices name) name fs (set_status before s))
+  one_so name (other ∷ others) before fs s =
+      let asked : Answer = started_text limits (full limits) name (choice_text name) (with w s) in
+      let next : State → Answer = chosen limits (full limits) name before (run_one limits (full limits) other others before) in
+      question_so (started_in limits.shell (choice_text name)) name (ChosenFile name other others before) fs s (started_texts_are_proper limits.shell (choice_text name))
+      ∙ sym (append_assoc (started_accesses limits (full limits) (of_full limits) (choice_text name) (with w s)) (behind asked (of_chosen limits name other others before)) (Rest fs (go_on asked next)))
+
   -- the text of a file has ended
   file_end_so : (b : Bool) (fs : List Frame) (s : State) → After (elim b [ true ↦ Go fs s | false ↦ Go fs (text_failed limits.shell s) ])
       ≡ (elim b [ true ↦ [] | false ↦ [] ]) ++ Rest fs (elim b [ true ↦ Normal (with w s) | false ↦ Normal (text_failed limits.shell (with w s)) ])
@@ -248,9 +275,9 @@ module _ (limits : Limits) (wanted : List Text) (w : OutcomeWord) where
       (in_front keys (of_telling o request) (After (tell_or_ask o request fs s)) (answer_accesses o request (with w s)) (Rest below (tell_or_take o request (with w s))) (tell_so o request fs s)) (stops_so below CutDevices s)
 
   -- what a command hands over to
-  handed_so : (runs : Option Text) (before : ℕ) (asked : List Access) (fs : List Frame) (a : Answer) → asked ++ Rest (with_file before runs fs) a ≡ handed_accesses limits (full limits) (of_full limits) runs before asked a ++ Rest fs (handed_over limits (full limits) runs before a)
-  handed_so None before asked fs a = refl
-  handed_so (Some name) before asked fs a = sym (append_assoc asked (behind a (of_file limits name before)) (Rest fs (handed_over limits (full limits) (Some name) before a)))
+  handed_so : (runs : List Text) (before : ℕ) (asked : List Access) (fs : List Frame) (a : Answer) → asked ++ Rest (with_file before runs fs) a ≡ handed_accesses limits (full limits) (of_full limits) runs before asked a ++ Rest fs (handed_over limits (full limits) runs before a)
+  handed_so [] before asked fs a = refl
+  handed_so (name ∷ others) before asked fs a = sym (append_assoc asked (behind a (of_file limits name others before)) (Rest fs (handed_over limits (full limits) (name ∷ others) before a)))
 
   exit_so : (o : Option ℕ) (other : ℕ) (fs : List Frame) (s : State) → of_exit limits.shell o fs ++ After (begin_exit limits.shell o other fs s) ≡ status_written ++ Rest fs (elim o [ Some status ↦ Exit (set_status status (with w s)) | None ↦ Normal (set_status other (with w s)) ])
   exit_so (Some status) other fs s = ap (λ (xs : List Access). Writes Status ∷ xs) (leave_so fs (set_status status s))
@@ -286,7 +313,7 @@ module _ (limits : Limits) (wanted : List Text) (w : OutcomeWord) where
           let asked : List Access = listed_accesses limits name ws effect (with w s) in
           in_front (all_read (needs_reads effect.needs)) (of_asking limits request s) (After (ask limits request fs s)) (device_accesses limits request (with w s)) (Rest (with_file s.memory.status request.effect.runs fs) a) (ask_so request fs s)
           ∙ handed_so request.effect.runs s.memory.status asked fs a
-          ∙ ap (λ (runs : Option Text). handed_accesses limits (full limits) (of_full limits) runs s.memory.status asked a ++ Rest fs (handed_over limits (full limits) runs s.memory.status a)) (now_runs s.log effect)
+          ∙ ap (λ (runs : List Text). handed_accesses limits (full limits) (of_full limits) runs s.memory.status asked a ++ Rest fs (handed_over limits (full limits) runs s.memory.status a)) (now_runs s.log effect)
       by None None None = stops_so fs (Unknown name) s
 
   simple_call_so : (again : Bool) (ws : List Text) (fs : List Frame) (s : State) → of_simple_call limits again fs ws s ++ After (begin_simple_call limits again ws fs s) ≡ simple_call_accesses limits (full limits) (of_full limits) ws (with w s) ++ Rest fs (simple_call limits again (full limits) ws (with w s))
@@ -487,13 +514,15 @@ module _ (limits : Limits) (wanted : List Text) (w : OutcomeWord) where
   move_so (RunText names ∷ fs) p s =
       ap (λ (xs : List Access). Reads Status ∷ xs)
       (if_so (nat_eq s.memory.status 0) (of_beginning_names limits.shell names s) [] (begin_names limits.shell names fs s) (Go fs (text_failed limits.shell s)) fs (of_names limits names (with w s)) [] (run_all limits (full limits) names (with w s)) (Normal (text_failed limits.shell (with w s))) (names_so names fs s) refl)
-  move_so (RunFile name before ∷ fs) p s =
-      let t : State = with w s in
-      let u : State = set_status before s in
-      let found : Option Text = file_in limits.devices name in
+  move_so (RunFile name others before ∷ fs) p s =
       ap (λ (xs : List Access). Reads Status ∷ xs)
-      (if_so (nat_eq s.memory.status 0) (Writes Status ∷ of_beginning_file limits.shell found) [] (begin_file limits.shell found name fs u) (Go fs s) fs (Writes Status ∷ file_accesses limits (full limits) (of_full limits) name (with w u)) [] (run_file limits (full limits) name (with w u)) (Normal t)
-      (ap (λ (xs : List Access). Writes Status ∷ xs) (file_so found name fs u)) refl)
+      (if_so (nat_eq s.memory.status 0) (of_beginning_one limits name others) [] (begin_one limits name others before fs s) (Go fs s) fs
+      (one_accesses limits (full limits) (of_full limits) name others before (with w s)) [] (run_one limits (full limits) name others before (with w s)) (Normal (with w s)) (one_so name others before fs s) refl)
+  move_so (ChosenFile name other others before ∷ fs) p s =
+      ap (λ (xs : List Access). Reads Status ∷ xs)
+      (if_so (nat_eq s.memory.status 0) (of_beginning_one limits name []) (of_beginning_one limits other others) (begin_one limits name [] before fs s) (begin_one limits other others before fs s) fs
+      (one_accesses limits (full limits) (of_full limits) name [] before (with w s)) (one_accesses limits (full limits) (of_full limits) other others before (with w s))
+      (run_one limits (full limits) name [] before (with w s)) (run_one limits (full limits) other others before (with w s)) (one_so name [] before fs s) (one_so other others before fs s))
   move_so (FileText ∷ fs) p s =
       ap (λ (xs : List Access). Reads Status ∷ xs) (file_end_so (nat_eq s.memory.status 0) fs s)
       ∙ ap (λ (a : Answer). behind_text a (λ t. []) ++ Rest fs (text_end limits.shell a Normal)) (sym (sourced_normal limits.shell (with w s)))

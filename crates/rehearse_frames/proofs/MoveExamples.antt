@@ -14,7 +14,7 @@ use Rattle.rehearse_terms.specs.State.{Text, State, LoggedCommand, start}
 use Rattle.rehearse_terms.specs.declared.written.Written.TheVariants.{Kept}
 use Rattle.rehearse_terms.specs.declared.shell.Shell.TheVariants.{Profile}
 use Rattle.rehearse_rules.specs.Execution.{Limits, Request, request_of, set_status}
-use Rattle.rehearse_machine.specs.Frames.{Frame, Lists, IfCondition, LoopCondition, LoopBody, ForBody, RunNames, RunText, RunFile, FileText, Ask}
+use Rattle.rehearse_machine.specs.Frames.{Frame, Lists, IfCondition, LoopCondition, LoopBody, ForBody, RunNames, RunText, RunFile, ChosenFile, FileText, Ask}
 use Rattle.rehearse_reads.specs.Keys.{Key, Environment, Local, AnswerTo, Status, Access, Reads, Writes, keys_read}
 use Rattle.rehearse_frames.specs.MoveAccesses.{of_move}
 use Rattle.rehearse_frames.specs.ToCome.{of_next}
@@ -135,23 +135,37 @@ no_next_text : of_move limits (RunText (codes "b" ∷ []) ∷ []) (set_status 1 
 no_next_text = refl
 
 -- the text of a file begins after a success, which no variable is read for
-file_begins : of_move limits (RunFile (codes "boot.scr") 1 ∷ []) before ≡ Reads Status ∷ Writes Status ∷ []
+file_begins : of_move limits (RunFile (codes "boot.scr") [] 1 ∷ []) before ≡ Reads Status ∷ Writes Status ∷ []
 unfolding tree_of
 file_begins = refl
 
-empty_file_begins : of_move limits (RunFile (codes "empty") 1 ∷ []) before ≡ Reads Status ∷ Writes Status ∷ Writes Status ∷ []
+empty_file_begins : of_move limits (RunFile (codes "empty") [] 1 ∷ []) before ≡ Reads Status ∷ Writes Status ∷ Writes Status ∷ []
 unfolding tree_of
 empty_file_begins = refl
 
-no_script_begins : of_move limits (RunFile (codes "no script") 1 ∷ []) before ≡ Reads Status ∷ Writes Status ∷ []
+no_script_begins : of_move limits (RunFile (codes "no script") [] 1 ∷ []) before ≡ Reads Status ∷ Writes Status ∷ []
 unfolding tree_of
 no_script_begins = refl
 
-no_file_begins : of_move limits (RunFile (codes "none") 1 ∷ []) before ≡ Reads Status ∷ Writes Status ∷ Writes Status ∷ []
+no_file_begins : of_move limits (RunFile (codes "none") [] 1 ∷ []) before ≡ Reads Status ∷ Writes Status ∷ Writes Status ∷ []
 no_file_begins = refl
 
-file_after_a_failure : of_move limits (RunFile (codes "boot.scr") 1 ∷ []) (set_status 1 before) ≡ Reads Status ∷ []
+file_after_a_failure : of_move limits (RunFile (codes "boot.scr") [] 1 ∷ []) (set_status 1 before) ≡ Reads Status ∷ []
 file_after_a_failure = refl
+
+-- which of two it is, is asked first, with the status of the call
+question_begins : of_move limits (RunFile (codes "boot.scr") (codes "empty" ∷ []) 1 ∷ []) before ≡ Reads Status ∷ []
+unfolding tree_of
+question_begins = refl
+
+-- the answer is the status: the first of them begins, or the other
+first_is_chosen : of_move limits (ChosenFile (codes "boot.scr") (codes "empty") [] 1 ∷ []) before ≡ Reads Status ∷ Writes Status ∷ []
+unfolding tree_of
+first_is_chosen = refl
+
+other_is_chosen : of_move limits (ChosenFile (codes "boot.scr") (codes "empty") [] 1 ∷ []) (set_status 1 before) ≡ Reads Status ∷ Writes Status ∷ Writes Status ∷ []
+unfolding tree_of
+other_is_chosen = refl
 
 file_ended : of_move limits (FileText ∷ []) before ≡ Reads Status ∷ []
 file_ended = refl
@@ -185,7 +199,7 @@ set_before_the_end = refl
 
 -- the text of a file comes before what follows, after a success alone; the status is kept for it
 abbrev file_to_come : Text → OutcomeWord → List Key
-file_to_come text w = to_come_of (record load { effect = record quiet { runs = Some (codes "boot.scr") } }) text w
+file_to_come text w = to_come_of (record load { effect = record quiet { runs = codes "boot.scr" ∷ [] } }) text w
 
 file_after_a_success : file_to_come (codes "setenv a 2") (Success ∷ []) ≡ Status ∷ a ∷ b ∷ []
 unfolding to_come_of

@@ -18,8 +18,8 @@ use Rattle.rehearse_rules.specs.Needs.{effect_now}
 use Rattle.rehearse_rules.proofs.NeedsLemmas.{now_same}
 use Rattle.rehearse_rules.specs.Parameters.{parameters_in}
 use Rattle.rehearse_rules.specs.ByShell.{unread, reads_again, leaves_in, status_of_exit, asks_in, truth_in, fields_in, turns_in, skips_rest, status_of_nothing, status_of_no_block, status_of_loop, status_in_turn, follows, assigned_in, follows_turns, left_status, call_in}
-use Rattle.rehearse_rules.specs.Execution.{Limits, Ending, End, CutDevices, CutSteps, Unknown, Size, Finished, Unsupported, Request, remember, set_status, set_local, begin_turn, status_when, goes, holds, outcome_when, told, told_again, logged, set_environment, assign_local, text_failed, request_of, test_request, for_begun, block_skipped, compound_left}
-use Rattle.rehearse_machine.specs.Frames.{Frame, Lists, Linked, IfCondition, LoopCondition, LoopBody, ForBody, RunNames, RunText, Next, Go, Ask, Stop, tell_or_ask, finish_next, leave, leave_run, begin_assign, begin_for, begin_arms, begin_read, begin_text, begin_names, begin_exit, begun_text, fitting, ask, begin_called, begin_fields, counted, begin_command, answered, move, begin_turns, begin_words, CommandEnd, leave_compound, behind_block, begin_simple_call, RunFile, FileText, with_file, leave_file, begin_sourced, begin_file}
+use Rattle.rehearse_rules.specs.Execution.{Limits, Ending, End, CutDevices, CutSteps, Unknown, Size, Finished, Unsupported, Request, remember, set_status, set_local, begin_turn, status_when, goes, holds, outcome_when, told, told_again, logged, set_environment, assign_local, text_failed, request_of, test_request, for_begun, block_skipped, compound_left, choice_text}
+use Rattle.rehearse_machine.specs.Frames.{Frame, Lists, Linked, IfCondition, LoopCondition, LoopBody, ForBody, RunNames, RunText, Next, Go, Ask, Stop, tell_or_ask, finish_next, leave, leave_run, begin_assign, begin_for, begin_arms, begin_read, begin_text, begin_names, begin_exit, begun_text, fitting, ask, begin_called, begin_fields, counted, begin_command, answered, move, begin_turns, begin_words, CommandEnd, leave_compound, behind_block, begin_simple_call, RunFile, FileText, with_file, leave_file, begin_sourced, begin_file, ChosenFile, begin_one, begin_question}
 use Rattle.rehearse_reads.specs.Keys.{Key, Environment, Local, Status, Access, Reads, Writes, AgreeOn, AreAmong, all_read, ReadsWithin, known_after}
 use Rattle.rehearse_reads.specs.Accesses.{status_written, word_reads, words_reads, setenv_accesses, computed_accesses, needs_reads, told_reads, handing_reads, outcome_writes, outcome_accesses, names_written, sized_accesses, local_accesses, assign_accesses, turn_accesses, nothing_accesses, begun_accesses, modern_accesses}
 use Rattle.rehearse_reads.specs.Alike.{AreAbreast, IsCutBy}
@@ -30,7 +30,7 @@ use Rattle.rehearse_reads.proofs.AlikeParts.{further_apart}
 use Rattle.rehearse_reads.proofs.AlikeDevices.{told_alike, met_alike}
 use Rattle.rehearse_reads.proofs.AlikeLoops.{near_turn, near_for, near_skipped}
 use Rattle.rehearse_machine.proofs.ProgressLemmas.{IsQuiet, either-quiet, assign-quiet, fields-quiet, for-quiet, words-quiet}
-use Rattle.rehearse_frames.specs.MoveAccesses.{of_leaving, of_exit, of_telling, of_beginning_for, of_beginning_arms, of_beginning_read, of_beginning_text, of_beginning_file, of_beginning_names, of_asking, of_listed, of_builtin, of_call, of_fields, of_command, of_move, of_beginning_turns, of_beginning_words, of_leaving_compound, of_simple_call}
+use Rattle.rehearse_frames.specs.MoveAccesses.{of_leaving, of_exit, of_telling, of_beginning_for, of_beginning_arms, of_beginning_read, of_beginning_text, of_beginning_file, of_beginning_names, of_asking, of_listed, of_builtin, of_call, of_fields, of_command, of_move, of_beginning_turns, of_beginning_words, of_leaving_compound, of_simple_call, of_beginning_one, of_beginning_question}
 
 -- the steps that were begun before what is next, and the room that it needs for device commands
 abbrev pub next_steps : Next → ℕ
@@ -142,7 +142,8 @@ module _ (limits : Limits) (i j : ℕ) (k l : List LoggedCommand) where
       leaves_compound shell (CommandEnd ∷ fs) known s t (of_leaving shell status fs) (leave shell fs s) (leave shell fs t) (f ∙ sym e) near (leaves shell status fs known s t e f near)
   leaves shell status (ForBody name fields body ∷ fs) known s t e f near =
       leaves_compound shell fs known s t (of_leaving shell status fs) (leave shell fs s) (leave shell fs t) (f ∙ sym e) near (leaves shell status fs known s t e f near)
-  leaves shell status (RunFile name before ∷ fs) known s t e f near = leaves shell status fs known s t e f near
+  leaves shell status (RunFile name others before ∷ fs) known s t e f near = leaves shell status fs known s t e f near
+  leaves shell status (ChosenFile name other others before ∷ fs) known s t e f near = leaves shell status fs known s t e f near
   leaves shell status (FileText ∷ fs) known s t e f near = leaves_file shell status fs known s t e f near
   leaves shell status (CommandEnd ∷ fs) known s t e f near =
       leaves_compound shell (CommandEnd ∷ fs) known s t (of_leaving shell status fs) (leave shell fs s) (leave shell fs t) (f ∙ sym e) near (leaves shell status fs known s t e f near)
@@ -162,13 +163,13 @@ module _ (limits : Limits) (i j : ℕ) (k l : List LoggedCommand) where
       → with_file t.memory.status request.effect.runs fs ≡ with_file s.memory.status request.effect.runs fs
   same_file outcome request fs known s t near = by request.effect.runs
     where
-      by : (runs : Option Text) → ReadsWithin known (handing_reads runs ++ outcome_writes outcome request) → with_file t.memory.status runs fs ≡ with_file s.memory.status runs fs
-      by None w = refl
-      by (Some name) w = ap (λ (n : ℕ). RunFile name n ∷ fs) (near.keys Status w.0)
+      by : (runs : List Text) → ReadsWithin known (handing_reads runs ++ outcome_writes outcome request) → with_file t.memory.status runs fs ≡ with_file s.memory.status runs fs
+      by [] w = refl
+      by (name ∷ others) w = ap (λ (n : ℕ). RunFile name others n ∷ fs) (near.keys Status w.0)
 
-  after_handing : (runs : Option Text) (known : List Key) (xs : List Access) (a b : Next) → NextAlike (known_after known xs) a b → NextAlike (known_after known (handing_reads runs ++ xs)) a b
-  after_handing None known xs a b h = h
-  after_handing (Some name) known xs a b h = h
+  after_handing : (runs : List Text) (known : List Key) (xs : List Access) (a b : Next) → NextAlike (known_after known xs) a b → NextAlike (known_after known (handing_reads runs ++ xs)) a b
+  after_handing [] known xs a b h = h
+  after_handing (name ∷ others) known xs a b h = h
 
   -- with the same file above the frames of both
   answers_over : (outcome : Outcome) (request : Request) (fs : List Frame) (known : List Key) (s t : State) → Near known s t → with_file t.memory.status request.effect.runs fs ≡ with_file s.memory.status request.effect.runs fs
@@ -309,6 +310,19 @@ module _ (limits : Limits) (i j : ℕ) (k l : List LoggedCommand) where
   begins_file : (shell : Shell) (text : Option Text) (name : Text) (fs : List Frame) → Moves (begin_file shell text name fs) (λ s. of_beginning_file shell text)
   begins_file shell None name fs known s t near w = sets_status 1 fs known s t near w
   begins_file shell (Some text) name fs known s t near w = begins_sourced shell (sourced_in shell text) name fs known s t near w
+
+  begins_question : (shell : Shell) (found : TextRead) (name : Text) (after : Frame) (fs : List Frame) → Moves (begin_question shell found name after fs) (λ s. of_beginning_question found)
+  begins_question shell (Runs tree.Empty) name after fs known s t near w = goes_alike (near_status limits i j k l known s t 0 near)
+  begins_question shell (Runs (tree.Runs x xs)) name after fs known s t near w = goes_alike near
+  begins_question shell Fails name after fs known s t near w = goes_alike (near_status limits i j k l known s t 1 near)
+  begins_question shell Panics name after fs known s t near w = stops_alike near
+  begins_question shell Unread name after fs known s t near w = stops_alike near
+
+  begins_one : (name : Text) (others : List Text) (before : ℕ) (fs : List Frame) → Moves (begin_one limits name others before fs) (λ s. of_beginning_one limits name others)
+  begins_one name [] before fs known s t near w =
+      begins_file limits.shell (file_in limits.devices name) name fs (Status ∷ known) (set_status before s) (set_status before t) (near_status limits i j k l known s t before near) w
+  begins_one name (other ∷ others) before fs known s t near w =
+      begins_question limits.shell (started_in limits.shell (choice_text name)) name (ChosenFile name other others before) fs known s t near w
 
   begins_names : (shell : Shell) (names : List Text) (fs : List Frame) → Moves (begin_names shell names fs) (of_beginning_names shell names)
   begins_names shell [] fs known s t near w = goes_alike near
@@ -479,13 +493,14 @@ module _ (limits : Limits) (i j : ℕ) (k l : List LoggedCommand) where
       if_moves known (nat_eq s.memory.status 0) (nat_eq t.memory.status 0) (ap (λ (n : ℕ). nat_eq n 0) (near.keys Status w.0))
       (begin_names limits.shell names fs s) (Go fs (text_failed limits.shell s)) (begin_names limits.shell names fs t) (Go fs (text_failed limits.shell t))
       (of_beginning_names limits.shell names s) [] (begins_names limits.shell names fs known s t near) (λ v. goes_alike (near_failed limits i j k l known s t limits.shell (near.keys Status w.0) near)) w.1
-  moves_alike (RunFile name before ∷ fs) known s t near w =
-      let found : Option Text = file_in limits.devices name in
-      let here : State = set_status before s in
-      let there : State = set_status before t in
+  moves_alike (RunFile name others before ∷ fs) known s t near w =
       if_moves known (nat_eq s.memory.status 0) (nat_eq t.memory.status 0) (ap (λ (n : ℕ). nat_eq n 0) (near.keys Status w.0))
-      (begin_file limits.shell found name fs here) (Go fs s) (begin_file limits.shell found name fs there) (Go fs t)
-      (Writes Status ∷ of_beginning_file limits.shell found) [] (begins_file limits.shell found name fs (Status ∷ known) here there (near_status limits i j k l known s t before near)) (λ v. goes_alike near) w.1
+      (begin_one limits name others before fs s) (Go fs s) (begin_one limits name others before fs t) (Go fs t)
+      (of_beginning_one limits name others) [] (begins_one name others before fs known s t near) (λ v. goes_alike near) w.1
+  moves_alike (ChosenFile name other others before ∷ fs) known s t near w =
+      if_moves known (nat_eq s.memory.status 0) (nat_eq t.memory.status 0) (ap (λ (n : ℕ). nat_eq n 0) (near.keys Status w.0))
+      (begin_one limits name [] before fs s) (begin_one limits other others before fs s) (begin_one limits name [] before fs t) (begin_one limits other others before fs t)
+      (of_beginning_one limits name []) (of_beginning_one limits other others) (begins_one name [] before fs known s t near) (begins_one other others before fs known s t near) w.1
   moves_alike (FileText ∷ fs) known s t near w = by (nat_eq s.memory.status 0) (nat_eq t.memory.status 0) (ap (λ (n : ℕ). nat_eq n 0) (near.keys Status w.0))
     where
       by : (b c : Bool) → c ≡ b → NextAlike known (elim b [ true ↦ Go fs s | false ↦ Go fs (text_failed limits.shell s) ]) (elim c [ true ↦ Go fs t | false ↦ Go fs (text_failed limits.shell t) ])

@@ -1,5 +1,5 @@
 -- A move of frames with others below them: it is the same move, or it comes back to the others.
-use Rattle.std.proofs.Common.{ℕ, zero, suc, Bool, true, false, List, [], ◌∷◌, ◌++◌, length, Option, Some, None, refl, ap, ◌≡◌, ◌∙◌, ◌≤◌, ◌⊎◌, inl, inr, arith, nat_lt, nat_le, nat_eq}
+use Rattle.std.proofs.Common.{ℕ, zero, suc, Bool, true, false, List, [], ◌∷◌, ◌++◌, length, Option, Some, None, refl, ap, ◌≡◌, ◌∙◌, ◌≤◌, ◌⊎◌, inl, inr, arith, nat_lt, nat_le, nat_eq, drop}
 use Rattle.std.specs.Prelude.{slice_get}
 use Rattle.device_list.specs.declared.finish.BoardEnd.{BoardEnd}
 use Rattle.device_list.specs.Called.{Called, BuiltIn, NoCommand, Device, called_by, sets_in}
@@ -17,11 +17,11 @@ use Rattle.rehearse_terms.specs.State.{Text, get, State}
 use Rattle.rehearse_terms.specs.declared.shell.Shell.{Shell}
 use Rattle.rehearse_terms.specs.declared.shell.Shell.TheVariants.{Profile, Old2023, Old2025, Modern2025}
 use Rattle.rehearse_rules.specs.ByShell.{reads_again, leaves_in, status_of_exit, asks_in, truth_in, fields_in, turns_in, skips_rest, status_of_loop, follows, assigned_in, follows_turns, call_in}
-use Rattle.rehearse_rules.specs.Execution.{Limits, End, CutDevices, CutSteps, Size, set_status, status_when, goes, holds, Request, outcome_when, told, told_again, logged, set_environment, Unsupported, assign_local, request_of, test_request, text_failed, for_begun, block_skipped}
+use Rattle.rehearse_rules.specs.Execution.{Limits, End, CutDevices, CutSteps, Size, set_status, status_when, goes, holds, Request, outcome_when, told, told_again, logged, set_environment, Unsupported, assign_local, request_of, test_request, text_failed, for_begun, block_skipped, choice_text}
 use Rattle.rehearse_rules.specs.Needs.{effect_now}
 use Rattle.rehearse_rules.specs.Parameters.{parameters_in}
 use Rattle.rehearse_machine.specs.AskingCommand.{fields_again, found_again, words_in_front}
-use Rattle.rehearse_machine.specs.Places.{left_file, file_left, place_sourced, file_begins, file_ends, file_move, list_at, joined_at, command_in, command_at, drop_arms, place, PlaceNext, GoOn, AskOn, StopOn, moved_to, behind, in_turn, block_frame, with_block, command_over, left, left_by, left_script, left_compound, place_exit, place_finish, above_file, place_taken, place_answered, place_tell_or_ask, place_assign, place_read, place_text, place_name, run_move, for_turn, for_move, for_begins, place_turns, place_arms, condition_ends, loop_ends, if_moves, loop_moves, phase_move, place_fitting, place_words, place_for, place_ask, place_called, place_simple_call, place_fields, place_counted, place_command, place_skipped, place_joined, place_begins, place_turn, place_list, place_by, place_move}
+use Rattle.rehearse_machine.specs.Places.{at_file, place_one, place_question, file_asked, left_file, file_left, place_sourced, file_begins, file_ends, file_move, list_at, joined_at, command_in, command_at, drop_arms, place, PlaceNext, GoOn, AskOn, StopOn, moved_to, behind, in_turn, block_frame, with_block, command_over, left, left_by, left_script, left_compound, place_exit, place_finish, above_file, place_taken, place_answered, place_tell_or_ask, place_assign, place_read, place_text, place_name, run_move, for_turn, for_move, for_begins, place_turns, place_arms, condition_ends, loop_ends, if_moves, loop_moves, phase_move, place_fitting, place_words, place_for, place_ask, place_called, place_simple_call, place_fields, place_counted, place_command, place_skipped, place_joined, place_begins, place_turn, place_list, place_by, place_move}
 use Rattle.device_list.specs.DeviceList.{file_in}
 
 -- with these frames below
@@ -68,7 +68,8 @@ module _ (qs : List RunningFrame) where
 
   file_over : (shell : Shell) (turn : ℕ) (fs : List RunningFrame) (x y : PlaceNext) (s : State) → IsOver x y → IsOver (left_file shell turn fs x s) (left_file shell turn (fs ++ qs) y s)
   file_over shell zero fs x y s h = h
-  file_over shell (suc k) fs x y s h = text_over_left shell fs s
+  file_over shell (suc zero) fs x y s h = text_over_left shell fs s
+  file_over shell (suc (suc k)) fs x y s h = h
 
   left_by_over : (shell : Shell) (kind : FrameKind) (f : RunningFrame) (fs : List RunningFrame) (x y : PlaceNext) (s : State) → IsOver x y → IsOver (left_by shell kind f fs x s) (left_by shell kind f (fs ++ qs) y s)
   left_by_over shell kinds.Text f fs x y s h = script_over shell f.place.turn f fs x y s h
@@ -97,7 +98,8 @@ module _ (shell : Shell) (qs : List RunningFrame) where
 
   file_back : (turn : ℕ) (fs : List RunningFrame) (x : PlaceNext) (s : State) → length fs ≤ length qs → ComesBack qs x → ComesBack qs (left_file shell turn fs x s)
   file_back zero fs x s l h = h
-  file_back (suc k) fs x s l h = text_back shell fs s l
+  file_back (suc zero) fs x s l h = text_back shell fs s l
+  file_back (suc (suc k)) fs x s l h = h
 
   left_by_back : (kind : FrameKind) (f : RunningFrame) (fs : List RunningFrame) (x : PlaceNext) (s : State) → length (f ∷ fs) ≤ length qs → ComesBack qs x → ComesBack qs (left_by shell kind f fs x s)
   left_by_back kinds.Text f fs x s l h = script_back f.place.turn f fs x s l h
@@ -129,9 +131,9 @@ module _ (limits : Limits) (qs : List RunningFrame) where
   taken_over Success r ps s = finish_over r.effect.ends r.name ps (set_environment (sets_in r.words r.effect.sets) (logged Success r s))
   taken_over Failure r ps s = refl
 
-  file_above : (before : ℕ) (runs : Option Text) (ps : List RunningFrame) → above_file before runs (ps ++ qs) ≡ above_file before runs ps ++ qs
-  file_above before None ps = refl
-  file_above before (Some name) ps = refl
+  file_above : (before : ℕ) (runs : List Text) (ps : List RunningFrame) → above_file before runs (ps ++ qs) ≡ above_file before runs ps ++ qs
+  file_above before [] ps = refl
+  file_above before (name ∷ others) ps = refl
 
   pub answered_over : (outcome : Outcome) (r : Request) (ps : List RunningFrame) (s : State) → place_answered outcome r (ps ++ qs) s ≡ under qs (place_answered outcome r ps s)
   answered_over outcome r ps s =
@@ -186,16 +188,31 @@ module _ (limits : Limits) (qs : List RunningFrame) where
 
   -- ---- a frame, with others below it
 
-  module _ (f : RunningFrame) (fs : List RunningFrame) where
-    read_over : (found : TextRead) (name : Text) (s : State) → IsOver qs (place_read limits.shell found name f fs s) (place_read limits.shell found name f (fs ++ qs) s)
-    read_over (Runs t) name s = inl refl
-    read_over Fails name s = inl refl
-    read_over Panics name s = inl refl
-    read_over Unread name s = inl refl
+  read_over : (f : RunningFrame) (fs : List RunningFrame) (found : TextRead) (name : Text) (s : State) → IsOver qs (place_read limits.shell found name f fs s) (place_read limits.shell found name f (fs ++ qs) s)
+  read_over f fs (Runs t) name s = inl refl
+  read_over f fs Fails name s = inl refl
+  read_over f fs Panics name s = inl refl
+  read_over f fs Unread name s = inl refl
 
+  sourced_over : (f : RunningFrame) (fs : List RunningFrame) (o : Option Text) (name : Text) (s : State) → IsOver qs (place_sourced limits.shell o name f fs s) (place_sourced limits.shell o name f (fs ++ qs) s)
+  sourced_over f fs None name s = inl refl
+  sourced_over f fs (Some text) name s = read_over f fs (sourced_in limits.shell text) name s
+
+  question_over : (f : RunningFrame) (fs : List RunningFrame) (found : TextRead) (name : Text) (s : State) → IsOver qs (place_question limits.shell found name f fs s) (place_question limits.shell found name f (fs ++ qs) s)
+  question_over f fs (Runs t) name s = inl refl
+  question_over f fs Fails name s = inl refl
+  question_over f fs Panics name s = inl refl
+  question_over f fs Unread name s = inl refl
+
+  one_over : (file : ℕ) (names : List Text) (f : RunningFrame) (fs : List RunningFrame) (s : State) → IsOver qs (place_one limits file names f fs s) (place_one limits file names f (fs ++ qs) s)
+  one_over file [] f fs s = inl refl
+  one_over file (name ∷ []) f fs s = sourced_over (at_file file 0 f) fs (file_in limits.devices name) name (set_status f.place.last s)
+  one_over file (name ∷ other ∷ others) f fs s = question_over (at_file file 2 f) fs (started_in limits.shell (choice_text name)) name s
+
+  module _ (f : RunningFrame) (fs : List RunningFrame) where
     text_over : (o : Option Text) (name : Text) (s : State) → IsOver qs (place_text limits.shell o name f fs s) (place_text limits.shell o name f (fs ++ qs) s)
     text_over None name s = inl refl
-    text_over (Some text) name s = read_over (started_in limits.shell text) name s
+    text_over (Some text) name s = read_over f fs (started_in limits.shell text) name s
 
     name_over : (o : Option Text) (s : State) → IsOver qs (place_name limits.shell o f fs s) (place_name limits.shell o f (fs ++ qs) s)
     name_over None s = inl refl
@@ -210,16 +227,18 @@ module _ (limits : Limits) (qs : List RunningFrame) where
         over_if qs (nat_eq f.place.turn 0) x (elim (nat_eq s.memory.status 0) [ true ↦ x | false ↦ GoOn fs t ]) y (elim (nat_eq s.memory.status 0) [ true ↦ y | false ↦ GoOn (fs ++ qs) t ]) (name_over o s)
         (over_if qs (nat_eq s.memory.status 0) x (GoOn fs t) y (GoOn (fs ++ qs) t) (name_over o s) (inl refl))
 
-    sourced_over : (o : Option Text) (name : Text) (s : State) → IsOver qs (place_sourced limits.shell o name f fs s) (place_sourced limits.shell o name f (fs ++ qs) s)
-    sourced_over None name s = inl refl
-    sourced_over (Some text) name s = read_over (sourced_in limits.shell text) name s
+    file_begins_over : (names : List Text) (s : State) → IsOver qs (file_begins limits names f fs s) (file_begins limits names f (fs ++ qs) s)
+    file_begins_over names s =
+        let at : ℕ = f.place.command in
+        over_if qs (nat_eq s.memory.status 0) (place_one limits at names f fs s) (GoOn fs s) (place_one limits at names f (fs ++ qs) s) (GoOn (fs ++ qs) s) (one_over at names f fs s) (inl refl)
 
-    file_begins_over : (o : Option Text) (s : State) → IsOver qs (file_begins limits o f fs s) (file_begins limits o f (fs ++ qs) s)
-    file_begins_over None s = inl refl
-    file_begins_over (Some name) s =
-        let o : Option Text = file_in limits.devices name in
-        let u : State = set_status f.place.last s in
-        over_if qs (nat_eq s.memory.status 0) (place_sourced limits.shell o name f fs u) (GoOn fs s) (place_sourced limits.shell o name f (fs ++ qs) u) (GoOn (fs ++ qs) s) (sourced_over o name u) (inl refl)
+    file_asked_over : (names : List Text) (s : State) → IsOver qs (file_asked limits names f fs s) (file_asked limits names f (fs ++ qs) s)
+    file_asked_over [] s = inl refl
+    file_asked_over (name ∷ []) s = inl refl
+    file_asked_over (name ∷ other ∷ others) s =
+        let at : ℕ = f.place.command in
+        over_if qs (nat_eq s.memory.status 0) (place_one limits at (name ∷ []) f fs s) (place_one limits (suc at) (other ∷ others) f fs s) (place_one limits at (name ∷ []) f (fs ++ qs) s) (place_one limits (suc at) (other ∷ others) f (fs ++ qs) s)
+        (one_over at (name ∷ []) f fs s) (one_over (suc at) (other ∷ others) f fs s)
 
     file_ends_over : (s : State) → IsOver qs (file_ends limits fs s) (file_ends limits (fs ++ qs) s)
     file_ends_over s =
@@ -228,8 +247,10 @@ module _ (limits : Limits) (qs : List RunningFrame) where
 
     file_moves_over : (s : State) → IsOver qs (file_move limits f fs s) (file_move limits f (fs ++ qs) s)
     file_moves_over s =
-        let o : Option Text = slice_get f.words 0 in
-        over_if qs (nat_eq f.place.turn 0) (file_begins limits o f fs s) (file_ends limits fs s) (file_begins limits o f (fs ++ qs) s) (file_ends limits (fs ++ qs) s) (file_begins_over o s) (file_ends_over s)
+        let names : List Text = drop f.place.command f.words in
+        over_if qs (nat_eq f.place.turn 0) (file_begins limits names f fs s) (elim (nat_eq f.place.turn 1) [ true ↦ file_ends limits fs s | false ↦ file_asked limits names f fs s ])
+        (file_begins limits names f (fs ++ qs) s) (elim (nat_eq f.place.turn 1) [ true ↦ file_ends limits (fs ++ qs) s | false ↦ file_asked limits names f (fs ++ qs) s ]) (file_begins_over names s)
+        (over_if qs (nat_eq f.place.turn 1) (file_ends limits fs s) (file_asked limits names f fs s) (file_ends limits (fs ++ qs) s) (file_asked limits names f (fs ++ qs) s) (file_ends_over s) (file_asked_over names s))
 
     value_over : (o : Option Text) (name : Text) (body : Script) (s : State) → IsOver qs (for_turn limits.shell o name body f fs s) (for_turn limits.shell o name body f (fs ++ qs) s)
     value_over None name body s = inl refl

@@ -17,11 +17,11 @@ use Rattle.rehearse_terms.specs.declared.shell.Shell.TheVariants.{Profile, Old20
 use Rattle.rehearse_rules.specs.Needs.{effect_now}
 use Rattle.rehearse_rules.specs.Parameters.{parameters_in}
 use Rattle.rehearse_rules.specs.ByShell.{reads_again, leaves_in, status_of_exit, asks_in, truth_in, fields_in, turns_in, skips_rest, status_of_loop, follows, assigned_in, follows_turns, call_in}
-use Rattle.rehearse_rules.specs.Execution.{Limits, CutDevices, CutSteps, Size, Unsupported, Request, set_status, status_when, goes, holds, outcome_when, told, told_again, logged, set_environment, assign_local, text_failed, request_of, test_request, for_begun, block_skipped}
-use Rattle.rehearse_machine.specs.Frames.{Frame, Lists, Linked, IfCondition, LoopCondition, LoopBody, ForBody, RunNames, RunText, Next, Go, Ask, Stop, tell_or_ask, finish_next, leave, begin_assign, begin_for, begin_arms, begin_read, begin_text, begin_names, begin_exit, fitting, ask, begin_called, begin_fields, counted, begin_command, answered, move, begin_turns, begin_words, CommandEnd, leave_compound, behind_block, begin_simple_call, RunFile, FileText, with_file, leave_file, begin_sourced, begin_file}
+use Rattle.rehearse_rules.specs.Execution.{Limits, CutDevices, CutSteps, Size, Unsupported, Request, set_status, status_when, goes, holds, outcome_when, told, told_again, logged, set_environment, assign_local, text_failed, request_of, test_request, for_begun, block_skipped, choice_text}
+use Rattle.rehearse_machine.specs.Frames.{Frame, Lists, Linked, IfCondition, LoopCondition, LoopBody, ForBody, RunNames, RunText, Next, Go, Ask, Stop, tell_or_ask, finish_next, leave, begin_assign, begin_for, begin_arms, begin_read, begin_text, begin_names, begin_exit, fitting, ask, begin_called, begin_fields, counted, begin_command, answered, move, begin_turns, begin_words, CommandEnd, leave_compound, behind_block, begin_simple_call, RunFile, FileText, with_file, leave_file, begin_sourced, begin_file, ChosenFile, begin_one, begin_question}
 use Rattle.rehearse_reads.specs.Keys.{Access, Reads, Writes, Status, all_read}
 use Rattle.rehearse_reads.specs.Accesses.{status_written, word_reads, words_reads, computed_accesses, needs_reads, told_reads, sized_accesses, local_accesses, assign_accesses, begun_accesses, modern_accesses}
-use Rattle.rehearse_frames.specs.MoveAccesses.{of_exit, of_telling, of_beginning_for, of_beginning_arms, of_beginning_read, of_beginning_text, of_beginning_file, of_beginning_names, of_asking, of_listed, of_builtin, of_call, of_fields, of_command, of_move, of_beginning_turns, of_beginning_words, of_simple_call}
+use Rattle.rehearse_frames.specs.MoveAccesses.{of_exit, of_telling, of_beginning_for, of_beginning_arms, of_beginning_read, of_beginning_text, of_beginning_file, of_beginning_names, of_asking, of_listed, of_builtin, of_call, of_fields, of_command, of_move, of_beginning_turns, of_beginning_words, of_simple_call, of_beginning_one, of_beginning_question}
 use Rattle.rehearse_frames.specs.KeysToCome.{state_in}
 use Rattle.rehearse_frames.specs.Loops.{later}
 
@@ -79,7 +79,8 @@ leaves shell (IfCondition b arms ∷ fs) n s = left_compound shell (CommandEnd �
 leaves shell (LoopCondition until c b last ∷ fs) n s = left_compound shell (CommandEnd ∷ fs) n s (leave shell fs s) (leave shell fs (at_steps n s)) (leaves shell fs n s)
 leaves shell (LoopBody until c b ∷ fs) n s = left_compound shell (CommandEnd ∷ fs) n s (leave shell fs s) (leave shell fs (at_steps n s)) (leaves shell fs n s)
 leaves shell (ForBody name values body ∷ fs) n s = left_compound shell fs n s (leave shell fs s) (leave shell fs (at_steps n s)) (leaves shell fs n s)
-leaves shell (RunFile name before ∷ fs) n s = leaves shell fs n s
+leaves shell (RunFile name others before ∷ fs) n s = leaves shell fs n s
+leaves shell (ChosenFile name other others before ∷ fs) n s = leaves shell fs n s
 leaves shell (FileText ∷ fs) n s = left_file shell fs n s
 leaves shell (CommandEnd ∷ fs) n s = left_compound shell (CommandEnd ∷ fs) n s (leave shell fs s) (leave shell fs (at_steps n s)) (leaves shell fs n s)
 
@@ -132,6 +133,13 @@ begins_text : (shell : Shell) (text : Option Text) (name : Text) (names : List T
 begins_text shell None name names fs n s = (refl, refl)
 begins_text shell (Some text) name names fs n s = begins_read shell (started_in shell text) name names fs n s
 
+begins_question : (shell : Shell) (found : TextRead) (name : Text) (after : Frame) (fs : List Frame) → Overlooks (begin_question shell found name after fs) (λ s. of_beginning_question found)
+begins_question shell (Runs tree.Empty) name after fs n s = (refl, refl)
+begins_question shell (Runs (tree.Runs list more)) name after fs n s = (refl, refl)
+begins_question shell Fails name after fs n s = (refl, refl)
+begins_question shell Panics name after fs n s = (refl, refl)
+begins_question shell Unread name after fs n s = (refl, refl)
+
 begins_sourced : (shell : Shell) (found : TextRead) (name : Text) (fs : List Frame) → Overlooks (begin_sourced shell found name fs) (λ s. of_beginning_read found)
 begins_sourced shell (Runs tree.Empty) name fs n s = (refl, refl)
 begins_sourced shell (Runs (tree.Runs list more)) name fs n s = (refl, refl)
@@ -142,6 +150,11 @@ begins_sourced shell Unread name fs n s = (refl, refl)
 begins_file : (shell : Shell) (text : Option Text) (name : Text) (fs : List Frame) → Overlooks (begin_file shell text name fs) (λ s. of_beginning_file shell text)
 begins_file shell None name fs n s = (refl, refl)
 begins_file shell (Some text) name fs n s = begins_sourced shell (sourced_in shell text) name fs n s
+
+begins_one : (limits : Limits) (name : Text) (others : List Text) (before : ℕ) (fs : List Frame) → Overlooks (begin_one limits name others before fs) (λ s. of_beginning_one limits name others)
+begins_one limits name [] before fs n s = ((begins_file limits.shell (file_in limits.devices name) name fs n (set_status before s)).0, refl)
+begins_one limits name (other ∷ others) before fs n s =
+    begins_question limits.shell (started_in limits.shell (choice_text name)) name (ChosenFile name other others before) fs n s
 
 begins_names : (shell : Shell) (names : List Text) (fs : List Frame) → Overlooks (begin_names shell names fs) (of_beginning_names shell names)
 begins_names shell [] fs n s = (refl, refl)
@@ -301,12 +314,17 @@ module _ (limits : Limits) where
   moves_later (RunText names ∷ fs) steps s room =
       either_later (nat_eq s.memory.status 0) (begin_names limits.shell names fs) (λ t. Go fs (text_failed limits.shell t)) (of_beginning_names limits.shell names) (λ t. [])
       (overlooked (begin_names limits.shell names fs) (of_beginning_names limits.shell names) (begins_names limits.shell names fs)) (λ d t l. (refl, refl)) steps s room
-  moves_later (RunFile name before ∷ fs) steps s room =
-      let found : Option Text = file_in limits.devices name in
-      let begins : State → Next = λ t. begin_file limits.shell found name fs (set_status before t) in
-      let reads : State → List Access = λ t. Writes Status ∷ of_beginning_file limits.shell found in
-      either_later (nat_eq s.memory.status 0) begins (Go fs) reads (λ t. [])
-      (overlooked begins reads (λ n t. ((begins_file limits.shell found name fs n (set_status before t)).0, refl))) (λ d t l. (refl, refl)) steps s room
+  moves_later (RunFile name others before ∷ fs) steps s room =
+      let begins : State → Next = begin_one limits name others before fs in
+      let reads : State → List Access = λ t. of_beginning_one limits name others in
+      either_later (nat_eq s.memory.status 0) begins (Go fs) reads (λ t. []) (overlooked begins reads (begins_one limits name others before fs)) (λ d t l. (refl, refl)) steps s room
+  moves_later (ChosenFile name other others before ∷ fs) steps s room =
+      let here : State → Next = begin_one limits name [] before fs in
+      let further : State → Next = begin_one limits other others before fs in
+      let reads_here : State → List Access = λ t. of_beginning_one limits name [] in
+      let reads_further : State → List Access = λ t. of_beginning_one limits other others in
+      either_later (nat_eq s.memory.status 0) here further reads_here reads_further
+      (overlooked here reads_here (begins_one limits name [] before fs)) (overlooked further reads_further (begins_one limits other others before fs)) steps s room
   moves_later (FileText ∷ fs) steps s room =
       ((either_later (nat_eq s.memory.status 0) (Go fs) (λ t. Go fs (text_failed limits.shell t)) (λ t. []) (λ t. []) (λ d t l. (refl, refl)) (λ d t l. (refl, refl)) steps s room).0, refl)
   moves_later (CommandEnd ∷ fs) steps s room = (refl, refl)

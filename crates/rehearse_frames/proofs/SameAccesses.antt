@@ -12,13 +12,13 @@ use Rattle.rehearse_terms.specs.State.{Text, get, State}
 use Rattle.rehearse_rules.specs.Parameters.{parameters_in}
 use Rattle.rehearse_rules.specs.ByShell.{fields_in, turns_in, skips_rest, follows, follows_turns, call_in}
 use Rattle.rehearse_rules.specs.Needs.{effect_now}
-use Rattle.rehearse_rules.specs.Execution.{Limits, Answer, Normal, Exit, Ended, Dry, CutSteps, go_on, set_status, goes, holds, begin_turn, started_text, run_read, exec_script, exec_list, exec_command, exec, request_of, for_begun, block_skipped, exec_arms, turns, for_each, Request, device, sourced, sourced_text}
+use Rattle.rehearse_rules.specs.Execution.{Limits, Answer, Normal, Exit, Ended, Dry, CutSteps, go_on, set_status, goes, holds, begin_turn, started_text, run_read, exec_script, exec_list, exec_command, exec, request_of, for_begun, block_skipped, exec_arms, turns, for_each, Request, device, sourced, sourced_text, choice_text}
 use Rattle.rehearse_rules.proofs.GrowingSteps.{AtLeast, Grew, AtLeast-track, Grew-block}
 use Rattle.rehearse_rules.proofs.TakenOutcomes.{KeepsAll, Keeps-script, Keeps-list, Keeps-one, Keeps-exec, Keeps-started, Keeps-device}
 use Rattle.rehearse_machine.proofs.StepBoundLemmas.{same_if, block_proper, same_script, same_exec, same_turns, same_for, same_if_arms}
 use Rattle.rehearse_machine.proofs.BoundLemmas.{Cut-block}
 use Rattle.rehearse_reads.specs.Keys.{Access, Reads, Writes, Environment, Status, all_read}
-use Rattle.rehearse_reads.specs.Accesses.{listed_accesses, behind, behind_text, status_written, words_reads, sized_accesses, turns_accesses, turn_accesses, each_accesses, for_accesses, begun_accesses, device_accesses, computed_accesses, read_accesses, started_accesses, run_accesses, builtin_accesses, call_accesses, simple_accesses, script_accesses, list_accesses, joined_accesses, command_accesses, arms_accesses, accesses, modern_accesses, turns_of_accesses, for_words_accesses, compound_accesses, simple_call_accesses, file_accesses, follow_accesses, handed_accesses, sourced_accesses, sourced_text_accesses}
+use Rattle.rehearse_reads.specs.Accesses.{listed_accesses, behind, behind_text, status_written, words_reads, sized_accesses, turns_accesses, turn_accesses, each_accesses, for_accesses, begun_accesses, device_accesses, computed_accesses, read_accesses, started_accesses, run_accesses, builtin_accesses, call_accesses, simple_accesses, script_accesses, list_accesses, joined_accesses, command_accesses, arms_accesses, accesses, modern_accesses, turns_of_accesses, for_words_accesses, compound_accesses, simple_call_accesses, file_accesses, follow_accesses, handed_accesses, sourced_accesses, sourced_text_accesses, one_accesses, here_accesses, chosen_accesses}
 use Rattle.rehearse_frames.proofs.NoneBegun.{None-block, None-turns}
 
 pub same_both : (xs ys zs ws : List Access) → xs ≡ ys → zs ≡ ws → xs ++ zs ≡ ys ++ ws
@@ -108,17 +108,32 @@ module _ (limits : Limits) where
         ap (λ (xs : List Access). (xs ++ sourced_accesses limits.shell (run_read limits text name found t)) ++ behind_text (sourced limits.shell (run_read limits text name found t)) (λ x. [])) (read_same found proper t h)
         ∙ ap (λ (a : Answer). (read_accesses limits text' u' found t ++ sourced_accesses limits.shell a) ++ behind_text (sourced limits.shell a) (λ x. [])) (read_answers found name proper t h)
 
-    file_same : (name : Text) (before : ℕ) (t : State) → limits.step_bound < n + t.steps → follow_accesses limits text u name before t ≡ follow_accesses limits text' u' name before t
-    file_same name before t h =
-        let v : State = set_status before t in
-        ap (λ (xs : List Access). Reads Status ∷ xs)
-        (either (nat_eq t.memory.status 0) (Writes Status ∷ file_accesses limits text u name v) [] (Writes Status ∷ file_accesses limits text' u' name v) []
-        (ap (λ (xs : List Access). Writes Status ∷ xs) (found_same (file_in limits.devices name) name v h)) refl)
+    here_same : (name : Text) (before : ℕ) (t : State) → limits.step_bound < n + t.steps → here_accesses limits text u name before t ≡ here_accesses limits text' u' name before t
+    here_same name before t h = ap (λ (xs : List Access). Writes Status ∷ xs) (found_same (file_in limits.devices name) name (set_status before t) h)
 
-    handed_same : (runs : Option Text) (before : ℕ) (asked : List Access) (a : Answer) (t : State) → AtLeast t.steps a → limits.step_bound < n + t.steps → handed_accesses limits text u runs before asked a ≡ handed_accesses limits text' u' runs before asked a
-    handed_same None before asked a t l h = refl
-    handed_same (Some name) before asked a t l h =
-        ap (λ (xs : List Access). asked ++ xs) (same_behind t.steps a a (follow_accesses limits text u name before) (follow_accesses limits text' u' name before) l refl (λ x r. file_same name before x (omega arith)))
+    one_same : (name : Text) (others : List Text) (before : ℕ) (t : State) → limits.step_bound < n + t.steps → one_accesses limits text u name others before t ≡ one_accesses limits text' u' name others before t
+    one_same name [] before t h = here_same name before t h
+    one_same name (other ∷ others) before t h =
+        let question : Answer = started_text limits text name (choice_text name) t in
+        let question' : Answer = started_text limits text' name (choice_text name) t in
+        let f : State → List Access = chosen_accesses limits text u name before (one_accesses limits text u other others before) in
+        let g : State → List Access = chosen_accesses limits text' u' name before (one_accesses limits text' u' other others before) in
+        same_both (started_accesses limits text u (choice_text name) t) (started_accesses limits text' u' (choice_text name) t) (behind question f) (behind question' g)
+        (started_same (choice_text name) t h)
+        (same_behind t.steps question question' f g (AtLeast-track limits.device_bound t question (Keeps-started limits text kept name (choice_text name) t).0) (started_answers name (choice_text name) t h)
+        (λ x r. ap (λ (xs : List Access). Reads Status ∷ xs)
+        (either (nat_eq x.memory.status 0) (here_accesses limits text u name before x) (one_accesses limits text u other others before x) (here_accesses limits text' u' name before x) (one_accesses limits text' u' other others before x)
+        (here_same name before x (omega arith)) (one_same other others before x (omega arith)))))
+
+    file_same : (name : Text) (others : List Text) (before : ℕ) (t : State) → limits.step_bound < n + t.steps → follow_accesses limits text u name others before t ≡ follow_accesses limits text' u' name others before t
+    file_same name others before t h =
+        ap (λ (xs : List Access). Reads Status ∷ xs)
+        (either (nat_eq t.memory.status 0) (one_accesses limits text u name others before t) [] (one_accesses limits text' u' name others before t) [] (one_same name others before t h) refl)
+
+    handed_same : (runs : List Text) (before : ℕ) (asked : List Access) (a : Answer) (t : State) → AtLeast t.steps a → limits.step_bound < n + t.steps → handed_accesses limits text u runs before asked a ≡ handed_accesses limits text' u' runs before asked a
+    handed_same [] before asked a t l h = refl
+    handed_same (name ∷ others) before asked a t l h =
+        ap (λ (xs : List Access). asked ++ xs) (same_behind t.steps a a (follow_accesses limits text u name others before) (follow_accesses limits text' u' name others before) l refl (λ x r. file_same name others before x (omega arith)))
 
     builtin_same : (b : Builtin) (name : Text) (ws : List Text) (t : State) → limits.step_bound < n + t.steps → builtin_accesses limits text u b name ws t ≡ builtin_accesses limits text' u' b name ws t
     builtin_same SetEnv name ws t h = refl

@@ -12,8 +12,8 @@ use Rattle.rehearse_terms.specs.declared.shell.Shell.TheVariants.{Profile, Old20
 use Rattle.rehearse_rules.specs.Parameters.{parameters_in}
 use Rattle.rehearse_rules.specs.ByShell.{reads_again, call_in, leaves_in, asks_in, fields_in, turns_in, follows, follows_turns}
 use Rattle.rehearse_rules.specs.Needs.{effect_now}
-use Rattle.rehearse_rules.specs.Execution.{Limits, goes, holds, outcome_when, Request, told, request_of, test_request, for_begun}
-use Rattle.rehearse_machine.specs.Frames.{Frame, Lists, Linked, IfCondition, LoopCondition, LoopBody, ForBody, RunNames, RunText, CommandEnd, RunFile, FileText}
+use Rattle.rehearse_rules.specs.Execution.{Limits, goes, holds, outcome_when, Request, told, request_of, test_request, for_begun, choice_text}
+use Rattle.rehearse_machine.specs.Frames.{Frame, Lists, Linked, IfCondition, LoopCondition, LoopBody, ForBody, RunNames, RunText, CommandEnd, RunFile, ChosenFile, FileText}
 use Rattle.rehearse_reads.specs.Keys.{Access, Reads, Writes, Environment, Status, all_read}
 use Rattle.rehearse_reads.specs.Accesses.{status_written, words_reads, setenv_accesses, computed_accesses, needs_reads, told_reads, outcome_accesses, sized_accesses, assign_accesses, turn_accesses, nothing_accesses, begun_accesses, modern_accesses}
 
@@ -36,7 +36,8 @@ of_leaving shell status (IfCondition b arms ∷ fs) = of_leaving_compound shell 
 of_leaving shell status (LoopCondition until c b last ∷ fs) = of_leaving_compound shell (of_leaving shell status fs)
 of_leaving shell status (LoopBody until c b ∷ fs) = of_leaving_compound shell (of_leaving shell status fs)
 of_leaving shell status (ForBody name fields body ∷ fs) = of_leaving_compound shell (of_leaving shell status fs)
-of_leaving shell status (RunFile name before ∷ fs) = of_leaving shell status fs
+of_leaving shell status (RunFile name others before ∷ fs) = of_leaving shell status fs
+of_leaving shell status (ChosenFile name other others before ∷ fs) = of_leaving shell status fs
 of_leaving shell status (FileText ∷ fs) = Reads Status ∷ []
 of_leaving shell status (CommandEnd ∷ fs) = of_leaving_compound shell (of_leaving shell status fs)
 
@@ -84,6 +85,14 @@ of_beginning_text shell (Some text) = of_beginning_read (started_in shell text)
 abbrev pub of_beginning_file : Shell → Option Text → List Access
 of_beginning_file shell None = status_written
 of_beginning_file shell (Some text) = of_beginning_read (sourced_in shell text)
+
+-- a text that asks something is read, and the frame behind it reads its status
+abbrev pub of_beginning_question : TextRead → List Access
+of_beginning_question (Runs tree.Empty) = status_written
+of_beginning_question (Runs (tree.Runs list more)) = []
+of_beginning_question Fails = status_written
+of_beginning_question Panics = []
+of_beginning_question Unread = []
 
 abbrev pub of_beginning_names : Shell → List Text → State → List Access
 of_beginning_names shell [] s = []
@@ -150,6 +159,11 @@ module _ (limits : Limits) where
       begun_accesses limits (λ t. modern_accesses limits.shell
       ++ of_beginning_words limits.shell name words (for_begun limits.shell t)) s
 
+  -- the text of a file begins with the status from before, and the question whether it is this one does not
+  abbrev pub of_beginning_one : (name : Text) → (others : List Text) → List Access
+  of_beginning_one name [] = Writes Status ∷ of_beginning_file limits.shell (file_in limits.devices name)
+  of_beginning_one name (other ∷ others) = of_beginning_question (started_in limits.shell (choice_text name))
+
   abbrev pub of_move : List Frame → State → List Access
   of_move [] s = Reads Status ∷ []
   of_move (Lists tree.Empty ∷ fs) s = []
@@ -170,10 +184,9 @@ module _ (limits : Limits) where
   of_move (RunNames names ∷ fs) s = of_beginning_names limits.shell names s
   of_move (RunText names ∷ fs) s =
       Reads Status ∷ elim (nat_eq s.memory.status 0) [ true ↦ of_beginning_names limits.shell names s | false ↦ [] ]
-  of_move (RunFile name before ∷ fs) s =
-      Reads Status ∷ elim (nat_eq s.memory.status 0) [
-        | true ↦ Writes Status ∷ of_beginning_file limits.shell (file_in limits.devices name)
-        | false ↦ []
-      ]
+  of_move (RunFile name others before ∷ fs) s =
+      Reads Status ∷ elim (nat_eq s.memory.status 0) [ true ↦ of_beginning_one name others | false ↦ [] ]
+  of_move (ChosenFile name other others before ∷ fs) s =
+      Reads Status ∷ elim (nat_eq s.memory.status 0) [ true ↦ of_beginning_one name [] | false ↦ of_beginning_one other others ]
   of_move (FileText ∷ fs) s = Reads Status ∷ []
   of_move (CommandEnd ∷ fs) s = []

@@ -5,10 +5,10 @@ use Rattle.rehearse_terms.specs.Outcomes.{OutcomeWord}
 use Rattle.rehearse_terms.specs.State.{Text, State}
 use Rattle.rehearse_rules.specs.ByShell.{status_of_loop}
 use Rattle.rehearse_rules.specs.Execution.{Limits, Answer, Normal, Exit, Ended, Dry, holds, take_outcome, block_skipped, go_on, for_each, set_status, sourced}
-use Rattle.rehearse_machine.specs.Frames.{Frame, Lists, Linked, IfCondition, LoopCondition, LoopBody, ForBody, RunNames, RunText, Next, Go, Ask, Stop, CommandEnd, RunFile, FileText, with_file}
+use Rattle.rehearse_machine.specs.Frames.{Frame, Lists, Linked, IfCondition, LoopCondition, LoopBody, ForBody, RunNames, RunText, Next, Go, Ask, Stop, CommandEnd, RunFile, ChosenFile, FileText, with_file}
 use Rattle.rehearse_machine.specs.Meaning.{with, full, script, resume, arms_of, again}
 use Rattle.rehearse_reads.specs.Keys.{Access, Reads, Environment, Status}
-use Rattle.rehearse_reads.specs.Accesses.{accesses, behind, behind_text, status_written, turns_accesses, each_accesses, run_accesses, taken_accesses, script_accesses, joined_accesses, command_accesses, arms_accesses, modern_accesses, compound_accesses, sourced_accesses, follow_accesses}
+use Rattle.rehearse_reads.specs.Accesses.{accesses, behind, behind_text, status_written, turns_accesses, each_accesses, run_accesses, taken_accesses, script_accesses, joined_accesses, command_accesses, arms_accesses, modern_accesses, compound_accesses, sourced_accesses, follow_accesses, one_accesses, chosen_accesses}
 
 -- the values of these variables are read
 abbrev pub names_read : List Text → List Access
@@ -61,8 +61,13 @@ module _ (limits : Limits) where
   abbrev pub of_names : List Text → State → List Access
   of_names names = run_accesses limits (full limits) of_full names
 
-  abbrev pub of_file : (name : Text) → (before : ℕ) → State → List Access
-  of_file name before = follow_accesses limits (full limits) of_full name before
+  abbrev pub of_file : (name : Text) → (others : List Text) → (before : ℕ) → State → List Access
+  of_file name others before = follow_accesses limits (full limits) of_full name others before
+
+  -- of the files, when the status says whether it is this one
+  abbrev pub of_chosen : (name other : Text) → (others : List Text) → (before : ℕ) → State → List Access
+  of_chosen name other others before =
+      chosen_accesses limits (full limits) of_full name before (one_accesses limits (full limits) of_full other others before)
 
   -- ---- what compound commands do, behind a part of them
 
@@ -97,7 +102,8 @@ module _ (limits : Limits) where
       ++ of_compound (go_on a (turns_left name values body))
   of_frame (RunNames names) a = first_behind a (of_names names)
   of_frame (RunText names) a = behind_text a (of_names names)
-  of_frame (RunFile name before) a = behind a (of_file name before)
+  of_frame (RunFile name others before) a = behind a (of_file name others before)
+  of_frame (ChosenFile name other others before) a = behind a (of_chosen name other others before)
   of_frame FileText a = sourced_accesses limits.shell a ++ behind_text (sourced limits.shell a) (λ t. [])
   of_frame CommandEnd a = of_compound a
 

@@ -56,7 +56,8 @@ kind_anew shell kinds.File p ps outwards s h = by p.place.turn
   where
     by : (turn : ℕ) → AsksAnew (left_file shell turn ps outwards s)
     by zero = h
-    by (suc k) = file_anew shell ps s
+    by (suc zero) = file_anew shell ps s
+    by (suc (suc k)) = h
 
 left_anew : (shell : Shell) (ps : List RunningFrame) (s : State) → AsksAnew (left shell ps s)
 left_anew shell [] s = tt

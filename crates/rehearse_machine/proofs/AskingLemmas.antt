@@ -1,5 +1,5 @@
 -- A device command that asks can be found again.
-use Rattle.std.proofs.Common.{ℕ, zero, suc, Bool, true, false, List, [], ◌∷◌, length, Option, Some, None, refl, ap, ◌∙◌, ◌≡◌, nat_lt, nat_le, nat_eq}
+use Rattle.std.proofs.Common.{ℕ, zero, suc, Bool, true, false, List, [], ◌∷◌, length, drop, Option, Some, None, refl, ap, ◌∙◌, ◌≡◌, nat_lt, nat_le, nat_eq}
 use Rattle.device_list.specs.declared.finish.BoardEnd.{BoardEnd}
 use Rattle.hushlang.specs.Tree as tree
 use Rattle.hushlang.specs.Tree.{Script, AndOr, Command, Arms}
@@ -18,9 +18,9 @@ use Rattle.commands.specs.BuiltInCommands.{ChangesVariables, WritesText, RunsTex
 use Rattle.rehearse_rules.specs.Needs.{effect_now}
 use Rattle.rehearse_terms.specs.declared.shell.Shell.{Shell}
 use Rattle.rehearse_terms.specs.declared.shell.Shell.TheVariants.{Profile, Old2023, Old2025, Modern2025}
-use Rattle.rehearse_rules.specs.Execution.{Limits, CutDevices, CutSteps, Size, set_status, status_when, goes, holds, Request, told, told_again, logged, set_environment, Unsupported, assign_local, request_of, test_request, text_failed, for_begun, block_skipped}
+use Rattle.rehearse_rules.specs.Execution.{choice_text, Limits, CutDevices, CutSteps, Size, set_status, status_when, goes, holds, Request, told, told_again, logged, set_environment, Unsupported, assign_local, request_of, test_request, text_failed, for_begun, block_skipped}
 use Rattle.rehearse_terms.specs.Outcomes.{Success}
-use Rattle.rehearse_machine.specs.Places.{PlaceNext, GoOn, AskOn, StopOn, list_at, joined_at, second, command_in, command_at, drop_arms, block_frame, behind, in_turn, left, place_exit, place_finish, place_tell_or_ask, place_assign, place_read, place_text, place_name, run_move, for_turn, for_move, for_begins, place_arms, condition_ends, phase_move, place_fitting, place_ask, place_called, place_fields, place_counted, place_command, place_joined, place_begins, place_turn, place_list, place_by, place_move, place_skipped, moved_to, place, place_turns, place_for, left_compound, left_script, left_by, command_over, with_block, if_moves, loop_moves, place_simple_call, above_file, left_file, file_left, place_sourced, file_begins, file_ends, file_move}
+use Rattle.rehearse_machine.specs.Places.{at_file, place_question, place_one, file_asked, PlaceNext, GoOn, AskOn, StopOn, list_at, joined_at, second, command_in, command_at, drop_arms, block_frame, behind, in_turn, left, place_exit, place_finish, place_tell_or_ask, place_assign, place_read, place_text, place_name, run_move, for_turn, for_move, for_begins, place_arms, condition_ends, phase_move, place_fitting, place_ask, place_called, place_fields, place_counted, place_command, place_joined, place_begins, place_turn, place_list, place_by, place_move, place_skipped, moved_to, place, place_turns, place_for, left_compound, left_script, left_by, command_over, with_block, if_moves, loop_moves, place_simple_call, above_file, left_file, file_left, place_sourced, file_begins, file_ends, file_move}
 use Rattle.rehearse_machine.specs.AskingCommand.{words_of, fields_again, found_again, AsksAgain}
 use Rattle.rehearse_rules.specs.ByShell.{reads_again, leaves_in, status_of_exit, asks_in, truth_in, fields_in, turns_in, status_of_loop, skips_rest, follows, assigned_in, follows_turns, call_in}
 
@@ -86,7 +86,8 @@ module _ (limits : Limits) where
     where
       by : (turn : ℕ) → AsksHere ps s (left_file limits.shell turn qs outwards t)
       by zero = h
-      by (suc k) = file_here limits.shell ps qs s t
+      by (suc zero) = file_here limits.shell ps qs s t
+      by (suc (suc k)) = h
 
   left_here : (ps qs : List RunningFrame) (s t : State) → AsksHere ps s (left limits.shell qs t)
   left_here ps [] s t = tt
@@ -211,16 +212,29 @@ module _ (limits : Limits) where
   sourced_never None name f ps s = tt
   sourced_never (Some text) name f ps s = read_never (sourced_in limits.shell text) name f ps s
 
-  begins_never : (o : Option Text) (f : RunningFrame) (ps : List RunningFrame) (s : State) → NeverAsks (file_begins limits o f ps s)
-  begins_never None f ps s = tt
-  begins_never (Some name) f ps s =
-      let found : Option Text = file_in limits.devices name in
-      either_never (nat_eq s.memory.status 0) (place_sourced limits.shell found name f ps (set_status f.place.last s)) (GoOn ps s) (sourced_never found name f ps (set_status f.place.last s)) tt
+  question_never : (found : TextRead) (name : Text) (f : RunningFrame) (ps : List RunningFrame) (s : State) → NeverAsks (place_question limits.shell found name f ps s)
+  question_never (Runs t) name f ps s = tt
+  question_never Fails name f ps s = tt
+  question_never Panics name f ps s = tt
+  question_never Unread name f ps s = tt
+
+  one_never : (file : ℕ) (names : List Text) (f : RunningFrame) (ps : List RunningFrame) (s : State) → NeverAsks (place_one limits file names f ps s)
+  one_never file [] f ps s = tt
+  one_never file (name ∷ []) f ps s = sourced_never (file_in limits.devices name) name (at_file file 0 f) ps (set_status f.place.last s)
+  one_never file (name ∷ other ∷ others) f ps s = question_never (started_in limits.shell (choice_text name)) name (at_file file 2 f) ps s
+
+  asked_never : (names : List Text) (f : RunningFrame) (ps : List RunningFrame) (s : State) → NeverAsks (file_asked limits names f ps s)
+  asked_never [] f ps s = tt
+  asked_never (name ∷ []) f ps s = tt
+  asked_never (name ∷ other ∷ others) f ps s =
+      either_never (nat_eq s.memory.status 0) (place_one limits f.place.command (name ∷ []) f ps s) (place_one limits (suc f.place.command) (other ∷ others) f ps s) (one_never f.place.command (name ∷ []) f ps s) (one_never (suc f.place.command) (other ∷ others) f ps s)
 
   file_never : (f : RunningFrame) (ps : List RunningFrame) (s : State) → NeverAsks (file_move limits f ps s)
   file_never f ps s =
-      either_never (nat_eq f.place.turn 0) (file_begins limits (slice_get f.words 0) f ps s) (file_ends limits ps s) (begins_never (slice_get f.words 0) f ps s)
-      (either_never (nat_eq s.memory.status 0) (GoOn ps s) (GoOn ps (text_failed limits.shell s)) tt tt)
+      let names : List Text = drop f.place.command f.words in
+      either_never (nat_eq f.place.turn 0) (file_begins limits names f ps s) (elim (nat_eq f.place.turn 1) [ true ↦ file_ends limits ps s | false ↦ file_asked limits names f ps s ])
+      (either_never (nat_eq s.memory.status 0) (place_one limits f.place.command names f ps s) (GoOn ps s) (one_never f.place.command names f ps s) tt)
+      (either_never (nat_eq f.place.turn 1) (file_ends limits ps s) (file_asked limits names f ps s) (either_never (nat_eq s.memory.status 0) (GoOn ps s) (GoOn ps (text_failed limits.shell s)) tt tt) (asked_never names f ps s))
 
   -- ---- a move
 

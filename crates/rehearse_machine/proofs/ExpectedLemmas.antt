@@ -1,22 +1,21 @@
 -- What is expected of a command that asks says which outcome counts.
-use Rattle.std.proofs.Common.{refl, ◌≡◌, ◌∙◌, sym, ap, subst, Bool, true, false, not, List, [], ◌∷◌, ◌++◌, nat_eq}
+use Rattle.std.proofs.Common.{refl, ◌≡◌, ◌∙◌, sym, ap, subst, Bool, true, false, List, [], ◌∷◌, ◌++◌, Option, nat_eq}
 use Rattle.hushlang.specs.Tree.{Script}
 use Rattle.bootstore_state.specs.Moment.{Moment}
 use Rattle.bootstore_state.specs.StoredState.{state_at}
-use Rattle.device_list.specs.DeviceList.{fails_normally}
+use Rattle.device_list.specs.DeviceList.{expected}
 use Rattle.device_list.specs.declared.finish.BoardEnd.{BoardEnd}
 use Rattle.rehearse_terms.specs.Outcomes.{OutcomeWord, Outcome, Success, Failure}
 use Rattle.rehearse_terms.specs.State.{Text, State, LoggedCommand}
 use Rattle.rehearse_terms.specs.declared.shell.Shell.{Shell}
 use Rattle.rehearse_terms.specs.declared.shell.Shell.TheVariants.{Profile, Old2023, Old2025, Modern2025}
-use Rattle.rehearse_rules.specs.Execution.{Limits, Answer, Normal, Exit, Ended, Dry, take_outcome, run_all, for_each, outcome_when, succeeds, block_skipped, compound, compound_end, go_on, file_follows, sourced, left_to_prompt}
+use Rattle.rehearse_rules.specs.Execution.{chosen, run_one, Limits, Answer, Normal, Exit, Ended, Dry, take_outcome, run_all, for_each, outcome_when, succeeds, block_skipped, compound, compound_end, go_on, file_follows, sourced, left_to_prompt}
 use Rattle.rehearse_rules.specs.Expected.{Answered, asked_in}
-use Rattle.rehearse_rules.specs.Laws.{IsExpected}
 use Rattle.rehearse_rules.specs.Runs.{Task, run_on, state_of}
-use Rattle.rehearse_rules.proofs.TakenOutcomes.{KeepsAll, HasAnswered, Track-of, answered_on, go_on-answered, text_end-answered, outcome_answers, Keeps-script, Keeps-joined, Keeps-arms, Keeps-exec, Keeps-run, Keeps-turns, Keeps-for, Keeps-if, Keeps-stays, after_condition, Keeps-after_condition, Keeps-skip, Keeps-file}
-use Rattle.rehearse_rules.proofs.UnexpectedAnswers.{AsksAt, asks_at, expected_at}
+use Rattle.rehearse_rules.proofs.TakenOutcomes.{KeepsAll, HasAnswered, Track-of, answered_on, go_on-answered, text_end-answered, outcome_answers, Keeps-script, Keeps-joined, Keeps-arms, Keeps-exec, Keeps-run, Keeps-turns, Keeps-for, Keeps-if, Keeps-stays, after_condition, Keeps-after_condition, Keeps-skip, Keeps-chosen, Keeps-one_file, Keeps-file}
+use Rattle.rehearse_rules.proofs.UnexpectedAnswers.{AsksAt, ExpectedAs, asks_at, expected_at}
 use Rattle.rehearse_machine.specs.Came.{Came, Over, Wants, settled}
-use Rattle.rehearse_machine.specs.Frames.{Frame, Lists, Linked, IfCondition, LoopCondition, LoopBody, ForBody, RunNames, RunText, CommandEnd, RunFile, FileText, with_file}
+use Rattle.rehearse_machine.specs.Frames.{ChosenFile, Frame, Lists, Linked, IfCondition, LoopCondition, LoopBody, ForBody, RunNames, RunText, CommandEnd, RunFile, FileText, with_file}
 use Rattle.rehearse_machine.specs.Places.{PlaceNext, next_of, frames_of}
 use Rattle.rehearse_machine.specs.Meaning.{first_or_next, full, script, joined_of, arms_of, again, resume, continue, comes_to}
 use Rattle.rehearse_machine.specs.Machine.{Asking, IsAsking, asked_at}
@@ -97,7 +96,10 @@ module _ (limits : Limits) (call : List Text) (d : Outcome) (log : List LoggedCo
       (go_on-answered limits.device_bound call d log a rest (λ t. Keeps-for limits name (script limits body) (kept_script body) t.memory.status values t) h)
   resume_answered (RunNames names) a h = first_answered a (run_all limits (full limits) names) (kept_names names) h
   resume_answered (RunText names) a h = text_end-answered limits.device_bound limits.shell call d log a (run_all limits (full limits) names) (kept_names names) h
-  resume_answered (RunFile name before) a h = go_on-answered limits.device_bound call d log a (file_follows limits (full limits) name before) (Keeps-file limits (full limits) kept_full name before) h
+  resume_answered (RunFile name others before) a h = go_on-answered limits.device_bound call d log a (file_follows limits (full limits) name others before) (Keeps-file limits (full limits) kept_full name others before) h
+  resume_answered (ChosenFile name other others before) a h =
+      let next : State → Answer = run_one limits (full limits) other others before in
+      go_on-answered limits.device_bound call d log a (chosen limits (full limits) name before next) (Keeps-chosen limits (full limits) kept_full name before next (Keeps-one_file limits (full limits) kept_full other others before)) h
   resume_answered FileText a h = text_end-answered limits.device_bound limits.shell call d log (sourced limits.shell a) Normal (Keeps-stays limits.device_bound) (sourced_answered limits.shell a h)
   resume_answered CommandEnd a h = compound_answered limits.shell a h
 
@@ -141,20 +143,15 @@ call_same task p m stopped asking fresh asks =
     sym has.grows ∙ sym (ap asked_in log_there) ∙ asks.grows Success ∙ ap (λ (l : List LoggedCommand). asked_in l ++ (true, asks.call) ∷ []) log_here in
     sym (ap (λ (x : Answered). x.1) (head_same (asked_in m.log) (true, call) (true, asks.call) has.further [] one))
 
--- ---- so one outcome is as expected
+-- ---- so one outcome is as expected, or both are
 
-pub expected_there : (task : Task) (p : OutcomeWord) (m : Moment) (success : Bool) → StoppedAt task p Asks m → Expects task.limits m success → IsExpected task p (outcome_when success) (outcome_when (not success))
+pub expected_there : (task : Task) (p : OutcomeWord) (m : Moment) (answer : Option Bool) → StoppedAt task p Asks m → Expects task.limits m answer → ExpectedAs task p answer
 unfolding IsAsking
-expected_there task p m success stopped expects =
+expected_there task p m answer stopped expects =
     let asking : Asking task.limits m = asking_at task.limits m stopped.0 in
     let asks : AsksAt task p = asks_at task p (asked_kind task p m stopped) in
-    let normal : Bool = fails_normally task.limits.devices asks.call in
-    let same : success ≡ not normal = expects asking ∙ sym (ap (λ (call : List Text). not (fails_normally task.limits.devices call)) (call_same task p m stopped asking (asks_anew task.limits m asking) asks)) in
-    subst (λ (b : Bool). IsExpected task p (outcome_when b) (outcome_when (not b))) (sym same) (twice normal (expected_at task p asks normal refl))
+    let same : answer ≡ expected task.limits.devices asks.call = expects asking ∙ sym (ap (expected task.limits.devices) (call_same task p m stopped asking (asks_anew task.limits m asking) asks)) in
+    subst (ExpectedAs task p) (sym same) (expected_at task p asks (expected task.limits.devices asks.call) refl)
   where
     asking_at : (limits : Limits) (n : Moment) → IsAsking limits n → Asking limits n
     asking_at limits n asks = asks
-
-    twice : (b : Bool) → IsExpected task p (outcome_when (not b)) (outcome_when b) → IsExpected task p (outcome_when (not b)) (outcome_when (not (not b)))
-    twice true h = h
-    twice false h = h

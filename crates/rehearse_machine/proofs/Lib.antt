@@ -21,6 +21,7 @@ pub mod ComputedLemmas
 pub mod Beginnings
 pub mod ListLemmas
 pub mod WordLemmas
+pub mod FileLemmas
 pub mod FitLemmas
 pub mod RunSoFar
 pub mod AssignLemmas

@@ -14,8 +14,8 @@ use Rattle.commands.specs.BuiltInCommands.{ChangesVariables, WritesText, RunsTex
 use Rattle.rehearse_rules.specs.Needs.{effect_now}
 use Rattle.rehearse_rules.proofs.NeedsLemmas.{now_runs}
 use Rattle.rehearse_rules.proofs.CompoundLemmas.{compound_normal, compound_ended, compound_dry, sourced_normal, sourced_ended, sourced_dry}
-use Rattle.rehearse_rules.specs.Execution.{Limits, Answer, Normal, Exit, Ended, Dry, Ending, End, CutDevices, CutSteps, Unknown, Size, go_on, set_status, status_when, goes, holds, begin, tell_or_take, told, told_again, logged, finish, set_environment, Finished, device, Request, text_end, run_read, run_all, command, simple, sized, assign, turns, for_each, Unsupported, Panic, assign_local, request_of, test_request, started_text, text_failed, turns_of, for_words, for_begun, block_skipped, compound, compound_left, simple_call, run_file, handed_over, sourced, sourced_text}
-use Rattle.rehearse_machine.specs.Frames.{Frame, Lists, Linked, IfCondition, LoopCondition, LoopBody, ForBody, RunNames, RunText, Next, Go, Stop, tell_or_ask, finish_next, leave, begin_assign, begin_for, begin_arms, begin_read, begin_text, begin_names, begin_exit, fitting, ask, begin_called, begin_fields, counted, begin_command, move, begin_turns, begin_words, CommandEnd, leave_compound, behind_block, begin_simple_call, RunFile, FileText, with_file, leave_file, begin_sourced, begin_file}
+use Rattle.rehearse_rules.specs.Execution.{choice_text, run_one, chosen, Limits, Answer, Normal, Exit, Ended, Dry, Ending, End, CutDevices, CutSteps, Unknown, Size, go_on, set_status, status_when, goes, holds, begin, tell_or_take, told, told_again, logged, finish, set_environment, Finished, device, Request, text_end, run_read, run_all, command, simple, sized, assign, turns, for_each, Unsupported, Panic, assign_local, request_of, test_request, started_text, text_failed, turns_of, for_words, for_begun, block_skipped, compound, compound_left, simple_call, run_file, handed_over, sourced, sourced_text}
+use Rattle.rehearse_machine.specs.Frames.{ChosenFile, begin_one, begin_question, Frame, Lists, Linked, IfCondition, LoopCondition, LoopBody, ForBody, RunNames, RunText, Next, Go, Stop, tell_or_ask, finish_next, leave, begin_assign, begin_for, begin_arms, begin_read, begin_text, begin_names, begin_exit, fitting, ask, begin_called, begin_fields, counted, begin_command, move, begin_turns, begin_words, CommandEnd, leave_compound, behind_block, begin_simple_call, RunFile, FileText, with_file, leave_file, begin_sourced, begin_file}
 use Rattle.rehearse_machine.specs.Came.{Over, Wants}
 use Rattle.rehearse_machine.specs.Meaning.{with, full, script, one, joined_of, arms_of, again, resume, continue, comes_to, AreProperFrames}
 use Rattle.rehearse_rules.proofs.GrowingSteps.{Grew, AtLeast-track, Grew-block}
@@ -46,7 +46,8 @@ module _ (limits : Limits) where
   resume-ended (ForBody name values body) ending s = compound_ended limits.shell ending s
   resume-ended (RunNames names) ending s = refl
   resume-ended (RunText names) ending s = refl
-  resume-ended (RunFile name before) ending s = refl
+  resume-ended (RunFile name others before) ending s = refl
+  resume-ended (ChosenFile name other others before) ending s = refl
   resume-ended FileText ending s = ap (λ (a : Answer). text_end limits.shell a Normal) (sourced_ended limits.shell ending s)
   resume-ended CommandEnd ending s = compound_ended limits.shell ending s
 
@@ -59,7 +60,8 @@ module _ (limits : Limits) where
   resume-dry (ForBody name values body) s = compound_dry limits.shell s
   resume-dry (RunNames names) s = refl
   resume-dry (RunText names) s = refl
-  resume-dry (RunFile name before) s = refl
+  resume-dry (RunFile name others before) s = refl
+  resume-dry (ChosenFile name other others before) s = refl
   resume-dry FileText s = ap (λ (a : Answer). text_end limits.shell a Normal) (sourced_dry limits.shell s)
   resume-dry CommandEnd s = compound_dry limits.shell s
 
@@ -113,7 +115,8 @@ module _ (limits : Limits) where
     leave-is (LoopCondition until c b last ∷ fs) s = left_compound-is limits.shell refl (CommandEnd ∷ fs) fs s (leave limits.shell fs s) (λ t. sym (over-is fs t)) (leave-is fs s)
     leave-is (LoopBody until c b ∷ fs) s = left_compound-is limits.shell refl (CommandEnd ∷ fs) fs s (leave limits.shell fs s) (λ t. sym (over-is fs t)) (leave-is fs s)
     leave-is (ForBody name fields body ∷ fs) s = left_compound-is limits.shell refl fs fs s (leave limits.shell fs s) (λ t. refl) (leave-is fs s)
-    leave-is (RunFile name before ∷ fs) s = leave-is fs s
+    leave-is (RunFile name others before ∷ fs) s = leave-is fs s
+    leave-is (ChosenFile name other others before ∷ fs) s = leave-is fs s
     leave-is (FileText ∷ fs) s = left_file-is limits.shell refl fs s
     leave-is (CommandEnd ∷ fs) s = left_compound-is limits.shell refl (CommandEnd ∷ fs) fs s (leave limits.shell fs s) (λ t. sym (over-is fs t)) (leave-is fs s)
 
@@ -168,9 +171,9 @@ module _ (limits : Limits) where
         if-is (nat_lt (length s.log) limits.device_bound) (tell_or_ask (told request s.log) request fs s) (Stop CutDevices s) below (tell_or_take (told request s.log) request (with w s)) (Ended CutDevices (with w s)) (tell-is (told request s.log) request fs s) (sym (continue-ended below CutDevices (with w s)))
 
     -- what a command hands over to
-    handed-is : (runs : Option Text) (before : ℕ) (fs : List Frame) (a : Answer) → continue limits (with_file before runs fs) a ≡ continue limits fs (handed_over limits (full limits) runs before a)
-    handed-is None before fs a = refl
-    handed-is (Some name) before fs a = refl
+    handed-is : (runs : List Text) (before : ℕ) (fs : List Frame) (a : Answer) → continue limits (with_file before runs fs) a ≡ continue limits fs (handed_over limits (full limits) runs before a)
+    handed-is [] before fs a = refl
+    handed-is (name ∷ others) before fs a = refl
 
     exit-is : (o : Option ℕ) (other : ℕ) (fs : List Frame) (s : State) → comes_to limits w (begin_exit limits.shell o other fs s) ≡ continue limits fs (elim o [ Some status ↦ Exit (set_status status (with w s)) | None ↦ Normal (set_status other (with w s)) ])
     exit-is (Some status) other fs s = leave-is fs (set_status status s)
@@ -187,7 +190,7 @@ module _ (limits : Limits) where
         let request : Request = request_of name ws (effect_now s.log effect) in
         let a : Answer = device limits request (with w s) in
         ask-is request fs s ∙ handed-is request.effect.runs s.memory.status fs a
-        ∙ ap (λ (runs : Option Text). continue limits fs (handed_over limits (full limits) runs s.memory.status a)) (now_runs s.log effect)
+        ∙ ap (λ (runs : List Text). continue limits fs (handed_over limits (full limits) runs s.memory.status a)) (now_runs s.log effect)
     builtin-is again NoCommand name ws fs s = sym (continue-ended fs (Unknown name) (with w s))
 
     call-is : (again : Bool) (ws : List Text) (fs : List Frame) (s : State) → comes_to limits w (begin_simple_call limits again ws fs s) ≡ continue limits fs (simple_call limits again (full limits) ws (with w s))
@@ -252,6 +255,18 @@ module _ (limits : Limits) where
     command-is (tree.Loop until c b) p fs s = ap (continue limits (CommandEnd ∷ fs)) (sym (turn_more until c b p.0 p.1 0 (with w s)))
     command-is (tree.For name words body) p fs s = counted-is (λ t. begin_words limits.shell name words body fs (for_begun limits.shell t)) (λ t. for_words limits.shell name words (script limits body) (for_begun limits.shell t)) fs s (λ t. words-is name words body fs (for_begun limits.shell t))
 
+    -- which of the files it is
+    question-is : (found : TextRead) (name : Text) (after : Frame) (fs : List Frame) (s : State) → ((t : Script) → found ≡ Runs t → IsProper t) → comes_to limits w (begin_question limits.shell found name after fs s) ≡ continue limits (after ∷ fs) (run_read limits (full limits) name found (with w s))
+    question-is (Runs tree.Empty) name after fs s p = ap (continue limits (after ∷ fs)) (sym (closed_exec limits limits.step_bound tree.Empty tt (set_status 0 (with w s)) (omega arith)))
+    question-is (Runs (tree.Runs l ls)) name after fs s p = ap (continue limits (after ∷ fs)) (sym (closed_exec limits limits.step_bound (tree.Runs l ls) (p (tree.Runs l ls) refl) (with w s) (omega arith)))
+    question-is Fails name after fs s p = refl
+    question-is Panics name after fs s p = sym (continue-ended (after ∷ fs) (Panic name) (with w s))
+    question-is Unread name after fs s p = sym (continue-ended (after ∷ fs) (unread limits.shell name) (with w s))
+
+    one_file-is : (name : Text) (others : List Text) (before : ℕ) (fs : List Frame) (s : State) → comes_to limits w (begin_one limits name others before fs s) ≡ continue limits fs (run_one limits (full limits) name others before (with w s))
+    one_file-is name [] before fs s = file-is (file_in limits.devices name) name fs (set_status before s)
+    one_file-is name (other ∷ others) before fs s = question-is (started_in limits.shell (choice_text name)) name (ChosenFile name other others before) fs s (started_texts_are_proper limits.shell (choice_text name))
+
     -- a move keeps what is to come
     pub move-is : (fs : List Frame) → AreProperFrames fs → (s : State) → comes_to limits w (move limits fs s) ≡ continue limits fs (Normal (with w s))
     move-is [] p s = refl
@@ -267,9 +282,10 @@ module _ (limits : Limits) where
     move-is (ForBody name (f ∷ values) body ∷ fs) p s = refl
     move-is (RunNames names ∷ fs) p s = names-is names fs s
     move-is (RunText names ∷ fs) p s = if-is (nat_eq s.memory.status 0) (begin_names limits.shell names fs s) (Go fs (text_failed limits.shell s)) fs (run_all limits (full limits) names (with w s)) (Normal (text_failed limits.shell (with w s))) (names-is names fs s) refl
-    move-is (RunFile name before ∷ fs) p s =
-        let t : State = set_status before s in
-        if-is (nat_eq s.memory.status 0) (begin_file limits.shell (file_in limits.devices name) name fs t) (Go fs s) fs (run_file limits (full limits) name (with w t)) (Normal (with w s)) (file-is (file_in limits.devices name) name fs t) refl
+    move-is (RunFile name others before ∷ fs) p s =
+        if-is (nat_eq s.memory.status 0) (begin_one limits name others before fs s) (Go fs s) fs (run_one limits (full limits) name others before (with w s)) (Normal (with w s)) (one_file-is name others before fs s) refl
+    move-is (ChosenFile name other others before ∷ fs) p s =
+        if-is (nat_eq s.memory.status 0) (begin_one limits name [] before fs s) (begin_one limits other others before fs s) fs (run_one limits (full limits) name [] before (with w s)) (run_one limits (full limits) other others before (with w s)) (one_file-is name [] before fs s) (one_file-is other others before fs s)
     move-is (FileText ∷ fs) p s =
         if-is (nat_eq s.memory.status 0) (Go fs s) (Go fs (text_failed limits.shell s)) fs (Normal (with w s)) (Normal (text_failed limits.shell (with w s))) refl refl
         ∙ ap (λ (a : Answer). continue limits fs (text_end limits.shell a Normal)) (sym (sourced_normal limits.shell (with w s)))

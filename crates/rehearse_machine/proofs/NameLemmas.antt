@@ -36,14 +36,12 @@ some_lists : (items : List ListCode) (s : State) → false ≡ eqb (length items
 some_lists [] s e = absurd (let f = e in cc)
 some_lists (x ∷ xs) s e = refl
 
-module _ (r : Result Step StoreError) (old new : Record) (f child : RunningFrame) (at : At) (code : Code) (child_is : child ≡ text_frame (view.script code)) (place_is : at ≡ place f.place.list f.place.command (suc f.place.turn) 0) where
+module _ (r : Result Step StoreError) (old new : Record) (f child : RunningFrame) (at : At) (code : Code) (child_is : child ≡ text_frame (view.script code)) where
   abbrev framed : State → State → PlaceNext
-  framed t s = GoOn (text_frame (view.script code) ∷ in_turn (suc f.place.turn) 0 f ∷ under old.present) t
+  framed t s = GoOn (text_frame (view.script code) ∷ moved_to at f ∷ under old.present) t
 
   moves : (t : State) → GoOn (child ∷ moved_to at f ∷ under old.present) t ≡ framed t t
-  moves t =
-      ap (λ (x : RunningFrame). GoOn (x ∷ moved_to at f ∷ under old.present) t) child_is
-      ∙ ap (λ (x : At). GoOn (text_frame (view.script code) ∷ moved_to x f ∷ under old.present) t) place_is
+  moves t = ap (λ (x : RunningFrame). GoOn (x ∷ moved_to at f ∷ under old.present) t) child_is
 
   says : (s : State) → begun_text (view.runs (map view.list (out-Script code).lists.items)) s ≡ begun_text (view.script code) s
   says s = sym (ap (λ (x : Script). begun_text x s) (script_out code))

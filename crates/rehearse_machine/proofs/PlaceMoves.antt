@@ -1,7 +1,7 @@
 -- A move at places is the move of the frames that the places describe.
 use Rattle.std.proofs.Common.{ℕ, zero, suc, Bool, true, false, List, [], ◌∷◌, ◌++◌, length, drop, Option, Some, None, refl, sym, ap, ◌∙◌, ◌≡◌, ◌<◌, arith, nat_lt, nat_le, nat_eq}
 use Rattle.std.specs.Prelude.{slice_get}
-use Rattle.std.proofs.Math.Dec.{eqb-suc-zero}
+use Rattle.std.proofs.Math.Dec.{eqb-suc-zero, eqb-suc-suc}
 use Rattle.device_list.specs.declared.finish.BoardEnd.{BoardEnd}
 use Rattle.hushlang.specs.Tree as tree
 use Rattle.hushlang.specs.Tree.{Script, AndOr, Joined, Command, Arms}
@@ -20,9 +20,9 @@ use Rattle.device_list.specs.DeviceList.{file_in}
 use Rattle.device_list.specs.Called.{Called, BuiltIn, NoCommand, Device, called_by, sets_in}
 use Rattle.commands.specs.BuiltInCommands.{ChangesVariables, WritesText, RunsTexts, Tests, Exits}
 use Rattle.rehearse_rules.specs.Needs.{effect_now}
-use Rattle.rehearse_rules.specs.Execution.{begin_turn, Limits, End, CutDevices, CutSteps, Size, set_status, status_when, goes, holds, Request, outcome_when, told, told_again, logged, set_environment, Unsupported, assign_local, request_of, test_request, text_failed, for_begun, block_skipped}
-use Rattle.rehearse_machine.specs.Frames.{Frame, Lists, Linked, IfCondition, LoopCondition, LoopBody, ForBody, Next, Go, Stop, leave, finish_next, answered, tell_or_ask, begin_assign, begin_for, begin_arms, begun_text, begin_read, begin_text, begin_names, begin_exit, fitting, ask, begin_called, begin_fields, counted, begin_command, move, leave_run, begin_turns, begin_words, CommandEnd, leave_compound, behind_block, begin_simple_call, with_file, FileText, leave_file, begin_sourced, begin_file}
-use Rattle.rehearse_machine.specs.Places.{list_at, drop_lists, joined_at, drop_joined, second, command_in, command_at, drop_arms, place, from_command, condition_frame, phase, from_turn, script_frames, for_frame, run_frame, frames_by, frames_of, PlaceNext, GoOn, StopOn, next_of, moved_to, behind, in_turn, text_frame, block_frame, left, place_exit, place_finish, place_answered, place_tell_or_ask, place_assign, place_read, place_text, place_name, run_move, for_turn, for_move, for_begins, place_arms, condition_ends, phase_move, place_fitting, place_ask, place_called, place_fields, place_counted, place_command, place_joined, place_skipped, place_begins, place_turn, place_list, place_by, place_move, place_skipped, place_turns, place_words, place_for, past_lists, over, command_over, with_block, left_compound, left_script, left_by, if_moves, loop_moves, place_simple_call, file_part, above_file, left_file, file_left, place_sourced, file_begins, file_ends, file_move}
+use Rattle.rehearse_rules.specs.Execution.{choice_text, begin_turn, Limits, End, CutDevices, CutSteps, Size, set_status, status_when, goes, holds, Request, outcome_when, told, told_again, logged, set_environment, Unsupported, assign_local, request_of, test_request, text_failed, for_begun, block_skipped}
+use Rattle.rehearse_machine.specs.Frames.{ChosenFile, begin_one, begin_question, Frame, Lists, Linked, IfCondition, LoopCondition, LoopBody, ForBody, Next, Go, Stop, leave, finish_next, answered, tell_or_ask, begin_assign, begin_for, begin_arms, begun_text, begin_read, begin_text, begin_names, begin_exit, fitting, ask, begin_called, begin_fields, counted, begin_command, move, leave_run, begin_turns, begin_words, CommandEnd, leave_compound, behind_block, begin_simple_call, with_file, FileText, leave_file, begin_sourced, begin_file}
+use Rattle.rehearse_machine.specs.Places.{asked_part, at_file, place_question, place_one, file_asked, list_at, drop_lists, joined_at, drop_joined, second, command_in, command_at, drop_arms, place, from_command, condition_frame, phase, from_turn, script_frames, for_frame, run_frame, frames_by, frames_of, PlaceNext, GoOn, StopOn, next_of, moved_to, behind, in_turn, text_frame, block_frame, left, place_exit, place_finish, place_answered, place_tell_or_ask, place_assign, place_read, place_text, place_name, run_move, for_turn, for_move, for_begins, place_arms, condition_ends, phase_move, place_fitting, place_ask, place_called, place_fields, place_counted, place_command, place_joined, place_skipped, place_begins, place_turn, place_list, place_by, place_move, place_skipped, place_turns, place_words, place_for, past_lists, over, command_over, with_block, left_compound, left_script, left_by, if_moves, loop_moves, place_simple_call, file_part, above_file, left_file, file_left, place_sourced, file_begins, file_ends, file_move}
 use Rattle.rehearse_machine.proofs.Beginnings.{chosen, passed}
 use Rattle.rehearse_terms.specs.declared.shell.Shell.{Shell}
 use Rattle.rehearse_terms.specs.declared.shell.Shell.TheVariants.{Profile, Old2023, Old2025, Modern2025}
@@ -165,6 +165,12 @@ leave_waiting : (shell : Shell) (last : ℕ) (names : List Text) (rs : List Fram
 leave_waiting shell last [] rs s = refl
 leave_waiting shell last (name ∷ more) rs s = refl
 
+-- and one of which it is asked whether it is the one
+leave_asked : (shell : Shell) (last : ℕ) (names : List Text) (rs : List Frame) (s : State) → leave shell (asked_part last names ∷ rs) s ≡ leave shell rs s
+leave_asked shell last [] rs s = refl
+leave_asked shell last (name ∷ []) rs s = refl
+leave_asked shell last (name ∷ other ∷ others) rs s = refl
+
 left_compound-is : (shell : Shell) (ps : List RunningFrame) (outwards : PlaceNext) (s : State) → next_of (left_compound shell ps outwards s) ≡ leave_compound shell (frames_of ps) (next_of outwards) s
 left_compound-is Profile ps outwards s = refl
 left_compound-is Old2023 ps outwards s = refl
@@ -191,9 +197,10 @@ module _ (shell : Shell) where
         ∙ ap (λ (x : List Frame). leave_compound shell (x ++ frames_of fs) (leave shell (frames_of fs) s) s) (scripted (over f.place))
         ∙ sym (leave_within shell (list_at f.script f.place.list) f.place a after_list (frames_of fs) s e)
 
-    left_file-is : (turn : ℕ) → next_of (left_file shell turn fs (left shell fs s) s) ≡ leave shell (file_part turn f.place.last f.words ∷ frames_of fs) s
-    left_file-is zero = h ∙ sym (leave_waiting shell f.place.last f.words (frames_of fs) s)
-    left_file-is (suc k) = file_left-is shell fs s
+    left_file-is : (turn : ℕ) → next_of (left_file shell turn fs (left shell fs s) s) ≡ leave shell (file_part turn f.place.last (drop f.place.command f.words) ∷ frames_of fs) s
+    left_file-is zero = h ∙ sym (leave_waiting shell f.place.last (drop f.place.command f.words) (frames_of fs) s)
+    left_file-is (suc zero) = file_left-is shell fs s
+    left_file-is (suc (suc k)) = h ∙ sym (leave_asked shell f.place.last (drop f.place.command f.words) (frames_of fs) s)
 
     left_by-is : (k : FrameKind) → f.kind ≡ k → next_of (left_by shell k f fs (left shell fs s) s) ≡ leave shell (frames_by k f ++ frames_of fs) s
     left_by-is kinds.Text e = left_script-is f.place.turn refl (λ at. ap (λ (x : FrameKind). frames_by x (moved_to at f)) e)
@@ -249,41 +256,91 @@ module _ (limits : Limits) (f : RunningFrame) (fs : List RunningFrame) (s : Stat
 
 -- ---- the frame of a file
 
-module _ (limits : Limits) (f : RunningFrame) (fs : List RunningFrame) (s : State) (k : f.kind ≡ kinds.File) where
-  file_ran : (turn last : ℕ) → frames_of (in_turn (suc turn) last f ∷ fs) ≡ FileText ∷ frames_of fs
-  file_ran turn last = ap (λ (x : FrameKind). frames_by x (in_turn (suc turn) last f) ++ frames_of fs) k
+dropped : (names : List Text) (n : ℕ) (name : Text) (others : List Text) → drop n names ≡ name ∷ others → drop (suc n) names ≡ others
+dropped [] zero name others e = absurd (let f = e in cc)
+dropped [] (suc n) name others e = absurd (let f = e in cc)
+dropped (x ∷ names) zero name others e = ap (drop 1) e
+dropped (x ∷ names) (suc n) name others e = dropped names n name others e
 
-  -- in the state with the status from before
-  module _ (u : State) where
-    file_read-is : (found : TextRead) (name : Text) → next_of (place_read limits.shell found name f fs u) ≡ begin_sourced limits.shell found name (frames_of fs) u
+module _ (limits : Limits) (f : RunningFrame) (fs : List RunningFrame) (s : State) (k : f.kind ≡ kinds.File) where
+  -- the text of one of its files begins, in a state with the status from before
+  module _ (file : ℕ) (u : State) where
+    abbrev here : RunningFrame
+    here = at_file file 0 f
+
+    file_ran : frames_of (in_turn 1 0 here ∷ fs) ≡ FileText ∷ frames_of fs
+    file_ran = ap (λ (x : FrameKind). frames_by x (in_turn 1 0 here) ++ frames_of fs) k
+
+    file_read-is : (found : TextRead) (name : Text) → next_of (place_read limits.shell found name here fs u) ≡ begin_sourced limits.shell found name (frames_of fs) u
     file_read-is Fails name = refl
     file_read-is Panics name = refl
     file_read-is Unread name = refl
-    file_read-is (Runs t) name = ap (λ (x : List Frame). Go x (begun_text t u)) (texted t (in_turn (suc f.place.turn) 0 f ∷ fs) ∙ ap (λ (x : List Frame). Lists t ∷ x) (file_ran f.place.turn 0))
+    file_read-is (Runs t) name = ap (λ (x : List Frame). Go x (begun_text t u)) (texted t (in_turn 1 0 here ∷ fs) ∙ ap (λ (x : List Frame). Lists t ∷ x) file_ran)
 
-    file_text-is : (o : Option Text) (name : Text) → next_of (place_sourced limits.shell o name f fs u) ≡ begin_file limits.shell o name (frames_of fs) u
+    file_text-is : (o : Option Text) (name : Text) → next_of (place_sourced limits.shell o name here fs u) ≡ begin_file limits.shell o name (frames_of fs) u
     file_text-is None name = refl
     file_text-is (Some text) name = file_read-is (sourced_in limits.shell text) name
 
+  -- it is asked whether it is this one
+  question-is : (found : TextRead) (file : ℕ) (name other : Text) (others : List Text) → drop file f.words ≡ name ∷ other ∷ others → next_of (place_question limits.shell found name (at_file file 2 f) fs s) ≡ begin_question limits.shell found name (ChosenFile name other others f.place.last) (frames_of fs) s
+  question-is found file name other others e = by found
+    where
+      asked : frames_of (at_file file 2 f ∷ fs) ≡ ChosenFile name other others f.place.last ∷ frames_of fs
+      asked = ap (λ (x : FrameKind). frames_by x (at_file file 2 f) ++ frames_of fs) k ∙ ap (λ (x : List Text). asked_part f.place.last x ∷ frames_of fs) e
+
+      by : (found : TextRead) → next_of (place_question limits.shell found name (at_file file 2 f) fs s) ≡ begin_question limits.shell found name (ChosenFile name other others f.place.last) (frames_of fs) s
+      by (Runs t) = ap (λ (x : List Frame). Go x (begun_text t s)) (texted t (at_file file 2 f ∷ fs) ∙ ap (λ (x : List Frame). Lists t ∷ x) asked)
+      by Fails = ap (λ (x : List Frame). Go x (set_status 1 s)) asked
+      by Panics = refl
+      by Unread = refl
+
+  alone-is : (file : ℕ) (name : Text) → next_of (place_one limits file (name ∷ []) f fs s) ≡ begin_one limits name [] f.place.last (frames_of fs) s
+  alone-is file name = file_text-is file (set_status f.place.last s) (file_in limits.devices name) name
+
+  one-is : (file : ℕ) (name : Text) (others : List Text) → drop file f.words ≡ name ∷ others → next_of (place_one limits file (name ∷ others) f fs s) ≡ begin_one limits name others f.place.last (frames_of fs) s
+  one-is file name [] e = alone-is file name
+  one-is file name (other ∷ others) e = question-is (started_in limits.shell (choice_text name)) file name other others e
+
   -- it waits for a success
-  file_waits-is : (names : List Text) → f.words ≡ names → next_of (file_begins limits (slice_get f.words 0) f fs s) ≡ move limits (file_part zero f.place.last f.words ∷ frames_of fs) s
-  file_waits-is [] e =
-      ap (λ (x : List Text). next_of (file_begins limits (slice_get x 0) f fs s)) e ∙ sym (ap (λ (x : List Text). move limits (file_part zero f.place.last x ∷ frames_of fs) s) e)
-  file_waits-is (name ∷ more) e =
-      let found : Option Text = file_in limits.devices name in
-      let u : State = set_status f.place.last s in
-      ap (λ (x : List Text). next_of (file_begins limits (slice_get x 0) f fs s)) e
-      ∙ if_next (nat_eq s.memory.status 0) (place_sourced limits.shell found name f fs u) (GoOn fs s) (begin_file limits.shell found name (frames_of fs) u) (Go (frames_of fs) s) (file_text-is u found name) refl
-      ∙ sym (ap (λ (x : List Text). move limits (file_part zero f.place.last x ∷ frames_of fs) s) e)
+  file_waits-is : (names : List Text) → drop f.place.command f.words ≡ names → next_of (file_begins limits names f fs s) ≡ move limits (file_part zero f.place.last names ∷ frames_of fs) s
+  file_waits-is [] e = by (nat_eq s.memory.status 0)
+    where
+      by : (b : Bool) → next_of (elim b [ true ↦ GoOn fs s | false ↦ GoOn fs s ]) ≡ Go (frames_of fs) s
+      by true = refl
+      by false = refl
+  file_waits-is (name ∷ others) e =
+      if_next (nat_eq s.memory.status 0) (place_one limits f.place.command (name ∷ others) f fs s) (GoOn fs s) (begin_one limits name others f.place.last (frames_of fs) s) (Go (frames_of fs) s) (one-is f.place.command name others e) refl
+
+  -- or for the answer
+  file_asked-is : (names : List Text) → drop f.place.command f.words ≡ names → next_of (file_asked limits names f fs s) ≡ move limits (asked_part f.place.last names ∷ frames_of fs) s
+  file_asked-is [] e = refl
+  file_asked-is (name ∷ []) e = refl
+  file_asked-is (name ∷ other ∷ others) e =
+      if_next (nat_eq s.memory.status 0) (place_one limits f.place.command (name ∷ []) f fs s) (place_one limits (suc f.place.command) (other ∷ others) f fs s) (begin_one limits name [] f.place.last (frames_of fs) s) (begin_one limits other others f.place.last (frames_of fs) s)
+      (alone-is f.place.command name) (one-is (suc f.place.command) other others (dropped f.words f.place.command name (other ∷ others) e))
+
+  abbrev names_left : List Text
+  names_left = drop f.place.command f.words
 
   abbrev waits : PlaceNext
-  waits = file_begins limits (slice_get f.words 0) f fs s
+  waits = file_begins limits names_left f fs s
 
-  file_turn-is : (turn : ℕ) → f.place.turn ≡ turn → next_of (file_move limits f fs s) ≡ move limits (file_part turn f.place.last f.words ∷ frames_of fs) s
-  file_turn-is zero e = ap next_of (sym (chosen (nat_eq f.place.turn 0) waits (file_ends limits fs s) (ap (λ (x : ℕ). nat_eq x 0) e))) ∙ file_waits-is f.words refl
-  file_turn-is (suc j) e =
-      ap next_of (sym (passed (nat_eq f.place.turn 0) waits (file_ends limits fs s) (ap (λ (x : ℕ). nat_eq x 0) e ∙ eqb-suc-zero j)))
+  abbrev asked : PlaceNext
+  asked = file_asked limits names_left f fs s
+
+  abbrev later : PlaceNext
+  later = elim (nat_eq f.place.turn 1) [ true ↦ file_ends limits fs s | false ↦ asked ]
+
+  file_turn-is : (turn : ℕ) → f.place.turn ≡ turn → next_of (file_move limits f fs s) ≡ move limits (file_part turn f.place.last names_left ∷ frames_of fs) s
+  file_turn-is zero e = ap next_of (sym (chosen (nat_eq f.place.turn 0) waits later (ap (λ (x : ℕ). nat_eq x 0) e))) ∙ file_waits-is names_left refl
+  file_turn-is (suc zero) e =
+      ap next_of (sym (passed (nat_eq f.place.turn 0) waits later (ap (λ (x : ℕ). nat_eq x 0) e ∙ eqb-suc-zero 0)))
+      ∙ ap next_of (sym (chosen (nat_eq f.place.turn 1) (file_ends limits fs s) asked (ap (λ (x : ℕ). nat_eq x 1) e)))
       ∙ if_next (nat_eq s.memory.status 0) (GoOn fs s) (GoOn fs (text_failed limits.shell s)) (Go (frames_of fs) s) (Go (frames_of fs) (text_failed limits.shell s)) refl refl
+  file_turn-is (suc (suc j)) e =
+      ap next_of (sym (passed (nat_eq f.place.turn 0) waits later (ap (λ (x : ℕ). nat_eq x 0) e ∙ eqb-suc-zero (suc j))))
+      ∙ ap next_of (sym (passed (nat_eq f.place.turn 1) (file_ends limits fs s) asked (ap (λ (x : ℕ). nat_eq x 1) e ∙ (eqb-suc-suc (suc j) 0 ∙ eqb-suc-zero j))))
+      ∙ file_asked-is names_left refl
 
 module _ (f : RunningFrame) (fs : List RunningFrame) (s : State) (k : f.kind ≡ kinds.For) where
   abbrev looped : ℕ → ℕ → RunningFrame
@@ -337,9 +394,9 @@ finish-is (Some finish) name ps s = refl
 finish-is None name ps s = refl
 
 -- a file that a command hands over to
-pub file-is : (before : ℕ) (runs : Option Text) (ps : List RunningFrame) → frames_of (above_file before runs ps) ≡ with_file before runs (frames_of ps)
-file-is before None ps = refl
-file-is before (Some name) ps = refl
+pub file-is : (before : ℕ) (runs : List Text) (ps : List RunningFrame) → frames_of (above_file before runs ps) ≡ with_file before runs (frames_of ps)
+file-is before [] ps = refl
+file-is before (name ∷ others) ps = refl
 
 -- and so is the outcome of the command that asks
 pub place_answered-is : (outcome : Outcome) (r : Request) (ps : List RunningFrame) (s : State) → next_of (place_answered outcome r ps s) ≡ answered outcome r (frames_of ps) s

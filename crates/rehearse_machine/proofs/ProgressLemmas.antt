@@ -13,10 +13,10 @@ use Rattle.commands.specs.BuiltInCommands.{ChangesVariables, WritesText, RunsTex
 use Rattle.rehearse_rules.specs.Needs.{effect_now}
 use Rattle.rehearse_terms.specs.declared.shell.Shell.{Shell}
 use Rattle.rehearse_terms.specs.declared.shell.Shell.TheVariants.{Profile, Old2023, Old2025, Modern2025}
-use Rattle.rehearse_rules.specs.Execution.{Limits, CutDevices, CutSteps, Size, set_status, status_when, goes, holds, Request, told, told_again, logged, set_environment, Unsupported, assign_local, request_of, test_request, text_failed, for_begun, block_skipped}
+use Rattle.rehearse_rules.specs.Execution.{choice_text, Limits, CutDevices, CutSteps, Size, set_status, status_when, goes, holds, Request, told, told_again, logged, set_environment, Unsupported, assign_local, request_of, test_request, text_failed, for_begun, block_skipped}
 use Rattle.rehearse_terms.specs.Outcomes.{Success}
-use Rattle.rehearse_machine.specs.Frames.{Frame, Lists, Linked, IfCondition, LoopCondition, LoopBody, ForBody, RunNames, RunText, Next, Go, Ask, Stop, tell_or_ask, finish_next, leave, begin_assign, begin_for, begin_arms, begin_read, begin_text, begin_names, begin_exit, fitting, ask, begin_called, begin_fields, begin_command, move, begin_turns, begin_words, CommandEnd, leave_compound, behind_block, begin_simple_call, RunFile, FileText, with_file, leave_file, begin_sourced, begin_file}
-use Rattle.rehearse_machine.specs.MoveCounts.{command_depth, arms_depth, script_depth, block_weight, links_weight, arms_weight, read_weight, text_weight, file_weight, names_weight, weight}
+use Rattle.rehearse_machine.specs.Frames.{ChosenFile, begin_one, begin_question, Frame, Lists, Linked, IfCondition, LoopCondition, LoopBody, ForBody, RunNames, RunText, Next, Go, Ask, Stop, tell_or_ask, finish_next, leave, begin_assign, begin_for, begin_arms, begin_read, begin_text, begin_names, begin_exit, fitting, ask, begin_called, begin_fields, begin_command, move, begin_turns, begin_words, CommandEnd, leave_compound, behind_block, begin_simple_call, RunFile, FileText, with_file, leave_file, begin_sourced, begin_file}
+use Rattle.rehearse_machine.specs.MoveCounts.{one_weight, command_depth, arms_depth, script_depth, block_weight, links_weight, arms_weight, read_weight, text_weight, file_weight, names_weight, weight}
 use Rattle.rehearse_machine.specs.Meaning.{AreProperFrames}
 use Rattle.rehearse_rules.specs.ByShell.{reads_again, leaves_in, status_of_exit, asks_in, truth_in, fields_in, turns_in, skips_rest, status_of_loop, follows, assigned_in, follows_turns, call_in}
 
@@ -65,7 +65,8 @@ module _ (limits : Limits) where
   leave-quiet shell (LoopCondition until c b last ∷ fs) s = compound-quiet shell (CommandEnd ∷ fs) (leave shell fs s) s (leave-quiet shell fs s)
   leave-quiet shell (LoopBody until c b ∷ fs) s = compound-quiet shell (CommandEnd ∷ fs) (leave shell fs s) s (leave-quiet shell fs s)
   leave-quiet shell (ForBody name values body ∷ fs) s = compound-quiet shell fs (leave shell fs s) s (leave-quiet shell fs s)
-  leave-quiet shell (RunFile name before ∷ fs) s = leave-quiet shell fs s
+  leave-quiet shell (RunFile name others before ∷ fs) s = leave-quiet shell fs s
+  leave-quiet shell (ChosenFile name other others before ∷ fs) s = leave-quiet shell fs s
   leave-quiet shell (FileText ∷ fs) s = file-quiet shell fs s
   leave-quiet shell (CommandEnd ∷ fs) s = compound-quiet shell (CommandEnd ∷ fs) (leave shell fs s) s (leave-quiet shell fs s)
 
@@ -224,6 +225,17 @@ module _ (limits : Limits) where
   file_progress None name fs s = inr (refl, refl, omega arith)
   file_progress (Some text) name fs s = sourced_progress (sourced_in limits.shell text) name fs s
 
+  question_progress : (found : TextRead) (name : Text) (after : Frame) (fs : List Frame) (s : State) → let x = weight limits s.memory.environment (after ∷ fs) in Progress s (suc (read_weight found x x)) (begin_question limits.shell found name after fs s)
+  question_progress (Runs tree.Empty) name after fs s = inr (refl, refl, omega arith)
+  question_progress (Runs (tree.Runs l ls)) name after fs s = inr (refl, refl, omega arith)
+  question_progress Fails name after fs s = inr (refl, refl, omega arith)
+  question_progress Panics name after fs s = inr refl
+  question_progress Unread name after fs s = inr refl
+
+  one_progress : (name : Text) (others : List Text) (before : ℕ) (fs : List Frame) (s : State) → Progress s (suc (one_weight limits name others (weight limits s.memory.environment fs))) (begin_one limits name others before fs s)
+  one_progress name [] before fs s = file_progress (file_in limits.devices name) name fs (set_status before s)
+  one_progress name (other ∷ others) before fs s = question_progress (started_in limits.shell (choice_text name)) name (ChosenFile name other others before) fs s
+
   names_progress : (names : List Text) (fs : List Frame) (s : State) → Progress s (suc (names_weight limits.shell s.memory.environment names (weight limits s.memory.environment fs))) (begin_names limits.shell names fs s)
   names_progress [] fs s = inr (refl, refl, omega arith)
   names_progress (name ∷ names) fs s = text_progress (get s.memory.environment name) name names fs s
@@ -271,14 +283,19 @@ module _ (limits : Limits) where
       either_progress s (suc (x + m)) (nat_eq s.memory.status 0) (begin_names limits.shell names fs s) (Go fs (text_failed limits.shell s))
       (progress_more s (suc x) (suc (x + m)) (begin_names limits.shell names fs s) (omega arith) (names_progress names fs s))
       (inr (refl, refl, omega arith))
-  move_progress (RunFile name before ∷ fs) s p =
+  move_progress (RunFile name others before ∷ fs) s p =
       let m = weight limits s.memory.environment fs in
-      let found = file_in limits.devices name in
-      let x = file_weight limits.shell found m in
-      let t = set_status before s in
-      either_progress s (suc (x + m)) (nat_eq s.memory.status 0) (begin_file limits.shell found name fs t) (Go fs s)
-      (progress_more s (suc x) (suc (x + m)) (begin_file limits.shell found name fs t) (omega arith) (file_progress found name fs t))
+      let x = one_weight limits name others m in
+      either_progress s (suc (x + m)) (nat_eq s.memory.status 0) (begin_one limits name others before fs s) (Go fs s)
+      (progress_more s (suc x) (suc (x + m)) (begin_one limits name others before fs s) (omega arith) (one_progress name others before fs s))
       (inr (refl, refl, omega arith))
+  move_progress (ChosenFile name other others before ∷ fs) s p =
+      let m = weight limits s.memory.environment fs in
+      let x = file_weight limits.shell (file_in limits.devices name) m in
+      let y = one_weight limits other others m in
+      either_progress s (suc (x + y)) (nat_eq s.memory.status 0) (begin_one limits name [] before fs s) (begin_one limits other others before fs s)
+      (progress_more s (suc x) (suc (x + y)) (begin_one limits name [] before fs s) (omega arith) (one_progress name [] before fs s))
+      (progress_more s (suc y) (suc (x + y)) (begin_one limits other others before fs s) (omega arith) (one_progress other others before fs s))
   move_progress (FileText ∷ fs) s p =
       either_progress s (suc (weight limits s.memory.environment fs)) (nat_eq s.memory.status 0) (Go fs s) (Go fs (text_failed limits.shell s))
       (inr (refl, refl, omega arith))

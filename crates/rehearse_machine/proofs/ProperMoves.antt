@@ -13,9 +13,9 @@ use Rattle.commands.specs.BuiltInCommands.{ChangesVariables, WritesText, RunsTex
 use Rattle.rehearse_rules.specs.Needs.{effect_now}
 use Rattle.rehearse_terms.specs.declared.shell.Shell.{Shell}
 use Rattle.rehearse_terms.specs.declared.shell.Shell.TheVariants.{Profile, Old2023, Old2025, Modern2025}
-use Rattle.rehearse_rules.specs.Execution.{Limits, CutDevices, CutSteps, Size, set_status, status_when, goes, holds, Request, told, told_again, logged, set_environment, Unsupported, assign_local, request_of, test_request, text_failed, for_begun, block_skipped}
+use Rattle.rehearse_rules.specs.Execution.{choice_text, Limits, CutDevices, CutSteps, Size, set_status, status_when, goes, holds, Request, told, told_again, logged, set_environment, Unsupported, assign_local, request_of, test_request, text_failed, for_begun, block_skipped}
 use Rattle.rehearse_terms.specs.Outcomes.{Success}
-use Rattle.rehearse_machine.specs.Frames.{Frame, Lists, Linked, IfCondition, LoopCondition, LoopBody, ForBody, RunNames, RunText, Next, Go, Stop, tell_or_ask, finish_next, leave, begin_assign, begin_for, begin_arms, begin_read, begin_text, begin_names, begin_exit, fitting, ask, begin_called, begin_fields, begin_command, move, begin_turns, begin_words, CommandEnd, leave_compound, behind_block, begin_simple_call, RunFile, FileText, with_file, leave_file, begin_sourced, begin_file}
+use Rattle.rehearse_machine.specs.Frames.{ChosenFile, begin_one, begin_question, Frame, Lists, Linked, IfCondition, LoopCondition, LoopBody, ForBody, RunNames, RunText, Next, Go, Stop, tell_or_ask, finish_next, leave, begin_assign, begin_for, begin_arms, begin_read, begin_text, begin_names, begin_exit, fitting, ask, begin_called, begin_fields, begin_command, move, begin_turns, begin_words, CommandEnd, leave_compound, behind_block, begin_simple_call, RunFile, FileText, with_file, leave_file, begin_sourced, begin_file}
 use Rattle.hushlang_shells.proofs.TreeByShellLemmas.{started_texts_are_proper, sourced_texts_are_proper}
 use Rattle.rehearse_machine.proofs.StepBoundLemmas.{block_proper}
 use Rattle.rehearse_machine.specs.Meaning.{AreProperFrames, IsProperNext}
@@ -48,7 +48,8 @@ module _ (limits : Limits) where
   leave-proper shell (LoopCondition until c b last ∷ fs) s p = compound-proper shell (CommandEnd ∷ fs) (leave shell fs s) s (tt, p.1) (leave-proper shell fs s p.1)
   leave-proper shell (LoopBody until c b ∷ fs) s p = compound-proper shell (CommandEnd ∷ fs) (leave shell fs s) s (tt, p.1) (leave-proper shell fs s p.1)
   leave-proper shell (ForBody name fields body ∷ fs) s p = compound-proper shell fs (leave shell fs s) s p.1 (leave-proper shell fs s p.1)
-  leave-proper shell (RunFile name before ∷ fs) s p = leave-proper shell fs s p.1
+  leave-proper shell (RunFile name others before ∷ fs) s p = leave-proper shell fs s p.1
+  leave-proper shell (ChosenFile name other others before ∷ fs) s p = leave-proper shell fs s p.1
   leave-proper shell (FileText ∷ fs) s p = file_left-proper shell fs s p.1
   leave-proper shell (CommandEnd ∷ fs) s p = compound-proper shell (CommandEnd ∷ fs) (leave shell fs s) s p (leave-proper shell fs s p.1)
 
@@ -86,9 +87,9 @@ module _ (limits : Limits) where
   finish-proper (Some finish) name fs s p = tt
   finish-proper None name fs s p = p
 
-  file-proper : (before : ℕ) (runs : Option Text) (fs : List Frame) → AreProperFrames fs → AreProperFrames (with_file before runs fs)
-  file-proper before None fs p = p
-  file-proper before (Some name) fs p = (tt, p)
+  file-proper : (before : ℕ) (runs : List Text) (fs : List Frame) → AreProperFrames fs → AreProperFrames (with_file before runs fs)
+  file-proper before [] fs p = p
+  file-proper before (name ∷ others) fs p = (tt, p)
 
   tell-proper : (o : Option Bool) (request : Request) (fs : List Frame) (s : State) → AreProperFrames fs → IsProperNext (tell_or_ask o request fs s)
   tell-proper None request fs s p = p
@@ -147,6 +148,17 @@ module _ (limits : Limits) where
   command-proper (tree.Loop until c b) fs s q p = (block_proper c q.0, (q, p))
   command-proper (tree.For name words body) fs s q p = let t : State = for_begun limits.shell (record s { steps = suc s.steps }) in let found : List Text = turns_in limits.shell (parameters_in t.memory) words in either (nat_lt s.steps limits.step_bound) (begin_words limits.shell name words body fs t) (Stop CutSteps s) (either (nat_le (size found) most_bytes) (begin_turns limits.shell name found body fs t) (Stop Size t) (turns-proper name found body fs t q p) tt) tt
 
+  question-proper : (found : TextRead) → ((t : Script) → found ≡ Runs t → IsProper t) → (name : Text) (after : Frame) (fs : List Frame) (s : State) → AreProperFrames (after ∷ fs) → IsProperNext (begin_question limits.shell found name after fs s)
+  question-proper (Runs t) proper name after fs s p = (proper t refl, p)
+  question-proper Fails proper name after fs s p = p
+  question-proper Panics proper name after fs s p = tt
+  question-proper Unread proper name after fs s p = tt
+
+  one-proper : (name : Text) (others : List Text) (before : ℕ) (fs : List Frame) (s : State) → AreProperFrames fs → IsProperNext (begin_one limits name others before fs s)
+  one-proper name [] before fs s p = begun-proper (file_in limits.devices name) name fs (set_status before s) p
+  one-proper name (other ∷ others) before fs s p =
+      question-proper (started_in limits.shell (choice_text name)) (started_texts_are_proper limits.shell (choice_text name)) name (ChosenFile name other others before) fs s (tt, p)
+
   pub move-proper : (fs : List Frame) (s : State) → AreProperFrames fs → IsProperNext (move limits fs s)
   move-proper [] s p = tt
   move-proper (Lists tree.Empty ∷ fs) s p = p.1
@@ -160,8 +172,9 @@ module _ (limits : Limits) where
   move-proper (ForBody name (f ∷ values) body ∷ fs) s p = (p.0, p)
   move-proper (RunNames names ∷ fs) s p = names-proper names fs s p.1
   move-proper (RunText names ∷ fs) s p = either (nat_eq s.memory.status 0) (begin_names limits.shell names fs s) (Go fs (text_failed limits.shell s)) (names-proper names fs s p.1) p.1
-  move-proper (RunFile name before ∷ fs) s p =
-      let t : State = set_status before s in
-      either (nat_eq s.memory.status 0) (begin_file limits.shell (file_in limits.devices name) name fs t) (Go fs s) (begun-proper (file_in limits.devices name) name fs t p.1) p.1
+  move-proper (RunFile name others before ∷ fs) s p =
+      either (nat_eq s.memory.status 0) (begin_one limits name others before fs s) (Go fs s) (one-proper name others before fs s p.1) p.1
+  move-proper (ChosenFile name other others before ∷ fs) s p =
+      either (nat_eq s.memory.status 0) (begin_one limits name [] before fs s) (begin_one limits other others before fs s) (one-proper name [] before fs s p.1) (one-proper other others before fs s p.1)
   move-proper (FileText ∷ fs) s p = either (nat_eq s.memory.status 0) (Go fs s) (Go fs (text_failed limits.shell s)) p.1 p.1
   move-proper (CommandEnd ∷ fs) s p = p.1

@@ -11,7 +11,7 @@ use Rattle.device_list.specs.DeviceList.{file_in}
 use Rattle.device_list.specs.Called.{Called, BuiltIn, NoCommand, Device, called_by}
 use Rattle.commands.specs.BuiltInCommands.{ChangesVariables, WritesText, RunsTexts, Tests, Exits}
 use Rattle.rehearse_rules.specs.Needs.{effect_now}
-use Rattle.rehearse_rules.specs.Execution.{begin_turn, Limits, Answer, Normal, Exit, Ended, Dry, CutSteps, Size, go_on, set_status, goes, holds, begin, text_end, text_failed, run_read, run_all, command, simple, sized, turns, for_each, exec_script, exec_list, exec_joined, exec_command, exec_arms, exec, Unsupported, started_text, turns_of, for_words, for_begun, block_skipped, compound, simple_call, Request, device, request_of, run_file, file_follows, handed_over, sourced, sourced_text}
+use Rattle.rehearse_rules.specs.Execution.{choice_text, chosen, run_one, begin_turn, Limits, Answer, Normal, Exit, Ended, Dry, CutSteps, Size, go_on, set_status, goes, holds, begin, text_end, text_failed, run_read, run_all, command, simple, sized, turns, for_each, exec_script, exec_list, exec_joined, exec_command, exec_arms, exec, Unsupported, started_text, turns_of, for_words, for_begun, block_skipped, compound, simple_call, Request, device, request_of, run_file, file_follows, handed_over, sourced, sourced_text}
 use Rattle.rehearse_rules.proofs.GrowingSteps.{AtLeast, Grew, AtLeast-track, Grew-block}
 use Rattle.rehearse_rules.proofs.TakenOutcomes.{KeepsAll, after_condition, Keeps-script, Keeps-list, Keeps-one, Keeps-exec, Keeps-started, Keeps-device}
 use Rattle.hushlang_shells.proofs.TreeByShellLemmas.{started_texts_are_proper, sourced_texts_are_proper}
@@ -70,14 +70,22 @@ module _ (limits : Limits) where
     same_found None name t h = refl
     same_found (Some v) name t h = ap (λ (a : Answer). text_end limits.shell (sourced limits.shell a) Normal) (same_read (sourced_in limits.shell v) name (sourced_texts_are_proper limits.shell v) t h)
 
-    same_file : (name : Text) (before : ℕ) (t : State) → limits.step_bound < n + t.steps → file_follows limits text name before t ≡ file_follows limits text' name before t
-    same_file name before t h =
-        let u : State = set_status before t in
-        same_if (nat_eq t.memory.status 0) (run_file limits text name u) (Normal t) (run_file limits text' name u) (Normal t) (same_found (file_in limits.devices name) name u h) refl
+    same_one_file : (name : Text) (others : List Text) (before : ℕ) (t : State) → limits.step_bound < n + t.steps → run_one limits text name others before t ≡ run_one limits text' name others before t
+    same_one_file name [] before t h = same_found (file_in limits.devices name) name (set_status before t) h
+    same_one_file name (other ∷ others) before t h =
+        let question : Answer = started_text limits text name (choice_text name) t in
+        same_go_on t.steps question (started_text limits text' name (choice_text name) t) (chosen limits text name before (run_one limits text other others before)) (chosen limits text' name before (run_one limits text' other others before))
+        (AtLeast-track limits.device_bound t question (Keeps-started limits text kept name (choice_text name) t).0) (same_started name (choice_text name) t h)
+        (λ u r. same_if (nat_eq u.memory.status 0) (run_file limits text name (set_status before u)) (run_one limits text other others before u) (run_file limits text' name (set_status before u)) (run_one limits text' other others before u)
+        (same_found (file_in limits.devices name) name (set_status before u) (omega arith)) (same_one_file other others before u (omega arith)))
 
-    same_handed : (runs : Option Text) (before : ℕ) (a : Answer) (t : State) → AtLeast t.steps a → limits.step_bound < n + t.steps → handed_over limits text runs before a ≡ handed_over limits text' runs before a
-    same_handed None before a t l h = refl
-    same_handed (Some name) before a t l h = same_go_on t.steps a a (file_follows limits text name before) (file_follows limits text' name before) l refl (λ u r. same_file name before u (omega arith))
+    same_file : (name : Text) (others : List Text) (before : ℕ) (t : State) → limits.step_bound < n + t.steps → file_follows limits text name others before t ≡ file_follows limits text' name others before t
+    same_file name others before t h =
+        same_if (nat_eq t.memory.status 0) (run_one limits text name others before t) (Normal t) (run_one limits text' name others before t) (Normal t) (same_one_file name others before t h) refl
+
+    same_handed : (runs : List Text) (before : ℕ) (a : Answer) (t : State) → AtLeast t.steps a → limits.step_bound < n + t.steps → handed_over limits text runs before a ≡ handed_over limits text' runs before a
+    same_handed [] before a t l h = refl
+    same_handed (name ∷ others) before a t l h = same_go_on t.steps a a (file_follows limits text name others before) (file_follows limits text' name others before) l refl (λ u r. same_file name others before u (omega arith))
 
     same_command : (again : Bool) (b : Called) (name : Text) (ws : List Text) (t : State) → limits.step_bound < n + t.steps → command limits again text b name ws t ≡ command limits again text' b name ws t
     same_command again (BuiltIn (ChangesVariables change)) name ws t h = refl

@@ -10,7 +10,7 @@ use Rattle.rehearse_terms.specs.State.{State, Text}
 use Rattle.rehearse_terms.specs.declared.written.Written.TheVariants.{Kept}
 use Rattle.bootstore_state.specs.StoredState.{state_at}
 use Rattle.device_list.specs.Called.{sets_in}
-use Rattle.device_list.specs.DeviceList.{fails_normally}
+use Rattle.device_list.specs.DeviceList.{expected}
 use Rattle.rehearse_rules.specs.Execution.{Limits, Request, logged, set_environment}
 use Rattle.rehearse_rules.specs.Runs.{Task}
 use Rattle.rehearse_machine.specs.declared.ask.Ask.{Ask}
@@ -105,9 +105,9 @@ module _ (r : Request) (ps : List RunningFrame) where
   taken_sound Failure s h = h
 
 -- with a file that the command hands over to
-file_sound : (before : ℕ) (runs : Option Text) (ps : List RunningFrame) → AreProperFrames (frames_of ps) → AreProperFrames (frames_of (above_file before runs ps))
-file_sound before None ps h = h
-file_sound before (Some name) ps h = (tt, h)
+file_sound : (before : ℕ) (runs : List Text) (ps : List RunningFrame) → AreProperFrames (frames_of ps) → AreProperFrames (frames_of (above_file before runs ps))
+file_sound before [] ps h = h
+file_sound before (name ∷ others) ps h = (tt, h)
 
 -- a command that asks is found again
 module _ (limits : Limits) (old mid : Record) (step : Step) (asking : IsAsking limits old.present) (finds : Does step old mid (found_again limits old.present.frames)) where
@@ -213,11 +213,11 @@ asked_takes limits old new ask outcome (Err x) asks asked does = tt
 asked_takes limits old new ask outcome (Ok next) asks asked does = outcome_taken limits old old (steps.Asks ask) asks (λ w. sym (asked w), record { marked = refl; begun = refl }) ask refl outcome new next does
 
 -- what is expected of it
-pub expects_of : (limits : Limits) (m : Moment) (request : Request) (success : Bool) → IsAsked limits request m → success ≡ not (fails_normally limits.devices (call_of request)) → Expects limits m success
+pub expects_of : (limits : Limits) (m : Moment) (request : Request) (answer : Option Bool) → IsAsked limits request m → answer ≡ expected limits.devices (call_of request) → Expects limits m answer
 unfolding IsAsked
-expects_of limits m request success asked e asking =
+expects_of limits m request answer asked e asking =
     let same : request ≡ asking.request = (let f : AskOn request m.frames (state_at m []) ≡ AskOn asking.request m.frames (state_at m []) = sym (asked []) ∙ asking.again [] in cc) in
-    e ∙ ap (λ (r : Request). not (fails_normally limits.devices (call_of r))) same
+    e ∙ ap (λ (r : Request). expected limits.devices (call_of r)) same
 
 -- ---- a text that went on
 

@@ -1,6 +1,6 @@
 -- What is expected of the device command that asks. Ours.
-use Rattle.std.specs.Prelude.{◌≡◌, Bool, not, List, ◌∷◌}
-use Rattle.device_list.specs.DeviceList.{fails_normally}
+use Rattle.std.specs.Prelude.{◌≡◌, Bool, List, ◌∷◌, Option}
+use Rattle.device_list.specs.DeviceList.{expected}
 use Rattle.bootstore_state.specs.Moment.{Moment}
 use Rattle.rehearse_terms.specs.State.{Text}
 use Rattle.rehearse_rules.specs.Execution.{Limits, Request}
@@ -10,6 +10,6 @@ use Rattle.rehearse_machine.specs.Machine.{Asking}
 abbrev pub call_of : Request → List Text
 call_of request = request.name ∷ request.words
 
--- whether a success is expected of the command that asks at a moment
-abbrev pub Expects : Limits → Moment → (success : Bool) → Type 0
-Expects limits m success = (asking : Asking limits m) → success ≡ not (fails_normally limits.devices (call_of asking.request))
+-- whether a success is expected of the command that asks at a moment; none if neither answer is
+abbrev pub Expects : Limits → Moment → (answer : Option Bool) → Type 0
+Expects limits m answer = (asking : Asking limits m) → answer ≡ expected limits.devices (call_of asking.request)

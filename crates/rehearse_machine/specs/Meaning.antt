@@ -4,10 +4,10 @@ use Rattle.hushlang.specs.Tree.{Script, Joined, Command, Arms, IsProper, IsPrope
 use Rattle.rehearse_terms.specs.Outcomes.{OutcomeWord}
 use Rattle.rehearse_terms.specs.State.{State}
 use Rattle.rehearse_rules.specs.ByShell.{status_of_loop}
-use Rattle.rehearse_rules.specs.Execution.{Limits, Answer, Normal, Exit, Ended, Dry, Ending, Request, go_on, set_status, holds, text_end, take_outcome, run_all, turns, for_each, exec_script, exec_joined, exec_command, exec_arms, exec, block_skipped, compound, file_follows, sourced}
+use Rattle.rehearse_rules.specs.Execution.{chosen, run_one, Limits, Answer, Normal, Exit, Ended, Dry, Ending, Request, go_on, set_status, holds, text_end, take_outcome, run_all, turns, for_each, exec_script, exec_joined, exec_command, exec_arms, exec, block_skipped, compound, file_follows, sourced}
 use Rattle.rehearse_rules.specs.Runs.{Task, run_on}
 use Rattle.rehearse_machine.specs.Came.{Came, Over, settled}
-use Rattle.rehearse_machine.specs.Frames.{Frame, Lists, Linked, IfCondition, LoopCondition, LoopBody, ForBody, RunNames, RunText, Next, Go, Ask, Stop, CommandEnd, RunFile, FileText, with_file}
+use Rattle.rehearse_machine.specs.Frames.{ChosenFile, Frame, Lists, Linked, IfCondition, LoopCondition, LoopBody, ForBody, RunNames, RunText, Next, Go, Ask, Stop, CommandEnd, RunFile, FileText, with_file}
 
 -- the state with this word left
 abbrev pub with : OutcomeWord → State → State
@@ -60,7 +60,9 @@ module _ (limits : Limits) where
       compound limits.shell (go_on a (λ t. for_each limits.shell name (script body) t.memory.status values t))
   resume (RunNames names) a = first_or_next a (run_all limits full names)
   resume (RunText names) a = text_end limits.shell a (run_all limits full names)
-  resume (RunFile name before) a = go_on a (file_follows limits full name before)
+  resume (RunFile name others before) a = go_on a (file_follows limits full name others before)
+  resume (ChosenFile name other others before) a =
+      go_on a (chosen limits full name before (run_one limits full other others before))
   resume FileText a = text_end limits.shell (sourced limits.shell a) Normal
   resume CommandEnd a = compound limits.shell a
 
@@ -85,7 +87,8 @@ IsProperFrame (LoopBody until c b) = HoldsCommand c × HoldsCommand b
 IsProperFrame (ForBody name values body) = IsProper body
 IsProperFrame (RunNames names) = Unit {0}
 IsProperFrame (RunText names) = Unit {0}
-IsProperFrame (RunFile name before) = Unit {0}
+IsProperFrame (RunFile name others before) = Unit {0}
+IsProperFrame (ChosenFile name other others before) = Unit {0}
 IsProperFrame FileText = Unit {0}
 IsProperFrame CommandEnd = Unit {0}
 

@@ -6,8 +6,8 @@ use Rattle.hushlang_shells.specs.TreesByShell.{TextRead, Runs, Fails, Panics, Un
 use Rattle.device_list.specs.DeviceList.{file_in}
 use Rattle.rehearse_terms.specs.State.{Text, Variables, get}
 use Rattle.rehearse_terms.specs.declared.shell.Shell.{Shell}
-use Rattle.rehearse_rules.specs.Execution.{Limits}
-use Rattle.rehearse_machine.specs.Frames.{Frame, Lists, Linked, IfCondition, LoopCondition, LoopBody, ForBody, RunNames, RunText, CommandEnd, RunFile, FileText}
+use Rattle.rehearse_rules.specs.Execution.{choice_text, Limits}
+use Rattle.rehearse_machine.specs.Frames.{ChosenFile, Frame, Lists, Linked, IfCondition, LoopCondition, LoopBody, ForBody, RunNames, RunText, CommandEnd, RunFile, FileText}
 
 -- how many moves lead from a command to the first step in it
 abbrev mutual
@@ -68,6 +68,13 @@ names_weight shell environment [] m = m
 names_weight shell environment (name ∷ names) m =
     text_weight shell (get environment name) (suc (names_weight shell environment names m + m)) m
 
+-- one of these files, which the question is behind
+abbrev pub one_weight : Limits → (name : Text) → (others : List Text) → ℕ → ℕ
+one_weight limits name [] m = file_weight limits.shell (file_in limits.devices name) m
+one_weight limits name (other ∷ others) m =
+    let behind = suc (file_weight limits.shell (file_in limits.devices name) m + one_weight limits other others m) in
+    read_weight (started_in limits.shell (choice_text name)) behind behind
+
 abbrev pub frame_weight : Limits → Variables → Frame → ℕ → ℕ
 frame_weight limits environment (Lists lists) m = block_weight lists m
 frame_weight limits environment (Linked links) m = links_weight links m
@@ -77,8 +84,9 @@ frame_weight limits environment (LoopBody until c b) m = suc (block_weight c m)
 frame_weight limits environment (ForBody name values body) m = for_weight body values m
 frame_weight limits environment (RunNames names) m = suc (names_weight limits.shell environment names m)
 frame_weight limits environment (RunText names) m = suc (names_weight limits.shell environment names m + m)
-frame_weight limits environment (RunFile name before) m =
-    suc (file_weight limits.shell (file_in limits.devices name) m + m)
+frame_weight limits environment (RunFile name others before) m = suc (one_weight limits name others m + m)
+frame_weight limits environment (ChosenFile name other others before) m =
+    suc (file_weight limits.shell (file_in limits.devices name) m + one_weight limits other others m)
 frame_weight limits environment FileText m = suc m
 frame_weight limits environment CommandEnd m = suc m
 

@@ -40,7 +40,7 @@ abbrev pub limits_of : Devices → BoundsShown → Limits
 limits_of devices bounds = record { devices = devices; device_bound = bounds.devices; step_bound = bounds.steps; shell = bounds.shell }
 
 -- a file that a command hands over to, above the frames
-abbrev pub file_above : (runs : Option Text) → Moment → Moment
+abbrev pub file_above : (runs : List Text) → Moment → Moment
 file_above runs m = record m { frames = above_file m.status runs m.frames }
 
 -- the frames below the innermost

@@ -20,8 +20,8 @@ use Rattle.device_list.specs.DeviceList.{file_in}
 use Rattle.device_list.specs.Called.{Called, BuiltIn, NoCommand, Device, called_by, sets_in}
 use Rattle.commands.specs.BuiltInCommands.{ChangesVariables, WritesText, RunsTexts, Tests, Exits, variables_changed, text_written}
 use Rattle.rehearse_rules.specs.Needs.{effect_now}
-use Rattle.rehearse_rules.specs.Execution.{Limits, Ending, End, CutDevices, CutSteps, Unknown, Size, Finished, remember, set_status, begin_turn, status_when, goes, holds, Request, outcome_when, told, told_again, logged, set_environment, Unsupported, Panic, assign_local, request_of, test_request, text_failed, for_begun, block_skipped, compound_left}
-use Rattle.rehearse_machine.specs.Frames.{Frame, Lists, Linked, IfCondition, LoopCondition, LoopBody, ForBody, RunNames, RunText, Next, Go, Ask, Stop, begun_text, CommandEnd, RunFile, FileText}
+use Rattle.rehearse_rules.specs.Execution.{choice_text, Limits, Ending, End, CutDevices, CutSteps, Unknown, Size, Finished, remember, set_status, begin_turn, status_when, goes, holds, Request, outcome_when, told, told_again, logged, set_environment, Unsupported, Panic, assign_local, request_of, test_request, text_failed, for_begun, block_skipped, compound_left}
+use Rattle.rehearse_machine.specs.Frames.{ChosenFile, Frame, Lists, Linked, IfCondition, LoopCondition, LoopBody, ForBody, RunNames, RunText, Next, Go, Ask, Stop, begun_text, CommandEnd, RunFile, FileText}
 
 -- ---- parts of a script by their numbers
 
@@ -110,18 +110,25 @@ abbrev pub run_frame : ℕ → List Text → Frame
 run_frame zero names = RunNames names
 run_frame (suc k) names = RunText (drop (suc k) names)
 
--- the text of a file has not begun, or it has
+-- it is asked whether it is the first of these files
+abbrev pub asked_part : (last : ℕ) → (names : List Text) → Frame
+asked_part last [] = Lists tree.Empty
+asked_part last (name ∷ []) = Lists tree.Empty
+asked_part last (name ∷ other ∷ others) = ChosenFile name other others last
+
+-- the text of a file has not begun, it has, or it is asked which one it is
 abbrev pub file_part : (turn last : ℕ) → (names : List Text) → Frame
 file_part zero last [] = Lists tree.Empty
-file_part zero last (name ∷ more) = RunFile name last
-file_part (suc k) last names = FileText
+file_part zero last (name ∷ others) = RunFile name others last
+file_part (suc zero) last names = FileText
+file_part (suc (suc k)) last names = asked_part last names
 
 abbrev pub frames_by : FrameKind → RunningFrame → List Frame
 frames_by kinds.Text f = script_frames (list_at f.script f.place.list) f.place (drop_lists (suc f.place.list) f.script)
 frames_by kinds.Block f = script_frames (list_at f.script f.place.list) f.place (drop_lists (suc f.place.list) f.script)
 frames_by kinds.For f = for_frame (command_at (list_at f.script f.place.list) f.place.command) f.place.turn f.words ∷ []
 frames_by kinds.Run f = run_frame f.place.turn f.words ∷ []
-frames_by kinds.File f = file_part f.place.turn f.place.last f.words ∷ []
+frames_by kinds.File f = file_part f.place.turn f.place.last (drop f.place.command f.words) ∷ []
 
 -- the frames that the frames of a store describe
 abbrev pub frames_of : List RunningFrame → List Frame
@@ -179,13 +186,17 @@ abbrev pub names_frame : Script → List Text → RunningFrame
 names_frame script names = record { kind = kinds.Run; script = script; words = names; place = place 0 0 0 0 }
 
 -- a file whose text may run, in no script, with the status from before the command
-abbrev pub file_frame : (before : ℕ) → (name : Text) → RunningFrame
-file_frame before name = record { kind = kinds.File; script = tree.Empty; words = name ∷ []; place = place 0 0 0 before }
+abbrev pub file_frame : (before : ℕ) → (names : List Text) → RunningFrame
+file_frame before names = record { kind = kinds.File; script = tree.Empty; words = names; place = place 0 0 0 before }
+
+-- a file frame at one of its files, in this turn
+abbrev pub at_file : (file turn : ℕ) → RunningFrame → RunningFrame
+at_file file turn f = moved_to (place f.place.list file turn f.place.last) f
 
 -- a command that names a file hands over to its text
-abbrev pub above_file : (before : ℕ) → (runs : Option Text) → List RunningFrame → List RunningFrame
-above_file before None ps = ps
-above_file before (Some name) ps = file_frame before name ∷ ps
+abbrev pub above_file : (before : ℕ) → (runs : List Text) → List RunningFrame → List RunningFrame
+above_file before [] ps = ps
+above_file before (name ∷ others) ps = file_frame before (name ∷ others) ∷ ps
 
 -- the `for` at the place of a frame, and its fields
 abbrev pub values_frame : RunningFrame → List Text → RunningFrame
@@ -218,7 +229,8 @@ file_left Modern2025 ps s = StopOn (End s.memory.status) s
 -- `exit` at a file whose text has not begun, or in its text
 abbrev pub left_file : Shell → (turn : ℕ) → List RunningFrame → (outwards : PlaceNext) → State → PlaceNext
 left_file shell zero fs outwards s = outwards
-left_file shell (suc k) fs outwards s = file_left shell fs s
+left_file shell (suc zero) fs outwards s = file_left shell fs s
+left_file shell (suc (suc k)) fs outwards s = outwards
 
 abbrev pub left_by : Shell → FrameKind → RunningFrame → List RunningFrame → (outwards : PlaceNext) → State → PlaceNext
 left_by shell kinds.Text f fs outwards s = left_script shell f.place.turn f fs outwards s
@@ -279,6 +291,13 @@ place_text shell (Some text) name f fs s = place_read shell (started_in shell te
 abbrev pub place_sourced : Shell → Option Text → Text → RunningFrame → List RunningFrame → State → PlaceNext
 place_sourced shell None name f fs s = GoOn fs (set_status 1 s)
 place_sourced shell (Some text) name f fs s = place_read shell (sourced_in shell text) name f fs s
+
+-- a text that asks something is read, and the frame is behind it
+abbrev pub place_question : Shell → TextRead → Text → RunningFrame → List RunningFrame → State → PlaceNext
+place_question shell (Runs t) name f fs s = GoOn (text_frame t ∷ f ∷ fs) (begun_text t s)
+place_question shell Fails name f fs s = GoOn (f ∷ fs) (set_status 1 s)
+place_question shell Panics name f fs s = StopOn (Panic name) s
+place_question shell Unread name f fs s = StopOn (unread shell name) s
 
 abbrev pub place_name : Shell → Option Text → RunningFrame → List RunningFrame → State → PlaceNext
 place_name shell None f fs s = GoOn fs s
@@ -449,13 +468,27 @@ module _ (limits : Limits) where
   place_list None f fs s = GoOn fs s
   place_list (Some list) f fs s = place_turn list f.place.turn f fs s
 
-  -- after a success the text of a file begins
-  abbrev pub file_begins : Option Text → RunningFrame → List RunningFrame → State → PlaceNext
-  file_begins None f fs s = GoOn fs s
-  file_begins (Some name) f fs s =
+  -- the text of the first of these files with the status from before, or the question whether it is this one
+  abbrev pub place_one : (file : ℕ) → (names : List Text) → RunningFrame → List RunningFrame → State → PlaceNext
+  place_one file [] f fs s = GoOn fs s
+  place_one file (name ∷ []) f fs s =
+      place_sourced limits.shell (file_in limits.devices name) name (at_file file 0 f) fs (set_status f.place.last s)
+  place_one file (name ∷ other ∷ others) f fs s =
+      place_question limits.shell (started_in limits.shell (choice_text name)) name (at_file file 2 f) fs s
+
+  -- after a success the text of one of the files begins
+  abbrev pub file_begins : (names : List Text) → RunningFrame → List RunningFrame → State → PlaceNext
+  file_begins names f fs s =
+      elim (nat_eq s.memory.status 0) [ true ↦ place_one f.place.command names f fs s | false ↦ GoOn fs s ]
+
+  -- it was asked whether it is the first of these files
+  abbrev pub file_asked : (names : List Text) → RunningFrame → List RunningFrame → State → PlaceNext
+  file_asked [] f fs s = GoOn fs s
+  file_asked (name ∷ []) f fs s = GoOn fs s
+  file_asked (name ∷ other ∷ others) f fs s =
       elim (nat_eq s.memory.status 0) [
-        | true ↦ place_sourced limits.shell (file_in limits.devices name) name f fs (set_status f.place.last s)
-        | false ↦ GoOn fs s
+        | true ↦ place_one f.place.command (name ∷ []) f fs s
+        | false ↦ place_one (suc f.place.command) (other ∷ others) f fs s
       ]
 
   -- it has ended, and so has the command that handed over
@@ -464,7 +497,10 @@ module _ (limits : Limits) where
 
   abbrev pub file_move : RunningFrame → List RunningFrame → State → PlaceNext
   file_move f fs s =
-      elim (nat_eq f.place.turn 0) [ true ↦ file_begins (slice_get f.words 0) f fs s | false ↦ file_ends fs s ]
+      elim (nat_eq f.place.turn 0) [
+        | true ↦ file_begins (drop f.place.command f.words) f fs s
+        | false ↦ elim (nat_eq f.place.turn 1) [ true ↦ file_ends fs s | false ↦ file_asked (drop f.place.command f.words) f fs s ]
+      ]
 
   abbrev pub place_by : FrameKind → RunningFrame → List RunningFrame → State → PlaceNext
   place_by kinds.Text f fs s = place_list (list_at f.script f.place.list) f fs s

@@ -1,6 +1,6 @@
 //! What is expected of the device command that asks.
 ghost use Rattle.std.specs.Prelude.{◌≡◌, ◌&&◌, not, IfOk};
-ghost use Rattle.device_list.specs.DeviceList.{fails_normally};
+ghost use Rattle.device_list.specs.DeviceList.{expected};
 ghost use Rattle.rehearse_machine.specs.Expecting.{call_of};
 ghost use Rattle.rehearse_machine.specs.MovesShown.{request_shown};
 ghost use Rattle.rehearse_rules.specs.Expected.{is_unexpected};
@@ -11,14 +11,18 @@ use device_list::Devices;
 use std::alloc::Global;
 use text::copied_words;
 
-/// Whether a success is expected of a device command that asks. Errors: `Memory`.
-pub fn expected_success(alloc: Global, devices: &Devices, ask: &Ask<'_>) -> Result<bool, StoreError>
-    ensures { IfOk result (λ success. success
-        ≡ not (fails_normally devices.now (call_of (request_shown ask.now)))) }
+/// Whether a success is expected of a device command that asks; of one that asks which file runs neither answer
+/// is. Errors: `Memory`.
+pub fn expected_answer(
+    alloc: Global,
+    devices: &Devices,
+    ask: &Ask<'_>,
+) -> Result<Option<bool>, StoreError>
+    ensures { IfOk result (λ answer. answer ≡ expected devices.now (call_of (request_shown ask.now))) }
 {
     let mut call = copied_words(alloc, &ask.words)?;
     call.insert(0, ask.name.clone()?)?;
-    Ok(!devices.fails_normally(&call))
+    Ok(devices.expected(&call))
 }
 
 /// Whether a device command took an outcome that is not the expected one.
@@ -29,9 +33,9 @@ pub fn is_unexpected(devices: &Devices, entry: &LogEntry) -> bool
     if entry.again {
         return false;
     }
-    if devices.fails_normally(&entry.words) {
-        entry.success
-    } else {
-        !entry.success
+    match devices.expected(&entry.words) {
+        Some(true) => !entry.success,
+        Some(false) => entry.success,
+        None => false,
     }
 }

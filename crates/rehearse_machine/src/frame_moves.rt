@@ -1,6 +1,7 @@
 //! What a frame of each kind does next, and the moves of a `for` and of a `run`.
 ghost use Rattle.std.specs.Prelude.{◌∷◌, ◌+◌, ◌<◌, ◌^◌, suc, slice_get};
 ghost use Rattle.hushlang.specs.TreesShown as view;
+ghost use Rattle.bootstore_state.specs.Moment.{RunningFrame};
 ghost use Rattle.rehearse_machine.specs.Frames.{begun_text};
 ghost use Rattle.rehearse_machine.specs.Places as places;
 ghost use Rattle.rehearse_machine.specs.MovesShown.{Moves};
@@ -14,7 +15,7 @@ use crate::list_commands::command_of;
 use crate::lists::begin_in_list;
 use crate::next_move::Next;
 use crate::scripts::end_block;
-use bootstore_state::{Frame, FrameKind, Store, StoreError, TextFound};
+use bootstore_state::{At, Frame, FrameKind, Store, StoreError, TextFound};
 use hushlang::{Command, Script};
 use rehearse_rules::Halt;
 use rehearse_terms::Shell;
@@ -136,7 +137,7 @@ fn next_name<'d, S: Store>(
     }
 }
 
-/// Starts the text of a name. A text without a command gives the status 0.
+/// Starts the text of a name. A text without a command gives the status 0. Errors: `Memory`.
 pub(crate) fn begin_text<'d, S: Store>(
     store: &mut S,
     frame: &Frame,
@@ -149,11 +150,25 @@ pub(crate) fn begin_text<'d, S: Store>(
         (begun_text (view.script script.value) s)) }
 {
     let at = frame.at();
+    push_text(store, in_turn(at, at.turn, 0), script)
+}
+
+/// Pushes the frame of a text on the innermost frame, which moves to a place. A text without a command gives
+/// the status 0. Errors: `Memory`.
+pub(crate) fn push_text<'d, S: Store>(
+    store: &mut S,
+    at: At,
+    script: Rc<Script>,
+) -> Result<Step<'d>, StoreError>
+    ensures { (f : RunningFrame) → Moves f result (S.record_of store.old) (S.record_of store.new)
+        (λ fs s. places.GoOn (places.text_frame (view.script script.value) ∷ places.moved_to at f ∷ fs)
+        (begun_text (view.script script.value) s)) }
+{
     let is_empty = script.lists.as_slice().is_empty();
     let child = text(script);
     if is_empty {
         store.set_status(0)?;
-        return enter(store, in_turn(at, at.turn, 0), child);
+        return enter(store, at, child);
     }
-    enter(store, in_turn(at, at.turn, 0), child)
+    enter(store, at, child)
 }

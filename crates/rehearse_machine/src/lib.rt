@@ -35,7 +35,7 @@ pub use ask::{Ask, Statuses, Step};
 pub use asking::{call_in_front, find_again};
 pub use by_shell::{asks_in, follows, is_refused, question_in};
 pub use ended_texts::drop_ended;
-pub use expecting::{expected_success, is_unexpected};
+pub use expecting::{expected_answer, is_unexpected};
 pub use list_commands::command_of;
 pub use machine::step;
 pub use outcomes::{answer, value_of, variable_of};

@@ -74,6 +74,7 @@ fn in_file(shell: Shell) -> Exits
 }
 
 /// What `exit` does at a frame in this shell.
+#[tactic(auto, using(crate::proofs::FileLemmas::outwards_elsewhere))]
 fn exit_at(frame: &Frame, shell: Shell) -> Exits
     ensures { (fs : List RunningFrame) (outwards : PlaceNext) (s : State) →
         left_by shell frame.now.kind frame.now fs outwards s
@@ -90,10 +91,10 @@ fn exit_at(frame: &Frame, shell: Shell) -> Exits
         FrameKind::For => in_compound(shell, Exits::Turns),
         FrameKind::Run => Exits::Text,
         FrameKind::File => {
-            if frame.at().turn == 0 {
-                Exits::Outwards
-            } else {
+            if frame.at().turn == 1 {
                 in_file(shell)
+            } else {
+                Exits::Outwards
             }
         }
     }

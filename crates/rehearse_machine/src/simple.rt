@@ -94,7 +94,7 @@ fn ask_file<'d, S: Store>(
         always: None,
         needs: &[],
         normal: false,
-        runs: None,
+        runs: &[],
         sets: &[],
     };
     ask(alloc, store, bounds, name, &question, effect, statuses)

@@ -71,7 +71,8 @@ kind_gone shell kinds.File p ps outwards s b h = by p.place.turn
   where
     by : (turn : ℕ) → AskSame (left_file shell turn ps outwards s) b
     by zero = h
-    by (suc k) = file_gone shell ps s b
+    by (suc zero) = file_gone shell ps s b
+    by (suc (suc k)) = h
 
 left_same : (shell : Shell) (ps : List RunningFrame) (s : State) (b : PlaceNext) → AskSame (left shell ps s) b
 left_same shell [] s b = tt

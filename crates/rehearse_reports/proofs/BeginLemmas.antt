@@ -15,13 +15,13 @@ use Rattle.rehearse_terms.specs.declared.shell.Shell.{Shell}
 use Rattle.rehearse_terms.specs.declared.shell.Shell.TheVariants.{Profile, Old2023, Old2025, Modern2025}
 use Rattle.rehearse_rules.specs.ByShell.{leaves_in, asks_in, fields_in, turns_in, follows, reads_again, call_in}
 use Rattle.rehearse_rules.specs.Parameters.{parameters_in}
-use Rattle.rehearse_rules.specs.Execution.{Limits, goes, holds, test_request}
-use Rattle.rehearse_machine.specs.Frames.{Frame, Lists, Linked, IfCondition, LoopCondition, LoopBody, ForBody, RunNames, RunText, CommandEnd, RunFile, FileText}
+use Rattle.rehearse_rules.specs.Execution.{Limits, goes, holds, test_request, choice_text}
+use Rattle.rehearse_machine.specs.Frames.{Frame, Lists, Linked, IfCondition, LoopCondition, LoopBody, ForBody, RunNames, RunText, CommandEnd, RunFile, FileText, ChosenFile}
 use Rattle.rehearse_machine.specs.Places.{drop_joined, joined_at, drop_arms, condition_frame, phase, from_command, for_frame, run_frame, file_part}
 use Rattle.rehearse_reads.specs.Keys.{Key, Access, Reads, Writes, Environment, Local, Status, all_read, Covers}
 use Rattle.rehearse_reads.specs.Accesses.{status_written, words_reads, setenv_accesses, computed_accesses, sized_accesses, assign_accesses, turn_accesses, nothing_accesses, modern_accesses}
 use Rattle.rehearse_reads.proofs.KeysRead.{covering_joins}
-use Rattle.rehearse_frames.specs.MoveAccesses.{of_leaving, of_exit, of_beginning_for, of_beginning_arms, of_beginning_read, of_beginning_text, of_beginning_file, of_beginning_names, of_builtin, of_listed, of_call, of_fields, of_command, of_move, of_leaving_compound, of_simple_call}
+use Rattle.rehearse_frames.specs.MoveAccesses.{of_leaving, of_exit, of_beginning_for, of_beginning_arms, of_beginning_read, of_beginning_text, of_beginning_file, of_beginning_names, of_builtin, of_listed, of_call, of_fields, of_command, of_move, of_leaving_compound, of_simple_call, of_beginning_one, of_beginning_question}
 use Rattle.rehearse_reports.proofs.ReportLemmas.{covers_itself, covers_through, covers_less, covers_write, reads_cover, reads_alone}
 use Rattle.rehearse_reports.proofs.CoverLemmas.{covers_status, covers_nothing, covers_arms, covers_modern}
 
@@ -53,7 +53,8 @@ leaving_covers shell status (IfCondition b arms ∷ fs) = compound_covers shell 
 leaving_covers shell status (LoopCondition until c b last ∷ fs) = compound_covers shell (of_leaving shell status fs) (leaving_covers shell status fs)
 leaving_covers shell status (LoopBody until c b ∷ fs) = compound_covers shell (of_leaving shell status fs) (leaving_covers shell status fs)
 leaving_covers shell status (ForBody name fields body ∷ fs) = compound_covers shell (of_leaving shell status fs) (leaving_covers shell status fs)
-leaving_covers shell status (RunFile name before ∷ fs) = leaving_covers shell status fs
+leaving_covers shell status (RunFile name others before ∷ fs) = leaving_covers shell status fs
+leaving_covers shell status (ChosenFile name other others before ∷ fs) = leaving_covers shell status fs
 leaving_covers shell status (FileText ∷ fs) = covers_itself status_read
 leaving_covers shell status (CommandEnd ∷ fs) = compound_covers shell (of_leaving shell status fs) (leaving_covers shell status fs)
 
@@ -250,14 +251,26 @@ module _ (limits : Limits) (s : State) where
 
   -- ---- the text of a file
 
+  question_covers : (found : TextRead) → Covers [] (of_beginning_question found)
+  question_covers (Runs tree.Empty) = covers_status
+  question_covers (Runs (tree.Runs list more)) = covers_itself []
+  question_covers Fails = covers_status
+  question_covers Panics = covers_itself []
+  question_covers Unread = covers_itself []
+
+  one_covers : (name : Text) (others : List Text) → Covers [] (of_beginning_one limits name others)
+  one_covers name [] = covers_write Status (of_beginning_file limits.shell (file_in limits.devices name)) (file_covers limits.shell (file_in limits.devices name))
+  one_covers name (other ∷ others) = question_covers (started_in limits.shell (choice_text name))
+
+  either_covers : (x : Bool) (these those : List Access) → Covers [] these → Covers [] those → Covers status_read (Reads Status ∷ (elim x [ true ↦ these | false ↦ those ]))
+  either_covers true these those h k = covers_less status_read these h
+  either_covers false these those h k = covers_less status_read those k
+
   pub file_moves : (turn last : ℕ) (names : List Text) (fs : List Frame) → Covers status_read (of_move limits (file_part turn last names ∷ fs) s)
   file_moves zero last [] fs = nothing_read
-  file_moves zero last (name ∷ more) fs = by (nat_eq s.memory.status 0)
-    where
-      found : List Access
-      found = Writes Status ∷ of_beginning_file limits.shell (file_in limits.devices name)
-
-      by : (x : Bool) → Covers status_read (Reads Status ∷ (elim x [ true ↦ found | false ↦ [] ]))
-      by true = covers_less status_read found (covers_write Status (of_beginning_file limits.shell (file_in limits.devices name)) (file_covers limits.shell (file_in limits.devices name)))
-      by false = covers_itself status_read
-  file_moves (suc k) last names fs = covers_itself status_read
+  file_moves zero last (name ∷ others) fs = either_covers (nat_eq s.memory.status 0) (of_beginning_one limits name others) [] (one_covers name others) (covers_itself [])
+  file_moves (suc zero) last names fs = covers_itself status_read
+  file_moves (suc (suc k)) last [] fs = nothing_read
+  file_moves (suc (suc k)) last (name ∷ []) fs = nothing_read
+  file_moves (suc (suc k)) last (name ∷ other ∷ others) fs =
+      either_covers (nat_eq s.memory.status 0) (of_beginning_one limits name []) (of_beginning_one limits other others) (one_covers name []) (one_covers other others)

@@ -108,9 +108,9 @@ asks_all old mid new limits request s h k =
     (reports_then old mid new (all_read (told_reads request)) (handing_reads request.effect.runs) h k) (covers_asking limits request s)
 
 -- a command that hands nothing over reads its answer alone
-pub asks_alone : (old new : List Access) (limits : Limits) (request : Request) (s : State) → request.effect.runs ≡ None → Reports old new (all_read (told_reads request)) → Reports old new (of_asking limits request s)
+pub asks_alone : (old new : List Access) (limits : Limits) (request : Request) (s : State) → request.effect.runs ≡ [] → Reports old new (all_read (told_reads request)) → Reports old new (of_asking limits request s)
 asks_alone old new limits request s none h =
-    asks_all old new new limits request s h (subst (λ (runs : Option Text). Reports new new (handing_reads runs)) (sym none) (reports_nothing new))
+    asks_all old new new limits request s h (subst (λ (runs : List Text). Reports new new (handing_reads runs)) (sym none) (reports_nothing new))
 
 -- ---- the call that a command needs
 

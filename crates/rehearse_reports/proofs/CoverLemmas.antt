@@ -45,9 +45,9 @@ covers_writes : (outcome : Outcome) (request : Request) → Covers [] (outcome_w
 covers_writes Success request = covers_write Status (names_written (map (λ e. e.0) (sets_in request.words request.effect.sets))) (covers_names (map (λ e. e.0) (sets_in request.words request.effect.sets)))
 covers_writes Failure request = covers_status
 
-handing_alone : (runs : Option Text) → Covers (handing_reads runs) []
-handing_alone None = covers_itself []
-handing_alone (Some name) = reads_alone (Status ∷ [])
+handing_alone : (runs : List Text) → Covers (handing_reads runs) []
+handing_alone [] = covers_itself []
+handing_alone (name ∷ others) = reads_alone (Status ∷ [])
 
 covers_told : (o : Option Bool) (request : Request) → Covers (handing_reads request.effect.runs) (of_telling o request)
 covers_told None request = handing_alone request.effect.runs

@@ -1,6 +1,8 @@
 -- Reports of outcomes.
-use Rattle.std.proofs.Common.{◌≡◌, ◌∙◌, ◌≤◌, arith, refl, sym, ap, subst, Bool, true, false, List, [], ◌∷◌, ◌++◌, length, map, Option, Some, None, Result, Ok, Err, ℕ}
-use Rattle.std.specs.Prelude.{OnOk, IfOk}
+use Rattle.text.specs.TextsShown.{bytes_of_words}
+use Rattle.std.specs.declared.alloc.Global.{Global}
+use Rattle.std.proofs.Common.{◌≡◌, ◌∙◌, ◌≤◌, arith, refl, sym, ap, subst, Bool, true, false, List, [], ◌∷◌, ◌++◌, length, map, Option, Some, None, Result, Ok, Err, ℕ, ◌<◌}
+use Rattle.std.specs.Prelude.{OnOk, IfOk, Vec}
 use Rattle.std.specs.List.{flat_map}
 use Rattle.device_list.specs.Called.{sets_in, set_in, variable_of, value_of}
 use Rattle.device_list.specs.DeviceList as says
@@ -79,6 +81,11 @@ won_so (Ok x) old mid new request success words e w h k =
     subst (λ (b : Bool). Reports old new (outcome_writes (outcome_when b) request)) (sym e)
     (reports_then old mid new (Writes Status ∷ []) (names_of (sets_in request.words request.effect.sets)) h (subst (λ (ws : List Text). Reports mid new (names_of (sets_in ws request.effect.sets))) w k))
 won_so (Err x) old mid new request success words e w h k = k
+
+-- a command that names no file hands nothing over
+pub nothing_handed : (runs : List (Vec ℕ Global)) → length runs < 1 → (old : List Access) → Reports old old (handing_reads (bytes_of_words runs))
+nothing_handed [] h old = reports_nothing old
+nothing_handed (name ∷ others) h old = absurd (omega arith)
 
 -- the status that is kept, and then what the outcome writes
 pub handing_then : {E : Type 0} (r : Result (Unit {0}) E) (old mid new : List Access) (outcome : Outcome) (request : Request) → Reports old mid (handing_reads request.effect.runs) → OnOk r (Reports mid new (outcome_writes outcome request)) → OnOk r (Reports old new (outcome_accesses outcome request))

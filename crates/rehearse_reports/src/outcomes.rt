@@ -1,6 +1,6 @@
 //! What the outcome of a device command reads and writes.
 ghost use Rattle.std.specs.Prelude.{◌∷◌, [], OnOk, map};
-ghost use Rattle.text.specs.TextsShown.{bytes_of_words, option_bytes};
+ghost use Rattle.text.specs.TextsShown.{bytes_of_words};
 ghost use Rattle.device_list.specs.Called.{sets_in};
 ghost use Rattle.device_list.specs.DevicesShown.{setting_shown};
 ghost use Rattle.rehearse_machine.specs.Machine.{outcome_when};
@@ -54,12 +54,12 @@ fn report_settings(
     Ok(())
 }
 
-/// Reports that the status is read that is kept for the text of a file, if the command names one. Errors: `Memory`.
-pub(crate) fn report_handing(reported: &mut Reported, runs: Option<&[u8]>) -> Result<(), StoreError>
+/// Reports that the status is read that is kept for the text of a file, if the command names some. Errors: `Memory`.
+pub(crate) fn report_handing(reported: &mut Reported, runs: &[Vec<u8>]) -> Result<(), StoreError>
     ensures { OnOk result (Reports (accesses_shown reported.old) (accesses_shown reported.new)
-        (handing_reads (option_bytes runs.entry))) }
+        (handing_reads (bytes_of_words runs.now))) }
 {
-    let Some(_name) = runs else {
+    let [_first, ..] = runs else {
         return Ok(());
     };
     reported.reads(Key::Status)?;

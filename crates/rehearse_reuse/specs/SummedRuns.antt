@@ -1,5 +1,5 @@
 -- What a summary says of the runs to come, and how it is moved. Ours.
-use Rattle.std.specs.Prelude.{◌≡◌, ℕ, ◌+◌, ◌-◌, ◌≤◌, List, length, Bool, true, false}
+use Rattle.std.specs.Prelude.{◌≡◌, ℕ, ◌+◌, ◌-◌, ◌≤◌, List, length, Bool, true, false, Option}
 use Rattle.std.specs.FinMap.{entries}
 use Rattle.device_list.specs.DeviceList.{Devices}
 use Rattle.bootstore_state.specs.Moment.{Moment}
@@ -53,8 +53,8 @@ moved_on m t s = moved_by m.steps t.steps (length m.log) (length t.log) s
 abbrev pub of_end : (names : List Text) → Ending → Moment → Summary
 of_end names ending m = summary_at_end (end_with names ending (entries m.environment)) m.steps (length m.log)
 
-abbrev pub of_sides : Moment → (normal : Bool) → (won lost : Summary) → Summary
-of_sides m normal won lost = summary_of_sides (of_both normal) m.steps (length m.log) won lost
+abbrev pub of_sides : Moment → (expected : Option Bool) → (won lost : Summary) → Summary
+of_sides m expected won lost = summary_of_sides (of_both expected) m.steps (length m.log) won lost
 
 -- the summary of the result of f, except for counts that are too large
 abbrev pub Summed : (names : List Text) → Devices → (before : ℕ) → (OutcomeWord → Came) → Summary → Type 0

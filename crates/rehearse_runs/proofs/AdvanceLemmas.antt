@@ -1,10 +1,12 @@
 -- How a rehearsal goes on from run to run.
 use Rattle.std.proofs.Common.{◌≡◌, ℕ, zero, suc, ◌+◌, ◌*◌, ◌^◌, ◌≤◌, Bool, true, false, List, [], ◌∷◌, ◌++◌, length, map, Option, Some, None, ◌⊎◌, inl, inr, refl, sym, ap, subst, ◌∙◌, length-append, arith}
-use Rattle.std.specs.Prelude.{filter, nat_le, ◌&&◌, ◌||◌}
+use Rattle.std.specs.Prelude.{filter, take, nat_le, ◌&&◌, ◌||◌}
 use Rattle.std.proofs.lemmas.List.{length-map}
 use Rattle.std.proofs.lemmas.List.Sums.{length-filter, count_by-le-length}
 use Rattle.std.proofs.lemmas.Grind.{pow_more}
 use Rattle.std.proofs.Math.Pow.{pow_mono}
+use Rattle.std.proofs.Math.Nat.{le_trans, mul-le-mul}
+use Rattle.device_list.specs.DeviceList.{asked_about}
 use Rattle.bootstore_state.specs.Record.{Record, fresh}
 use Rattle.rehearse_terms.specs.Bounds.{are_bounds, are_few, few_failures, most_devices, most_run_devices, most_steps}
 use Rattle.rehearse_terms.specs.Outcomes.{OutcomeWord, Success, Failure, words, is_run_kind}
@@ -68,7 +70,7 @@ are_within task h = within_if task.limits.device_bound task.failures (fit task.l
 pub bounds_in : (task other : Task) → task ≡ other → AreBounds other → AreBounds task
 bounds_in task other e h = subst AreBounds (sym e) h
 
-few_devices : (task : Task) → task.limits.device_bound ≤ most_devices → length (runs task) ≤ 8589934591
+few_devices : (task : Task) → task.limits.device_bound ≤ most_devices → length (runs task) ≤ 274877906943
 few_devices task h =
     let g = filter_less (is_allowed task) (all_runs task) in
     let f = filter_less (λ w. is_run_kind (kind task w)) (words task.limits.device_bound) in
@@ -84,21 +86,29 @@ thousands (suc (suc zero)) h = omega arith
 thousands (suc (suc (suc zero))) h = omega arith
 thousands (suc (suc (suc (suc most)))) h = absurd (omega arith)
 
-few_failing : (task : Task) (failures : Option ℕ) → task.failures ≡ failures → are_few failures ≡ true → task.limits.device_bound ≤ most_run_devices → length (runs task) ≤ 8589934591
+take_within : {A : Type 0} (n : ℕ) (l : List A) → length (take n l) ≤ n
+take_within zero [] = omega arith
+take_within zero (x ∷ l) = omega arith
+take_within (suc n) [] = omega arith
+take_within (suc n) (x ∷ l) = let h = take_within n l in omega (arith, h)
+
+few_failing : (task : Task) (failures : Option ℕ) → task.failures ≡ failures → are_few failures ≡ true → task.limits.device_bound ≤ most_run_devices → length (runs task) ≤ 274877906943
 few_failing task None e f h = absurd (let g = f in cc)
 few_failing task (Some most) e f h =
     let l = few_runs_if task most e in
     let n : most ≤ 3 = leb-true most few_failures f in
     let b : task.limits.device_bound + 1 ≤ 1001 = omega (arith, h) in
     let p : (task.limits.device_bound + 1) ^ most ≤ 1001 ^ most = power-le (task.limits.device_bound + 1) 1001 b most in
-    let q = thousands most n in
-    omega (arith, l, p, q)
+    let q : (task.limits.device_bound + 1) ^ most ≤ 1003003001 = le_trans p (thousands most n) in
+    let c : 2 ^ length (asked_about task.limits.devices) ≤ 2 ^ 8 = pow_mono {i = length (asked_about task.limits.devices)} {j = 8} (take_within 8 task.limits.devices.choices) in
+    let r : 2 ^ length (asked_about task.limits.devices) * (task.limits.device_bound + 1) ^ most ≤ 256 * 1003003001 = mul-le-mul c q in
+    omega (arith, l, r)
 
-few_if : (task : Task) → (task.limits.device_bound ≤ most_devices) ⊎ ((are_few task.failures ≡ true) × (task.limits.device_bound ≤ most_run_devices)) → length (runs task) ≤ 8589934591
+few_if : (task : Task) → (task.limits.device_bound ≤ most_devices) ⊎ ((are_few task.failures ≡ true) × (task.limits.device_bound ≤ most_run_devices)) → length (runs task) ≤ 274877906943
 few_if task (inl l) = few_devices task l
 few_if task (inr r) = few_failing task task.failures refl r.0 r.1
 
-pub few_runs : (task : Task) → AreBounds task → length (runs task) ≤ 8589934591
+pub few_runs : (task : Task) → AreBounds task → length (runs task) ≤ 274877906943
 few_runs task h = few_if task (fit task.limits.device_bound task.limits.step_bound task.failures h)
 
 -- no run was found yet

@@ -57,7 +57,7 @@ walked_at task text all w reached at old new e h = subst (λ (x : Walked). Walks
 
 -- ---- the runs after it
 
-rest_less : (task : Task) (w : OutcomeWord) → IsListed task w → AreBounds task → length (rest task w) ≤ 8589934590
+rest_less : (task : Task) (w : OutcomeWord) → IsListed task w → AreBounds task → length (rest task w) ≤ 274877906942
 rest_less task w r b =
     let s = task_stands task w r in
     let l = ap length s.1 ∙ length-append s.0 (w ∷ rest task w) in

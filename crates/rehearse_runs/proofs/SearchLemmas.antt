@@ -8,7 +8,6 @@ use Rattle.bootstore_state.specs.StoredState.{state_at}
 use Rattle.rehearse_rules.specs.Execution.{Limits, Request, Answer, Normal, Exit, Ended, Dry, Ending}
 use Rattle.rehearse_rules.specs.Choosing.{allowed_beyond, first_outcome, first_run, first_from, turned}
 use Rattle.rehearse_rules.specs.Expected.{asked_in, unexpected_of}
-use Rattle.rehearse_rules.specs.Laws.{IsExpected}
 use Rattle.rehearse_rules.specs.Runs.{Task, run_on, kind, kind_of, taken_kind, state_of, ending_of, runs, unexpected, is_at_most, is_allowed, IsListed, rest, asked}
 use Rattle.rehearse_rules.specs.Listing.{outcome_digit}
 use Rattle.rehearse_runs.specs.RunsShown.{outcomes, outcome_of}
@@ -33,7 +32,7 @@ use Rattle.rehearse_machine.proofs.StoppingLemmas.{expects_of}
 use Rattle.rehearse_machine.specs.MovesShown.{request_shown}
 use Rattle.rehearse_machine.specs.declared.ask.Ask.{Ask}
 use Rattle.rehearse_rules.proofs.ChoiceTreeLemmas.{Test}
-use Rattle.rehearse_rules.proofs.UnexpectedAnswers.{asked_many, unexpected_within, none_unexpected}
+use Rattle.rehearse_rules.proofs.UnexpectedAnswers.{ExpectedAs, asked_many, unexpected_within, none_unexpected}
 use Rattle.rehearse_rules.proofs.TaskChoices.{no_run_is_longer, task_begins, task_goes_on, task_ends}
 
 pub turned_by_success : (allowed : Test) (p : OutcomeWord) → allowed (p ++ Failure ∷ []) ≡ true → turned allowed (p ++ Success ∷ []) ≡ Some (p ++ Failure ∷ [])
@@ -190,7 +189,7 @@ pub asked_here : (task : Task) (digits : Text) (stop : Stop) (m : Moment) → st
 asked_here task digits stop m e h = subst (λ (s : Stop). StoppedAt task (outcomes digits) s m) e h
 
 -- what is expected of the command is expected at the moment
-pub expects_for : (o : Option ℕ) (limits : Limits) (m : Moment) (request : Request) (success : Bool) → IsAsked limits request m → ExpectedFor o limits.devices request success → ExpectsFor o limits m success
+pub expects_for : (o : Option ℕ) (limits : Limits) (m : Moment) (request : Request) (success : Option Bool) → IsAsked limits request m → ExpectedFor o limits.devices request success → ExpectsFor o limits m success
 expects_for None limits m request success asked e = tt
 expects_for (Some most) limits m request success asked e = expects_of limits m request success asked e
 
@@ -199,28 +198,30 @@ pub asked_marked : (may : Bool) (limits : Limits) (request : Request) (old new :
 asked_marked may limits request old new m h = subst (IsAsked limits request) (sym (marks_keep may old new m).0) h
 
 -- how many answers are unexpected after it
-counted_both : (task : Task) (p : OutcomeWord) (expected success : Bool) → IsExpected task p (outcome_when expected) (outcome_when (not expected)) → unexpected task (p ++ outcome_when success ∷ []) ≡ counted (unexpected task p) expected success
-counted_both task p true true h = h.0
-counted_both task p true false h = h.1
-counted_both task p false true h = h.1
-counted_both task p false false h = h.0
+counted_both : (task : Task) (p : OutcomeWord) (expected : Option Bool) (success : Bool) → ExpectedAs task p expected → unexpected task (p ++ outcome_when success ∷ []) ≡ counted (unexpected task p) expected success
+counted_both task p None success h = h (outcome_when success)
+counted_both task p (Some true) true h = h.0
+counted_both task p (Some true) false h = h.1
+counted_both task p (Some false) true h = h.1
+counted_both task p (Some false) false h = h.0
 
-counted_there : (task : Task) (digits : Text) (m : Moment) (expected success : Bool) (count : ℕ) → StoppedAt task (outcomes digits) Asks m → Expects task.limits m expected → count ≡ unexpected task (outcomes digits) → counted count expected success ≡ unexpected task (outcomes digits ++ outcome_when success ∷ [])
+counted_there : (task : Task) (digits : Text) (m : Moment) (expected : Option Bool) (success : Bool) (count : ℕ) → StoppedAt task (outcomes digits) Asks m → Expects task.limits m expected → count ≡ unexpected task (outcomes digits) → counted count expected success ≡ unexpected task (outcomes digits ++ outcome_when success ∷ [])
 counted_there task digits m expected success count h e n =
     ap (λ (k : ℕ). counted k expected success) n ∙ sym (counted_both task (outcomes digits) expected success (expected_there task (outcomes digits) m expected h e))
 
 -- if a bound asks for it
-counted_for : (o : Option ℕ) (task : Task) (digits : Text) (m : Moment) (expected success : Bool) (count : ℕ) → StoppedAt task (outcomes digits) Asks m → ExpectsFor o task.limits m expected → AreUnexpected o task (outcomes digits) count → AreUnexpected o task (outcomes digits ++ outcome_when success ∷ []) (counted count expected success)
+counted_for : (o : Option ℕ) (task : Task) (digits : Text) (m : Moment) (expected : Option Bool) (success : Bool) (count : ℕ) → StoppedAt task (outcomes digits) Asks m → ExpectsFor o task.limits m expected → AreUnexpected o task (outcomes digits) count → AreUnexpected o task (outcomes digits ++ outcome_when success ∷ []) (counted count expected success)
 counted_for None task digits m expected success count h e n = tt
 counted_for (Some most) task digits m expected success count h e n = counted_there task digits m expected success count h e n
 
-one_more : (count : ℕ) (expected success : Bool) → counted count expected success ≤ count + 1
-one_more count true true = omega arith
-one_more count true false = omega arith
-one_more count false true = omega arith
-one_more count false false = omega arith
+one_more : (count : ℕ) (expected : Option Bool) (success : Bool) → counted count expected success ≤ count + 1
+one_more count None success = omega arith
+one_more count (Some true) true = omega arith
+one_more count (Some true) false = omega arith
+one_more count (Some false) true = omega arith
+one_more count (Some false) false = omega arith
 
-pub counted_on : (task : Task) (digits digits' : Text) (m : Moment) (expected success : Bool) (count : ℕ) → StoppedAt task (outcomes digits) Asks m → ExpectsFor task.failures task.limits m expected → IsCounted task (outcomes digits) count → digits' ≡ digits ++ outcome_digit (outcome_when success) ∷ [] → IsCounted task (outcomes digits') (counted count expected success)
+pub counted_on : (task : Task) (digits digits' : Text) (m : Moment) (expected : Option Bool) (success : Bool) (count : ℕ) → StoppedAt task (outcomes digits) Asks m → ExpectsFor task.failures task.limits m expected → IsCounted task (outcomes digits) count → digits' ≡ digits ++ outcome_digit (outcome_when success) ∷ [] → IsCounted task (outcomes digits') (counted count expected success)
 counted_on task digits digits' m expected success count h e n d =
     let more = one_more count expected success in
     let longer = length-append (outcomes digits) (outcome_when success ∷ []) in
@@ -245,11 +246,11 @@ pub none_counted : (task : Task) (digits : Text) → digits ≡ [] → IsCounted
 none_counted task digits e = subst (λ (t : Text). IsCounted task (outcomes t) 0) (sym e) (omega arith, none_of task.failures task)
 
 -- whether an outcome is allowed
-allowed_for : (o : Option ℕ) (task : Task) (digits : Text) (m : Moment) (expected success : Bool) (count : ℕ) → StoppedAt task (outcomes digits) Asks m → ExpectsFor o task.limits m expected → AreUnexpected o task (outcomes digits) count → is_at_most o (counted count expected success) ≡ is_at_most o (unexpected task (outcomes digits ++ outcome_when success ∷ []))
+allowed_for : (o : Option ℕ) (task : Task) (digits : Text) (m : Moment) (expected : Option Bool) (success : Bool) (count : ℕ) → StoppedAt task (outcomes digits) Asks m → ExpectsFor o task.limits m expected → AreUnexpected o task (outcomes digits) count → is_at_most o (counted count expected success) ≡ is_at_most o (unexpected task (outcomes digits ++ outcome_when success ∷ []))
 allowed_for None task digits m expected success count h e n = refl
 allowed_for (Some most) task digits m expected success count h e n = ap (is_at_most (Some most)) (counted_there task digits m expected success count h e n)
 
-pub allowed_there : (task : Task) (digits : Text) (m : Moment) (expected success : Bool) (count : ℕ) (most : Option ℕ) → StoppedAt task (outcomes digits) Asks m → ExpectsFor task.failures task.limits m expected → IsCounted task (outcomes digits) count → most ≡ task.failures → is_at_most most (counted count expected success) ≡ is_allowed task (outcomes digits ++ outcome_when success ∷ [])
+pub allowed_there : (task : Task) (digits : Text) (m : Moment) (expected : Option Bool) (success : Bool) (count : ℕ) (most : Option ℕ) → StoppedAt task (outcomes digits) Asks m → ExpectsFor task.failures task.limits m expected → IsCounted task (outcomes digits) count → most ≡ task.failures → is_at_most most (counted count expected success) ≡ is_allowed task (outcomes digits ++ outcome_when success ∷ [])
 allowed_there task digits m expected success count most h e n is =
     ap (λ (o : Option ℕ). is_at_most o (counted count expected success)) is
     ∙ allowed_for task.failures task digits m expected success count h e n.1

@@ -28,9 +28,9 @@ shows_run (At halt) = true
 shows_run Over = false
 shows_run Failed = false
 
--- each word to come begins at most this many steps, and there are fewer than 2 ^ 33 words
+-- each word to come begins at most this many steps, and there are fewer than 2 ^ 38 words
 abbrev pub HasBudget : ℕ → List OutcomeWord → Type 0
-HasBudget begun ws = begun + most_steps * length ws ≤ most_steps * 2 ^ 33
+HasBudget begun ws = begun + most_steps * length ws ≤ most_steps * 2 ^ 38
 
 -- the store holds the run on a word
 pub record StandsOn (task : Task) (w : OutcomeWord) (halt : Halt) (r : Record) : Type 0 where

@@ -6,7 +6,7 @@ use Rattle.rehearse_terms.specs.Bounds.{most_steps}
 use Rattle.rehearse_terms.specs.Outcomes.{OutcomeWord, Failure, Run, common_prefix}
 use Rattle.bootstore_state.specs.StoredState.{state_at}
 use Rattle.rehearse_rules.specs.Choosing.{turned, first_from}
-use Rattle.device_list.specs.DeviceList.{Devices, fails_normally}
+use Rattle.device_list.specs.DeviceList.{Devices, expected}
 use Rattle.rehearse_rules.specs.Execution.{Limits, Request}
 use Rattle.rehearse_rules.specs.Runs.{Task, run_on, state_of, ending_of, kind, runs, unexpected, is_allowed, rest, asked}
 use Rattle.rehearse_rules.specs.EndingsShown.{halt_shown}
@@ -19,11 +19,12 @@ use Rattle.rehearse_rules.specs.declared.halt.Halt.{Halt}
 use Rattle.rehearse_machine.specs.declared.rehearsal.Stop.TheVariants.{Asks}
 
 -- how many answers are unexpected after one more, if so many were before it
-abbrev pub counted : ℕ → (expected success : Bool) → ℕ
-counted n true true = n
-counted n false false = n
-counted n true false = n + 1
-counted n false true = n + 1
+abbrev pub counted : ℕ → (expected : Option Bool) → (success : Bool) → ℕ
+counted n None success = n
+counted n (Some true) true = n
+counted n (Some false) false = n
+counted n (Some true) false = n + 1
+counted n (Some false) true = n + 1
 
 -- so many answers of a word are unexpected, if a bound asks for it
 abbrev pub AreUnexpected : (most : Option ℕ) → Task → OutcomeWord → (count : ℕ) → Type 0
@@ -39,14 +40,14 @@ abbrev pub IsCounted : Task → OutcomeWord → (count : ℕ) → Type 0
 IsCounted task w count = (count ≤ length w) × AreUnexpected task.failures task w count
 
 -- whether a success is expected of the command that asks at a moment, if a bound asks for it
-abbrev pub ExpectsFor : (most : Option ℕ) → Limits → Moment → (success : Bool) → Type 0
-ExpectsFor None limits m success = Unit {0}
-ExpectsFor (Some most) limits m success = Expects limits m success
+abbrev pub ExpectsFor : (most : Option ℕ) → Limits → Moment → (answer : Option Bool) → Type 0
+ExpectsFor None limits m answer = Unit {0}
+ExpectsFor (Some most) limits m answer = Expects limits m answer
 
 -- whether a success is expected of a command that asks, if a bound asks for it
-abbrev pub ExpectedFor : (most : Option ℕ) → Devices → Request → (success : Bool) → Type 0
-ExpectedFor None devices request success = Unit {0}
-ExpectedFor (Some most) devices request success = success ≡ not (fails_normally devices (call_of request))
+abbrev pub ExpectedFor : (most : Option ℕ) → Devices → Request → (answer : Option Bool) → Type 0
+ExpectedFor None devices request answer = Unit {0}
+ExpectedFor (Some most) devices request answer = answer ≡ expected devices (call_of request)
 
 -- the marked moments are those at which device commands asked for the successes of a word that may be failures, the last
 -- first

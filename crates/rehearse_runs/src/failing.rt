@@ -46,11 +46,14 @@ pub(crate) fn asked(log: &[LogEntry]) -> usize
 }
 
 /// How many are unexpected after one more, if so many were before it.
-pub(crate) fn after(count: usize, expected: bool, success: bool) -> usize
+pub(crate) fn after(count: usize, expected: Option<bool>, success: bool) -> usize
     requires { count + 1 < 2 ^ 64 }
     ensures { result ≡ counted count expected success }
 {
-    match (expected, success) {
+    let Some(answer) = expected else {
+        return count;
+    };
+    match (answer, success) {
         (true, true) | (false, false) => count,
         (true, false) | (false, true) => count + 1,
     }

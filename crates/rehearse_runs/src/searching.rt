@@ -27,7 +27,7 @@ ghost use Rattle.rehearse_rules.specs.Runs.{IsListed, is_at_most};
 use crate::failing::{after, asked, is_at_most, unexpected_for};
 use bootstore_state::{Store, StoreError};
 use output::Bytes;
-use rehearse_machine::{Ask, Rehearsal, Stopped, begin, expected_success, resume};
+use rehearse_machine::{Ask, Rehearsal, Stopped, begin, expected_answer, resume};
 use rehearse_rules::Halt;
 use std::alloc::Global;
 
@@ -71,14 +71,17 @@ fn may_turn(most: Option<u32>, lost: usize, success: bool) -> bool
 
 /// Whether a success is expected of a device command that asks, if so many answers at most may be
 /// unexpected. Without such a bound the answer says nothing, and takes no time. Errors: `Memory`.
-pub(crate) fn expected_for(rehearsal: &Rehearsal<'_>, ask: &Ask<'_>) -> Result<bool, StoreError>
-    ensures { IfOk result (λ success. ExpectedFor (task_in rehearsal.now).failures
-        (task_in rehearsal.now).limits.devices (request_shown ask.now) success) }
+pub(crate) fn expected_for(
+    rehearsal: &Rehearsal<'_>,
+    ask: &Ask<'_>,
+) -> Result<Option<bool>, StoreError>
+    ensures { IfOk result (λ answer. ExpectedFor (task_in rehearsal.now).failures
+        (task_in rehearsal.now).limits.devices (request_shown ask.now) answer) }
 {
     if rehearsal.bounds.failures().is_none() {
-        return Ok(true);
+        return Ok(None);
     }
-    expected_success(rehearsal.alloc, rehearsal.devices, ask)
+    expected_answer(rehearsal.alloc, rehearsal.devices, ask)
 }
 
 /// Gives the device command that asks an outcome. Marks a success that may be a failure, and keeps its command. So many answers were unexpected
@@ -90,7 +93,7 @@ pub(crate) fn choose<'a, S: Store, const N: usize>(
     asks: &mut Vec<Ask<'a>>,
     ask: Ask<'a>,
     count: usize,
-    expected: bool,
+    expected: Option<bool>,
     success: bool,
 ) -> Result<Stopped<'a>, StoreError>
     requires asks { StoppedAt (task_in rehearsal.now) (outcomes digits.old.items) Asks

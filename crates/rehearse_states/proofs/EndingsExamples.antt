@@ -228,14 +228,14 @@ gathered = refl
 
 -- both sides of a device command: the counts of both are added; the first word is from the success; the word with the
 -- fewest unexpected answers is from the failure, which counts as one
-both_sides : of_both false (row (End 3) 2 (Failure ∷ Failure ∷ []) (Failure ∷ Failure ∷ [], 2) ∷ []) (row (End 0) 1 (Success ∷ []) (Success ∷ [], 0) ∷ row (End 3) 5 (Failure ∷ []) none ∷ []) ≡ row (End 3) 7 (Success ∷ Failure ∷ Failure ∷ []) (Failure ∷ [], 1) ∷ row (End 0) 1 (Failure ∷ Success ∷ []) (Failure ∷ Success ∷ [], 1) ∷ []
+both_sides : of_both (Some true) (row (End 3) 2 (Failure ∷ Failure ∷ []) (Failure ∷ Failure ∷ [], 2) ∷ []) (row (End 0) 1 (Success ∷ []) (Success ∷ [], 0) ∷ row (End 3) 5 (Failure ∷ []) none ∷ []) ≡ row (End 3) 7 (Success ∷ Failure ∷ Failure ∷ []) (Failure ∷ [], 1) ∷ row (End 0) 1 (Failure ∷ Success ∷ []) (Failure ∷ Success ∷ [], 1) ∷ []
 both_sides = refl
 
 -- where a failure is expected, it is the success that counts as one
-both_sides_expected : of_both true (row (End 3) 2 (Failure ∷ []) (Failure ∷ [], 1) ∷ []) (row (End 0) 1 (Success ∷ []) (Success ∷ [], 0) ∷ row (End 3) 5 (Failure ∷ []) (Failure ∷ [], 2) ∷ []) ≡ row (End 3) 7 (Success ∷ Failure ∷ []) (Success ∷ Failure ∷ [], 2) ∷ row (End 0) 1 (Failure ∷ Success ∷ []) (Failure ∷ Success ∷ [], 0) ∷ []
+both_sides_expected : of_both (Some false) (row (End 3) 2 (Failure ∷ []) (Failure ∷ [], 1) ∷ []) (row (End 0) 1 (Success ∷ []) (Success ∷ [], 0) ∷ row (End 3) 5 (Failure ∷ []) (Failure ∷ [], 2) ∷ []) ≡ row (End 3) 7 (Success ∷ Failure ∷ []) (Success ∷ Failure ∷ [], 2) ∷ row (End 0) 1 (Failure ∷ Success ∷ []) (Failure ∷ Success ∷ [], 0) ∷ []
 both_sides_expected = refl
 
-counts_of_outcomes : (counts_at false Success ∷ counts_at false Failure ∷ counts_at true Success ∷ counts_at true Failure ∷ []) ≡ 0 ∷ 1 ∷ 1 ∷ 0 ∷ []
+counts_of_outcomes : (counts_at (Some true) Success ∷ counts_at (Some true) Failure ∷ counts_at (Some false) Success ∷ counts_at (Some false) Failure ∷ counts_at None Success ∷ counts_at None Failure ∷ []) ≡ 0 ∷ 1 ∷ 1 ∷ 0 ∷ 0 ∷ 0 ∷ []
 counts_of_outcomes = refl
 
 -- ---- counts that are too large

@@ -426,13 +426,13 @@ runs_past : (kind : Kinds) (n : ℕ) → kind [] ≡ Short → runs_within kind 
 runs_past kind n asked = rw asked (both_is kind n)
 
 -- the law of both sides
-pub rows_past : (kind : Kinds) (ending : OutcomeWord → RunEnd) (count won_count lost_count : OutcomeWord → ℕ) (normal : Bool) (n : ℕ) → kind [] ≡ Short
-    → ((w : OutcomeWord) → count (Success ∷ w) ≡ counts_at normal Success + won_count w) → ((w : OutcomeWord) → count (Failure ∷ w) ≡ counts_at normal Failure + lost_count w)
-    → rows_within kind ending count (suc n) ≡ of_both normal (rows_within (beyond Success kind) (λ w. ending (Success ∷ w)) won_count n) (rows_within (beyond Failure kind) (λ w. ending (Failure ∷ w)) lost_count n)
+pub rows_past : (kind : Kinds) (ending : OutcomeWord → RunEnd) (count won_count lost_count : OutcomeWord → ℕ) (expected : Option Bool) (n : ℕ) → kind [] ≡ Short
+    → ((w : OutcomeWord) → count (Success ∷ w) ≡ counts_at expected Success + won_count w) → ((w : OutcomeWord) → count (Failure ∷ w) ≡ counts_at expected Failure + lost_count w)
+    → rows_within kind ending count (suc n) ≡ of_both expected (rows_within (beyond Success kind) (λ w. ending (Success ∷ w)) won_count n) (rows_within (beyond Failure kind) (λ w. ending (Failure ∷ w)) lost_count n)
 unfolding behind
-rows_past kind ending count won_count lost_count normal n asked won lost =
-    let s = counts_at normal Success in
-    let f = counts_at normal Failure in
+rows_past kind ending count won_count lost_count expected n asked won lost =
+    let s = counts_at expected Success in
+    let f = counts_at expected Failure in
     ap (λ (ws : List OutcomeWord). gather (map (λ w. (ending w, (w, count w))) ws)) (runs_past kind n asked)
     ∙ ap gather (map-append (λ w. (ending w, (w, count w))) (behind kind n Success) (behind kind n Failure))
     ∙ gather_append (map (λ w. (ending w, (w, count w))) (behind kind n Success)) (map (λ w. (ending w, (w, count w))) (behind kind n Failure))
@@ -447,9 +447,9 @@ rows_here kind ending count n here others none =
 -- rows that are made from the ends are the rows
 pub are_rows : (kind : Kinds) (ending : OutcomeWord → RunEnd) (count : OutcomeWord → ℕ) (rows : List Row) (n : ℕ) → HasRows kind ending count rows → IsChoice n kind → rows ≡ rows_within kind ending count n
 are_rows kind ending count rows n (ends here others none) c = sym (rows_here kind ending count n here others none)
-are_rows kind ending count rows zero (asks normal asked s f w l) c = absurd (let e = c.0 in cc)
-are_rows kind ending count rows (suc n) (asks normal asked s f w l) (inl c) = absurd (let e = c.0 in cc)
-are_rows kind ending count rows (suc n) (asks {won_count = won_count} {lost_count = lost_count} {won = won} {lost = lost} normal asked s f w l) (inr c) =
-    ap (λ (x : List Row). of_both normal x lost) (are_rows (beyond Success kind) (λ v. ending (Success ∷ v)) won_count won n w (c.1 Success))
-    ∙ ap (λ (x : List Row). of_both normal (rows_within (beyond Success kind) (λ v. ending (Success ∷ v)) won_count n) x) (are_rows (beyond Failure kind) (λ v. ending (Failure ∷ v)) lost_count lost n l (c.1 Failure))
-    ∙ sym (rows_past kind ending count won_count lost_count normal n asked s f)
+are_rows kind ending count rows zero (asks expected asked s f w l) c = absurd (let e = c.0 in cc)
+are_rows kind ending count rows (suc n) (asks expected asked s f w l) (inl c) = absurd (let e = c.0 in cc)
+are_rows kind ending count rows (suc n) (asks {won_count = won_count} {lost_count = lost_count} {won = won} {lost = lost} expected asked s f w l) (inr c) =
+    ap (λ (x : List Row). of_both expected x lost) (are_rows (beyond Success kind) (λ v. ending (Success ∷ v)) won_count won n w (c.1 Success))
+    ∙ ap (λ (x : List Row). of_both expected (rows_within (beyond Success kind) (λ v. ending (Success ∷ v)) won_count n) x) (are_rows (beyond Failure kind) (λ v. ending (Failure ∷ v)) lost_count lost n l (c.1 Failure))
+    ∙ sym (rows_past kind ending count won_count lost_count expected n asked s f)

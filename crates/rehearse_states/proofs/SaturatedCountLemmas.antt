@@ -1,5 +1,5 @@
 -- Counts up to the greatest count.
-use Rattle.std.proofs.Common.{ℕ, ◌+◌, min, Bool, true, false, List, [], ◌∷◌, map, refl, ap, ◌∙◌, ◌≡◌, arith}
+use Rattle.std.proofs.Common.{ℕ, ◌+◌, min, Bool, true, false, List, [], ◌∷◌, map, Option, refl, ap, ◌∙◌, ◌≡◌, arith}
 use Rattle.rehearse_terms.specs.Outcomes.{Outcome, Success, Failure}
 use Rattle.rehearse_states.specs.Endings.{Row, end_eq, joined, with_row, merge, in_front, counts_at, of_both}
 use Rattle.rehearse_states.specs.RowsShown.{most_runs, saturated, joined_up, with_row_up, merge_up, of_both_up}
@@ -29,10 +29,10 @@ front_up : (d : Outcome) (k : ℕ) (rs : List Row) → map saturated (map (in_fr
 front_up d k [] = refl
 front_up d k (r ∷ rs) = ap (λ (x : List Row). in_front d k (saturated r) ∷ x) (front_up d k rs)
 
-pub both_up : (normal : Bool) (won lost : List Row) → map saturated (of_both normal won lost) ≡ of_both_up normal (map saturated won) (map saturated lost)
-both_up normal won lost =
-    let s = counts_at normal Success in
-    let f = counts_at normal Failure in
+pub both_up : (expected : Option Bool) (won lost : List Row) → map saturated (of_both expected won lost) ≡ of_both_up expected (map saturated won) (map saturated lost)
+both_up expected won lost =
+    let s = counts_at expected Success in
+    let f = counts_at expected Failure in
     merge_is_up (map (in_front Success s) won) (map (in_front Failure f) lost)
     ∙ ap (λ (x : List Row). merge_up x (map saturated (map (in_front Failure f) lost))) (front_up Success s won)
     ∙ ap (λ (x : List Row). merge_up (map (in_front Success s) (map saturated won)) x) (front_up Failure f lost)

@@ -1,5 +1,5 @@
 -- The rows that nodes draw, and how they are made.
-use Rattle.std.proofs.Common.{below_more, max, set, get_or, option_map, ℕ, zero, suc, ◌+◌, ◌<◌, ◌≤◌, Bool, true, ◌||◌, List, [], ◌∷◌, ◌++◌, map, length, Some, refl, sym, ap, subst, ◌∙◌, ◌≡◌, inl, inr, arith, rules, length-append}
+use Rattle.std.proofs.Common.{below_more, max, set, get_or, option_map, ℕ, zero, suc, ◌+◌, ◌<◌, ◌≤◌, Bool, true, ◌||◌, List, [], ◌∷◌, ◌++◌, map, length, Some, refl, sym, ap, subst, ◌∙◌, ◌≡◌, inl, inr, arith, rules, length-append, Option}
 use Rattle.std.specs.List.{slice_get}
 use Rattle.std.specs.Prelude.{IsTrue}
 use Rattle.std.proofs.lemmas.Option.{slice_get_within, slice_get-map, slice_get_read}
@@ -46,22 +46,22 @@ draws_within sums place rows (both e l k won lost) = slice_get_within sums place
 pub draws_end : (sums : List SumNode) (run_end : RunEnd) → DrawsRows (sums ++ Over run_end ∷ []) (length sums) (one_run (run_end, ([], 0)) ∷ [])
 draws_end sums run_end = over (got_last sums (Over run_end))
 
-pub draws_both : (sums : List SumNode) (normal : Bool) (won lost : ℕ) (won_rows lost_rows : List Row) → DrawsRows sums won won_rows → DrawsRows sums lost lost_rows
-    → DrawsRows (sums ++ Both normal won lost ∷ []) (length sums) (of_both_up normal won_rows lost_rows)
-draws_both sums normal won lost won_rows lost_rows h k =
-    both (got_last sums (Both normal won lost)) (draws_within sums won won_rows h) (draws_within sums lost lost_rows k) (draws_with sums (Both normal won lost ∷ []) won won_rows h) (draws_with sums (Both normal won lost ∷ []) lost lost_rows k)
+pub draws_both : (sums : List SumNode) (expected : Option Bool) (won lost : ℕ) (won_rows lost_rows : List Row) → DrawsRows sums won won_rows → DrawsRows sums lost lost_rows
+    → DrawsRows (sums ++ Both expected won lost ∷ []) (length sums) (of_both_up expected won_rows lost_rows)
+draws_both sums expected won lost won_rows lost_rows h k =
+    both (got_last sums (Both expected won lost)) (draws_within sums won won_rows h) (draws_within sums lost lost_rows k) (draws_with sums (Both expected won lost ∷ []) won won_rows h) (draws_with sums (Both expected won lost ∷ []) lost lost_rows k)
 
 -- ---- what is drawn at a node that is known
 
-pub drawn_both : (sums : List SumNode) (place : ℕ) (rows : List Row) (normal : Bool) (won lost : ℕ) → slice_get sums place ≡ Some (Both normal won lost) → DrawsRows sums place rows
-    → (won_rows : List Row) × (lost_rows : List Row) × (won < place) × (lost < place) × DrawsRows sums won won_rows × DrawsRows sums lost lost_rows × (of_both_up normal won_rows lost_rows ≡ rows)
-drawn_both sums place rows normal won lost e (over f) = absurd (let g = sym e ∙ f in cc)
-drawn_both sums place rows normal won lost e (both {won = w} {lost = l} {normal = n} {won_rows = ws} {lost_rows = ls} f before before' up down) =
+pub drawn_both : (sums : List SumNode) (place : ℕ) (rows : List Row) (expected : Option Bool) (won lost : ℕ) → slice_get sums place ≡ Some (Both expected won lost) → DrawsRows sums place rows
+    → (won_rows : List Row) × (lost_rows : List Row) × (won < place) × (lost < place) × DrawsRows sums won won_rows × DrawsRows sums lost lost_rows × (of_both_up expected won_rows lost_rows ≡ rows)
+drawn_both sums place rows expected won lost e (over f) = absurd (let g = sym e ∙ f in cc)
+drawn_both sums place rows expected won lost e (both {won = w} {lost = l} {expected = n} {won_rows = ws} {lost_rows = ls} f before before' up down) =
     let g = sym e ∙ f in
     let same_won : w ≡ won = cc in
     let same_lost : l ≡ lost = cc in
-    let same_normal : n ≡ normal = cc in
-    (ws, ls, subst (λ (x : ℕ). x < place) same_won before, subst (λ (x : ℕ). x < place) same_lost before', subst (λ (x : ℕ). DrawsRows sums x ws) same_won up, subst (λ (x : ℕ). DrawsRows sums x ls) same_lost down, ap (λ (x : Bool). of_both_up x ws ls) (sym same_normal))
+    let same_expected : n ≡ expected = cc in
+    (ws, ls, subst (λ (x : ℕ). x < place) same_won before, subst (λ (x : ℕ). x < place) same_lost before', subst (λ (x : ℕ). DrawsRows sums x ws) same_won up, subst (λ (x : ℕ). DrawsRows sums x ls) same_lost down, ap (λ (x : Option Bool). of_both_up x ws ls) (sym same_expected))
 
 -- ---- which rows are used later
 
@@ -85,11 +85,11 @@ used_still (x ∷ last) (suc place) at zero before l h = h
 used_still (x ∷ last) (suc place) at (suc other) before l h = used_still last place at other before l h
 
 -- both places of which a node is made
-pub uses_both : (normal : Bool) (won lost at : ℕ) (old mid new : List ℕ) → length old ≡ at → length mid ≡ length old → (won < length old → IsUsedAt mid won at) → (lost < length mid → IsUsedAt new lost at)
-    → ((other before : ℕ) → before ≤ at → IsUsedAt mid other before → IsUsedAt new other before) → UsesAt (Both normal won lost) new at
-uses_both normal won lost at old mid new many same first second kept place (inl e) below =
+pub uses_both : (expected : Option Bool) (won lost at : ℕ) (old mid new : List ℕ) → length old ≡ at → length mid ≡ length old → (won < length old → IsUsedAt mid won at) → (lost < length mid → IsUsedAt new lost at)
+    → ((other before : ℕ) → before ≤ at → IsUsedAt mid other before → IsUsedAt new other before) → UsesAt (Both expected won lost) new at
+uses_both expected won lost at old mid new many same first second kept place (inl e) below =
     subst (λ (x : ℕ). IsUsedAt new x at) (sym e) (kept won at (omega arith) (first (subst (λ (x : ℕ). x < length old) e (omega arith))))
-uses_both normal won lost at old mid new many same first second kept place (inr e) below =
+uses_both expected won lost at old mid new many same first second kept place (inr e) below =
     subst (λ (x : ℕ). IsUsedAt new x at) (sym e) (second (subst (λ (x : ℕ). x < length mid) e (omega arith)))
 
 -- one more node
@@ -116,7 +116,7 @@ same_many f [] place x = refl
 same_many f (y ∷ made) zero x = refl
 same_many f (y ∷ made) (suc place) x = ap suc (same_many f made place x)
 
-module _ (sums : List SumNode) (last : List ℕ) (at won lost : ℕ) (normal keep_won keep_lost : Bool) (old mid new : List (List Row)) (first : Leaves keep_won won old mid) (second : Leaves keep_lost lost mid new)
+module _ (sums : List SumNode) (last : List ℕ) (at won lost : ℕ) (expected : Option Bool) (keep_won keep_lost : Bool) (old mid new : List (List Row)) (first : Leaves keep_won won old mid) (second : Leaves keep_lost lost mid new)
     (behind_won : IsUsedAt last won (at + 1) → IsTrue keep_won) (twice : won ≡ lost → IsTrue keep_won) (behind_lost : IsUsedAt last lost (at + 1) → IsTrue keep_lost) where
   kept_won : (other : ℕ) → IsUsedAt last other (at + 1) → other ≡ won → keep_won ≡ true
   kept_won other used e = search (rules, behind_won (subst (λ (x : ℕ). IsUsedAt last x (at + 1)) e used))
@@ -128,15 +128,15 @@ module _ (sums : List SumNode) (last : List ℕ) (at won lost : ℕ) (normal kee
   sides_leave = (second.0 ∙ first.0, λ other used. second.1 other (kept_lost other used) ∙ first.1 other (kept_won other used))
 
   pub sides_made : (won_rows lost_rows front others rows drawn : List Row) → ((there : List Row) → slice_get old won ≡ Some there → won_rows ≡ there) → ((there : List Row) → slice_get mid lost ≡ Some there → lost_rows ≡ there)
-      → front ≡ map (in_front Success (counts_at normal Success)) won_rows → others ≡ map (in_front Failure (counts_at normal Failure)) lost_rows → rows ≡ merge_up front others
-      → AreMade sums last at old → slice_get sums at ≡ Some (Both normal won lost) → UsesAt (Both normal won lost) last at → DrawsRows sums at drawn → rows ≡ drawn
+      → front ≡ map (in_front Success (counts_at expected Success)) won_rows → others ≡ map (in_front Failure (counts_at expected Failure)) lost_rows → rows ≡ merge_up front others
+      → AreMade sums last at old → slice_get sums at ≡ Some (Both expected won lost) → UsesAt (Both expected won lost) last at → DrawsRows sums at drawn → rows ≡ drawn
   sides_made won_rows lost_rows front others rows drawn took_won took_lost in_won in_lost merged are got uses draws =
-      let d = drawn_both sums at drawn normal won lost got draws in
+      let d = drawn_both sums at drawn expected won lost got draws in
       let won_is : won_rows ≡ d.0 = took_won d.0 (are.kept won d.2 d.0 (uses won (inl refl) d.2) d.4) in
       let lost_is : lost_rows ≡ d.1 = took_lost d.1 (first.1 lost (λ e. search (rules, twice (sym e))) ∙ are.kept lost d.3 d.1 (uses lost (inr refl) d.3) d.5) in
       merged
-      ∙ ap (λ (x : List Row). merge_up x others) (in_won ∙ ap (map (in_front Success (counts_at normal Success))) won_is)
-      ∙ ap (merge_up (map (in_front Success (counts_at normal Success)) d.0)) (in_lost ∙ ap (map (in_front Failure (counts_at normal Failure))) lost_is)
+      ∙ ap (λ (x : List Row). merge_up x others) (in_won ∙ ap (map (in_front Success (counts_at expected Success))) won_is)
+      ∙ ap (merge_up (map (in_front Success (counts_at expected Success)) d.0)) (in_lost ∙ ap (map (in_front Failure (counts_at expected Failure))) lost_is)
       ∙ d.6
 
 -- one more node
@@ -172,10 +172,10 @@ end_pushed old new sum shared run_end e at is =
     draws_pushed old new (variants.Over shared) sum _ e at
     (subst (λ (x : ends.RunEnd). DrawsRows (map sum_shown old ++ Over (run_end_shown shared.value) ∷ []) (length (map sum_shown old)) (one_run (run_end_shown x, ([], 0)) ∷ [])) is (draws_end (map sum_shown old) (run_end_shown shared.value)))
 
-pub both_pushed : (old new : List rt.SumNode) (sum : ℕ) (normal : Bool) (won lost : ℕ) (won_rows lost_rows : List Row) → new ≡ old ++ variants.Both normal won lost ∷ [] → sum ≡ length old → DrawsRows (map sum_shown old) won won_rows → DrawsRows (map sum_shown old) lost lost_rows
-    → DrawsRows (map sum_shown new) sum (of_both_up normal won_rows lost_rows)
-both_pushed old new sum normal won lost won_rows lost_rows e at h k =
-    draws_pushed old new (variants.Both normal won lost) sum (of_both_up normal won_rows lost_rows) e at (draws_both (map sum_shown old) normal won lost won_rows lost_rows h k)
+pub both_pushed : (old new : List rt.SumNode) (sum : ℕ) (expected : Option Bool) (won lost : ℕ) (won_rows lost_rows : List Row) → new ≡ old ++ variants.Both expected won lost ∷ [] → sum ≡ length old → DrawsRows (map sum_shown old) won won_rows → DrawsRows (map sum_shown old) lost lost_rows
+    → DrawsRows (map sum_shown new) sum (of_both_up expected won_rows lost_rows)
+both_pushed old new sum expected won lost won_rows lost_rows e at h k =
+    draws_pushed old new (variants.Both expected won lost) sum (of_both_up expected won_rows lost_rows) e at (draws_both (map sum_shown old) expected won lost won_rows lost_rows h k)
 
 -- ---- summaries
 
@@ -183,11 +183,11 @@ pub ends_same : (made : kept.Summary) (rows : List Row) (run_end : RunEnd) (step
     → summary_with rows made ≡ summary_at_end run_end steps devices
 ends_same made rows run_end steps devices a b c d e = λ i. record { rows = a i; steps = b i; devices = c i; cut_steps = d i; cut_devices = e i }
 
-pub sides_same : (made won lost : kept.Summary) (normal : Bool) (steps devices : ℕ) (won_shown lost_shown : Summary) → made.steps ≡ max steps (max won.steps lost.steps) → made.devices ≡ max (suc devices) (max won.devices lost.devices) → made.cut_steps ≡ (won.cut_steps || lost.cut_steps) → made.cut_devices ≡ (won.cut_devices || lost.cut_devices)
-    → summary_with won_shown.rows won ≡ won_shown → summary_with lost_shown.rows lost ≡ lost_shown → summary_with (of_both_up normal won_shown.rows lost_shown.rows) made ≡ summary_of_sides (of_both_up normal) steps devices won_shown lost_shown
-sides_same made won lost normal steps devices won_shown lost_shown a b c d is_won is_lost =
-    let first : summary_with (of_both_up normal won_shown.rows lost_shown.rows) made ≡ summary_of_sides (of_both_up normal) steps devices (summary_with won_shown.rows won) (summary_with lost_shown.rows lost) =
-    λ i. record { rows = of_both_up normal won_shown.rows lost_shown.rows; steps = a i; devices = b i; cut_steps = c i; cut_devices = d i } in
+pub sides_same : (made won lost : kept.Summary) (expected : Option Bool) (steps devices : ℕ) (won_shown lost_shown : Summary) → made.steps ≡ max steps (max won.steps lost.steps) → made.devices ≡ max (suc devices) (max won.devices lost.devices) → made.cut_steps ≡ (won.cut_steps || lost.cut_steps) → made.cut_devices ≡ (won.cut_devices || lost.cut_devices)
+    → summary_with won_shown.rows won ≡ won_shown → summary_with lost_shown.rows lost ≡ lost_shown → summary_with (of_both_up expected won_shown.rows lost_shown.rows) made ≡ summary_of_sides (of_both_up expected) steps devices won_shown lost_shown
+sides_same made won lost expected steps devices won_shown lost_shown a b c d is_won is_lost =
+    let first : summary_with (of_both_up expected won_shown.rows lost_shown.rows) made ≡ summary_of_sides (of_both_up expected) steps devices (summary_with won_shown.rows won) (summary_with lost_shown.rows lost) =
+    λ i. record { rows = of_both_up expected won_shown.rows lost_shown.rows; steps = a i; devices = b i; cut_steps = c i; cut_devices = d i } in
     first
-    ∙ ap (λ (x : Summary). summary_of_sides (of_both_up normal) steps devices x (summary_with lost_shown.rows lost)) is_won
-    ∙ ap (λ (x : Summary). summary_of_sides (of_both_up normal) steps devices won_shown x) is_lost
+    ∙ ap (λ (x : Summary). summary_of_sides (of_both_up expected) steps devices x (summary_with lost_shown.rows lost)) is_won
+    ∙ ap (λ (x : Summary). summary_of_sides (of_both_up expected) steps devices won_shown x) is_lost

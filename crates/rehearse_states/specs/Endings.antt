@@ -118,17 +118,18 @@ abbrev pub in_front : Outcome → (counts : ℕ) → Row → Row
 in_front outcome counts r =
     record r { word = outcome ∷ r.word; fewest = (outcome ∷ r.fewest.0, counts + r.fewest.1) }
 
--- how much an outcome counts where a failure is expected, or else a success
-abbrev pub counts_at : (normal : Bool) → Outcome → ℕ
-counts_at true Success = 1
-counts_at true Failure = 0
-counts_at false Success = 0
-counts_at false Failure = 1
+-- how much an outcome counts: another one than is expected counts one
+abbrev pub counts_at : (expected : Option Bool) → Outcome → ℕ
+counts_at None outcome = 0
+counts_at (Some true) Success = 0
+counts_at (Some true) Failure = 1
+counts_at (Some false) Success = 1
+counts_at (Some false) Failure = 0
 
 -- the runs after a success, then the runs after a failure
-abbrev pub of_both : (normal : Bool) → (won lost : List Row) → List Row
-of_both normal won lost =
-    merge (map (in_front Success (counts_at normal Success)) won) (map (in_front Failure (counts_at normal Failure)) lost)
+abbrev pub of_both : (expected : Option Bool) → (won lost : List Row) → List Row
+of_both expected won lost =
+    merge (map (in_front Success (counts_at expected Success)) won) (map (in_front Failure (counts_at expected Failure)) lost)
 
 -- rows that are built from the ends: either the run ends here, or each outcome leads on
 pub data HasRows : (OutcomeWord → WordKind) → (OutcomeWord → RunEnd) → (count : OutcomeWord → ℕ) → List Row → Type 0 where
@@ -136,9 +137,9 @@ pub data HasRows : (OutcomeWord → WordKind) → (OutcomeWord → RunEnd) → (
       ((d : Outcome) (w : OutcomeWord) → kind (d ∷ w) ≡ Long) → count [] ≡ 0 →
       HasRows kind ending count (one_run (ending [], ([], 0)) ∷ [])
   asks : {kind : OutcomeWord → WordKind} {ending : OutcomeWord → RunEnd} {count won_count lost_count : OutcomeWord → ℕ}
-      {won lost : List Row} (normal : Bool) → kind [] ≡ Short →
-      ((w : OutcomeWord) → count (Success ∷ w) ≡ counts_at normal Success + won_count w) →
-      ((w : OutcomeWord) → count (Failure ∷ w) ≡ counts_at normal Failure + lost_count w) →
+      {won lost : List Row} (expected : Option Bool) → kind [] ≡ Short →
+      ((w : OutcomeWord) → count (Success ∷ w) ≡ counts_at expected Success + won_count w) →
+      ((w : OutcomeWord) → count (Failure ∷ w) ≡ counts_at expected Failure + lost_count w) →
       HasRows (beyond Success kind) (λ w. ending (Success ∷ w)) won_count won →
       HasRows (beyond Failure kind) (λ w. ending (Failure ∷ w)) lost_count lost →
-      HasRows kind ending count (of_both normal won lost)
+      HasRows kind ending count (of_both expected won lost)

@@ -33,9 +33,9 @@ abbrev pub merge_up : List Row → List Row → List Row
 merge_up rows [] = rows
 merge_up rows (r ∷ rs) = merge_up (with_row_up rows r) rs
 
-abbrev pub of_both_up : (normal : Bool) → (won lost : List Row) → List Row
-of_both_up normal won lost =
-    merge_up (map (in_front Success (counts_at normal Success)) won) (map (in_front Failure (counts_at normal Failure)) lost)
+abbrev pub of_both_up : (expected : Option Bool) → (won lost : List Row) → List Row
+of_both_up expected won lost =
+    merge_up (map (in_front Success (counts_at expected Success)) won) (map (in_front Failure (counts_at expected Failure)) lost)
 
 abbrev pub value_shown : Option (Vec ℕ Global) → Option Text
 value_shown value = option_map (λ v. v.items) value

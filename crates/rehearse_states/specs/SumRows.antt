@@ -14,7 +14,7 @@ made_shown made = map rows_shown made.items
 -- the node is made of the rows of this place
 abbrev pub IsMadeOf : SumNode → (place : ℕ) → Type 0
 IsMadeOf (Over run_end) place = ⊥
-IsMadeOf (Both normal won lost) place = (place ≡ won) ⊎ (place ≡ lost)
+IsMadeOf (Both expected won lost) place = (place ≡ won) ⊎ (place ≡ lost)
 
 -- the last use of the rows of the place is at this node or at a later one
 abbrev pub IsUsedAt : (last : List ℕ) → (place at : ℕ) → Type 0

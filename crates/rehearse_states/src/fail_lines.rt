@@ -61,11 +61,13 @@ fn put_if_unexpected(
     ensures { OnOk result (text.new.items ≡ text.old.items
         ++ fails_lines (unexpected_of devices.now ((success, bytes_of_words words.now) ∷ []))) }
 {
-    if devices.fails_normally(words) == success {
-        put_fail(text, success, words)
-    } else {
-        Ok(())
+    let Some(answer) = devices.expected(words) else {
+        return Ok(());
+    };
+    if answer == success {
+        return Ok(());
     }
+    put_fail(text, success, words)
 }
 
 /// Adds a line for each device command whose answer is unexpected on the way from a line of a flow

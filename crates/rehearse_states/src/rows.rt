@@ -80,11 +80,14 @@ pub(crate) fn copy_rows(alloc: Global, rows: &Vec<Row>) -> Result<Vec<Row>, Stor
     Ok(copies)
 }
 
-/// How much an outcome counts where a failure is expected, or else a success.
-fn counts_at(normal: bool, success: bool) -> usize
-    ensures { result ≡ counts_at normal (outcome_when success) }
+/// How much an outcome counts: another one than is expected counts one.
+fn counts_at(expected: Option<bool>, success: bool) -> usize
+    ensures { result ≡ counts_at expected (outcome_when success) }
 {
-    usize::from(normal == success)
+    match expected {
+        Some(answer) => usize::from(answer != success),
+        None => 0,
+    }
 }
 
 /// The word with one more outcome, the first, if there is a word.
@@ -122,17 +125,17 @@ fn row_in_front(alloc: Global, row: Row, counts: usize, success: bool) -> Result
     })
 }
 
-/// Puts an outcome before each word of the rows, where a failure is expected, or else a success.
+/// Puts an outcome before each word of the rows, where this answer is expected, if one is.
 pub(crate) fn put_in_front(
     alloc: Global,
     rows: Vec<Row>,
-    normal: bool,
+    expected: Option<bool>,
     success: bool,
 ) -> Result<Vec<Row>, StoreError>
     ensures { IfOk result (λ made. rows_shown made
-        ≡ map (in_front (outcome_when success) (counts_at normal (outcome_when success))) (rows_shown rows)) }
+        ≡ map (in_front (outcome_when success) (counts_at expected (outcome_when success))) (rows_shown rows)) }
 {
-    let counts = counts_at(normal, success);
+    let counts = counts_at(expected, success);
     let mut made = Vec::new(alloc);
     for row in rows {
         let longer = row_in_front(alloc, row, counts, success)?;

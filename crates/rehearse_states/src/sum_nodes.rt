@@ -11,8 +11,8 @@ pub enum SumNode {
     Over(Rc<RunEnd>),
     /// A device command asks.
     Both {
-        /// Whether a failure is expected there, or else a success.
-        normal: bool,
+        /// Whether a success is expected there; none if neither answer is.
+        expected: Option<bool>,
         /// The place of what follows its success.
         won: usize,
         /// The place of what follows its failure.

@@ -33,7 +33,7 @@ fn note_uses(last: &mut Vec<usize>, node: &SumNode, at: usize)
         → IsUsedAt last.new.items other before }
 {
     if let SumNode::Both {
-        normal: _,
+        expected: _,
         won,
         lost,
     } = node
@@ -103,21 +103,21 @@ fn rows_of_sides(
     made: &mut Vec<Vec<Row>>,
     last: &[usize],
     at: usize,
-    normal: bool,
+    expected: Option<bool>,
     won: usize,
     lost: usize,
 ) -> Result<Vec<Row>, StoreError>
     ensures rows { IfOk result (λ rows. (sums : List ShownNode) (drawn : List ShownRow)
-        → AreMade sums last.now at (made_shown made.old) → slice_get sums at ≡ Some (Both normal won lost)
-        → UsesAt (Both normal won lost) last.now at → DrawsRows sums at drawn → rows_shown rows ≡ drawn) }
+        → AreMade sums last.now at (made_shown made.old) → slice_get sums at ≡ Some (Both expected won lost)
+        → UsesAt (Both expected won lost) last.now at → DrawsRows sums at drawn → rows_shown rows ≡ drawn) }
     ensures leaves { OnOk result (LeavesUsed last.now (at + 1) (made_shown made.old) (made_shown made.new)) }
 {
     let keep_won = is_used_again(last, won, lost, at);
     let won_rows = taken(alloc, made, won, keep_won)?;
     let keep_lost = is_used_behind(last, lost, at);
     let lost_rows = taken(alloc, made, lost, keep_lost)?;
-    let front = put_in_front(alloc, won_rows, normal, true)?;
-    let others = put_in_front(alloc, lost_rows, normal, false)?;
+    let front = put_in_front(alloc, won_rows, expected, true)?;
+    let others = put_in_front(alloc, lost_rows, expected, false)?;
     let rows = merge_rows(alloc, front, others)?;
     Ok(rows)
 }
@@ -141,8 +141,12 @@ fn rows_at(
             let rows = one_row(alloc, shared)?;
             Ok(rows)
         }
-        SumNode::Both { normal, won, lost } => {
-            let rows = rows_of_sides(alloc, made, last, at, *normal, *won, *lost)?;
+        SumNode::Both {
+            expected,
+            won,
+            lost,
+        } => {
+            let rows = rows_of_sides(alloc, made, last, at, *expected, *won, *lost)?;
             Ok(rows)
         }
     }

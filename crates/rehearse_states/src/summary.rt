@@ -76,13 +76,13 @@ pub fn of_end(
     })
 }
 
-/// The summary of a device command that asks, from its two sides. A failure is expected there, or else a success. Makes a
+/// The summary of a device command that asks, from its two sides. This answer is expected there, if one is. Makes a
 /// node for the rows.
 pub fn of_sides(
     sums: &mut Vec<SumNode>,
     steps: u32,
     devices: u32,
-    normal: bool,
+    expected: Option<bool>,
     won: Summary,
     lost: Summary,
     place: usize,
@@ -90,13 +90,13 @@ pub fn of_sides(
     ensures sums { IfOk result (λ s. (won_shown lost_shown : ShownSummary)
         → IsSummary (sums_shown sums.old) won won_shown → IsSummary (sums_shown sums.old) lost lost_shown
         → IsSummary (sums_shown sums.new) s
-        (summary_of_sides (of_both_up normal) steps devices won_shown lost_shown)) }
+        (summary_of_sides (of_both_up expected) steps devices won_shown lost_shown)) }
     ensures grows { OnOk result (HasMoreSums (sums_shown sums.old) (sums_shown sums.new)) }
     ensures place { IfOk result (λ s. s.place ≡ place) }
 {
     let sum = sums.len();
     sums.push(SumNode::Both {
-        normal,
+        expected,
         won: won.sum,
         lost: lost.sum,
     })?;

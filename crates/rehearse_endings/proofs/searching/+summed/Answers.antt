@@ -1,6 +1,6 @@
 use Rattle.std.proofs.Common.{ℕ, length, refl, arith, rules, map, ap, sym, subst, ◌∙◌, ◌≡◌, ◌≤◌, ◌+◌, List, Vec, [], ◌∷◌, ◌++◌}
 use Rattle.std.specs.declared.alloc.Global.{Global}
-use Rattle.device_list.specs.DeviceList.{fails_normally}
+use Rattle.device_list.specs.DeviceList.{expected}
 use Rattle.rehearse_terms.specs.Outcomes.{Success, Failure}
 use Rattle.rehearse_machine.specs.Tasks.{task_in}
 use Rattle.rehearse_machine.specs.declared.rehearsal.Stop.{Stop}
@@ -230,10 +230,10 @@ returns-in_ok-keys-in-Asks-clause-searched g t c =
     (reached_asks task c.args.depth r.present sides.reached) alone.won most_frames won_side lost_side c.in_ok-both-in-Asks.ensures.both in
     let keys_kept = subst (AreEnoughAt task.limits names (without_lowest below r.present)) (sym c.in_ok-keys-in-Asks.ensures.keys) keys_at.enough in
     let words_are : c.deref.result.now ≡ c.in_ok-words-in-Asks.words.items = search rules in
-    let normal = c.fails_normally-normal.ensures ∙ ap (λ (ws : List (Vec ℕ Global)). fails_normally task.limits.devices (bytes_of_words ws)) words_are in
+    let normal = c.expected-expected.ensures ∙ ap (λ (ws : List (Vec ℕ Global)). expected task.limits.devices (bytes_of_words ws)) words_are in
     let won_shown = c.in_ok-won-in-Asks.ensures.searched.shown in
     let lost_shown = c.in_ok-lost-in-Asks.ensures.searched.shown in
-    let shown = summary_of_sides (of_both_up c.fails_normally-normal.result) c.steps-steps.result c.logged-devices.result won_shown lost_shown in
+    let shown = summary_of_sides (of_both_up c.expected-expected.result) c.steps-steps.result c.logged-devices.result won_shown lost_shown in
     let won_sums = sums_shown c.summed.new.table.sums in
     let lost_sums = sums_shown c.summed-in-Asks.new.table.sums in
     let new_sums = sums_shown c.of_sides.new.sums in
@@ -243,7 +243,7 @@ returns-in_ok-keys-in-Asks-clause-searched g t c =
     let won_is : IsSummary lost_sums won.summary won_shown = (draws_further won_sums lost_sums won.summary.sum won_shown.rows more_sums c.in_ok-won-in-Asks.ensures.searched.is.0, c.in_ok-won-in-Asks.ensures.searched.is.1) in
     let is : IsSummary sum_nodes summary shown = subst (λ (x : List SumNode). IsSummary x summary shown) (sym same_sums) (c.in_ok-summary-in-Asks.ensures.sums won_shown lost_shown won_is c.in_ok-lost-in-Asks.ensures.searched.is) in
     let grown : HasMoreSums lost_sums sum_nodes = more_sums_on lost_sums new_sums sum_nodes c.in_ok-summary-in-Asks.ensures.grows (no_more_sums new_sums sum_nodes same_sums) in
-    let summed = summed_sides names task c.args.depth r.present sides.reached c.in_ok-won_stop-in-Asks.won_stop c.in_ok-lost_stop-in-Asks.lost_stop won_at lost_at won_shown lost_shown shown c.steps-steps.result c.logged-devices.result c.fails_normally-normal.result (bytes_of_words c.in_ok-words-in-Asks.words.items) steps log sides.won sides.lost c.in_ok-words-in-Asks.ensures normal c.in_ok-won-in-Asks.ensures.searched.sums c.in_ok-lost-in-Asks.ensures.searched.sums refl in
+    let summed = summed_sides names task c.args.depth r.present sides.reached c.in_ok-won_stop-in-Asks.won_stop c.in_ok-lost_stop-in-Asks.lost_stop won_at lost_at won_shown lost_shown shown c.steps-steps.result c.logged-devices.result c.expected-expected.result (bytes_of_words c.in_ok-words-in-Asks.words.items) steps log sides.won sides.lost c.in_ok-words-in-Asks.ensures normal c.in_ok-won-in-Asks.ensures.searched.sums c.in_ok-lost-in-Asks.ensures.searched.sums refl in
     let won_nodes = nodes_shown c.summed.new.table.flow.nodes in
     let nodes = c.summed-in-Asks.new.table.flow.nodes in
     let same = ap (λ (x : Flow). nodes_shown x.nodes) c.keep.ensures.flow in
@@ -659,11 +659,11 @@ returns-in_err-keys-in-Asks-clause-large g t c = λ count p begun at by entered.
     let keys_at = keys_of_sides names task below r.present (keys_in_front (accesses_shown c.resumed.new.reported) (keys_shown won.keys.items)) (keys_in_front (accesses_shown c.resumed-in-Asks.new.reported) (keys_shown lost.keys.items)) (keys_shown c.in_ok-both-in-Asks.both.items) c.resumed.new.fewest
     (reached_asks task c.args.depth r.present sides.reached) alone.won most_frames won_side lost_side c.in_ok-both-in-Asks.ensures.both in
     let words_are : c.deref.result.now ≡ c.in_ok-words-in-Asks.words.items = search rules in
-    let normal = c.fails_normally-normal.ensures ∙ ap (λ (ws : List (Vec ℕ Global)). fails_normally task.limits.devices (bytes_of_words ws)) words_are in
+    let normal = c.expected-expected.ensures ∙ ap (λ (ws : List (Vec ℕ Global)). expected task.limits.devices (bytes_of_words ws)) words_are in
     let won_shown = c.in_ok-won-in-Asks.ensures.searched.shown in
     let lost_shown = c.in_ok-lost-in-Asks.ensures.searched.shown in
-    let shown = summary_of_sides (of_both_up c.fails_normally-normal.result) c.steps-steps.result c.logged-devices.result won_shown lost_shown in
-    let summed = summed_sides names task c.args.depth r.present sides.reached c.in_ok-won_stop-in-Asks.won_stop c.in_ok-lost_stop-in-Asks.lost_stop won_at lost_at won_shown lost_shown shown c.steps-steps.result c.logged-devices.result c.fails_normally-normal.result (bytes_of_words c.in_ok-words-in-Asks.words.items) steps log sides.won sides.lost c.in_ok-words-in-Asks.ensures normal c.in_ok-won-in-Asks.ensures.searched.sums c.in_ok-lost-in-Asks.ensures.searched.sums refl in
+    let shown = summary_of_sides (of_both_up c.expected-expected.result) c.steps-steps.result c.logged-devices.result won_shown lost_shown in
+    let summed = summed_sides names task c.args.depth r.present sides.reached c.in_ok-won_stop-in-Asks.won_stop c.in_ok-lost_stop-in-Asks.lost_stop won_at lost_at won_shown lost_shown shown c.steps-steps.result c.logged-devices.result c.expected-expected.result (bytes_of_words c.in_ok-words-in-Asks.words.items) steps log sides.won sides.lost c.in_ok-words-in-Asks.ensures normal c.in_ok-won-in-Asks.ensures.searched.sums c.in_ok-lost-in-Asks.ensures.searched.sums refl in
     let met = met_as task p c.args.stop Asks r.present c.in-Asks.is (subst (λ (m : Moment). StoppedAt task p c.args.stop m) (sym present) at) in
     let gone =
     c.in_ok-won-in-Asks.ensures.searched.entered (p ++ Success ∷ []) ((p, r.present) ∷ begun) (stopped_on task p r.present won_at Success c.in_ok-won_stop-in-Asks.won_stop met sides.won) (comes_by p Success r.present begun by)

@@ -1,4 +1,4 @@
-use Rattle.std.proofs.Common.{subst, sym, ◌∙◌}
+use Rattle.std.proofs.Common.{drop, subst, sym, ◌∙◌}
 use Rattle.bootstore_state.specs.declared.frame.FrameKind.{FrameKind}
 use Rattle.rehearse_reports.specs.Begins.{BeginsBy}
 use Rattle.rehearse_reports.specs.declared.begins.Begins.TheVariants.{Nothing}
@@ -18,4 +18,4 @@ pub returns-in-Run : goal.returns-in-Run
 returns-in-Run c = subst (λ (k : FrameKind). BeginsBy k c.begins_in_run.result c.args.frame.now c.args.status) (sym c.in-Run.is ∙ c.kind.ensures) c.begins_in_run.ensures
 
 pub returns-in-File : goal.returns-in-File
-returns-in-File c = subst (λ (k : FrameKind). BeginsBy k Nothing c.args.frame.now c.args.status) (sym c.in-File.is ∙ c.kind.ensures) (λ limits fs s e. file_moves limits s c.args.frame.now.place.turn c.args.frame.now.place.last c.args.frame.now.words fs)
+returns-in-File c = subst (λ (k : FrameKind). BeginsBy k Nothing c.args.frame.now c.args.status) (sym c.in-File.is ∙ c.kind.ensures) (λ limits fs s e. file_moves limits s c.args.frame.now.place.turn c.args.frame.now.place.last (drop c.args.frame.now.place.command c.args.frame.now.words) fs)

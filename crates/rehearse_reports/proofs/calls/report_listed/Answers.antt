@@ -1,4 +1,4 @@
-use Rattle.std.proofs.Common.{refl, sym, subst, Option}
+use Rattle.std.proofs.Common.{refl, sym, subst, Option, List}
 use Rattle.text.specs.TextsShown.{bytes_of_words}
 use Rattle.device_list.specs.CommandsShown.{lent_effect}
 use Rattle.rehearse_rules.specs.Execution.{request_of}
@@ -27,5 +27,5 @@ returns c limits s =
     ok_as c.report_handing.result
     (λ handing. reports_then before needed after (all_read (needs_reads effect.needs)) (of_asking limits request s) c.in_ok-report_needs.ensures
     (asks_all needed told after limits request s (c.in_ok-report_told.ensures request refl refl (now_steady s.log effect))
-    (subst (λ (runs : Option Text). Reports told after (handing_reads runs)) (sym (now_runs s.log effect)) handing)))
+    (subst (λ (runs : List Text). Reports told after (handing_reads runs)) (sym (now_runs s.log effect)) handing)))
     c.report_handing.ensures

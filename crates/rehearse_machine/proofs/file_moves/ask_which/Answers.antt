@@ -1,0 +1,49 @@
+use Rattle.std.proofs.Common.{ap, ◌∙◌, sym, ◌∷◌}
+use Rattle.hushlang.specs.TreesShown as view
+use Rattle.hushlang.specs.declared.tree.Script.{Script as Code}
+use Rattle.hushlang_shells.specs.TreesByShell.{TextRead, started_in}
+use Rattle.hushlang_shells.specs.TextsShown.{text_read}
+use Rattle.bootstore_state.specs.declared.frame.At.{At}
+use Rattle.rehearse_terms.specs.State.{Text}
+use Rattle.rehearse_rules.specs.Execution.{choice_text, set_status}
+use Rattle.rehearse_machine.specs.Frames.{begun_text}
+use Rattle.rehearse_machine.specs.MovesShown.{under}
+use Rattle.rehearse_machine.specs.Places.{GoOn, at_file, moved_to, place, place_question, text_frame}
+use Rattle.rehearse_machine.proofs.StoreMoves.{comes_as}
+use Rattle.rehearse_machine.proofs.file_moves.ask_which.Goals as goal
+
+pub returns-in-Runs : goal.returns-in-Runs
+returns-in-Runs g c top =
+    let old = g.S.Store.record_of c.args.store.now in
+    let f = c.args.frame.now in
+    let fs = under old.present in
+    let shell = c.args.shell in
+    let name = c.args.name.now in
+    let text = c.deref.ensures.value ∙ c.in_ok-text.ensures in
+    let found = sym (ap text_read c.in-Runs.is) ∙ c.in_ok-script.ensures ∙ ap (started_in shell) text in
+    let at = c.at_file-at.ensures ∙ ap (λ (x : At). place f.place.list c.args.file 2 x.last) c.at.ensures in
+    let tree = view.script c.in-Runs.script in
+    comes_as c.push_text.result old (g.S.Store.record_of c.push_text.new.store)
+    (λ s. GoOn (text_frame (view.script c.in_ok-new-in-Runs.field-0.value) ∷ moved_to c.at_file-at.result f ∷ fs) (begun_text (view.script c.in_ok-new-in-Runs.field-0.value) s))
+    (place_question shell (started_in shell (choice_text name)) name (at_file c.args.file 2 f) fs)
+    (λ s. ap (λ (x : Code). GoOn (text_frame (view.script x) ∷ moved_to c.at_file-at.result f ∷ fs) (begun_text (view.script x) s)) c.in_ok-new-in-Runs.ensures.ok
+    ∙ ap (λ (x : At). GoOn (text_frame tree ∷ moved_to x f ∷ fs) (begun_text tree s)) at
+    ∙ ap (λ (x : TextRead). place_question shell x name (at_file c.args.file 2 f) fs s) found)
+    (c.push_text.ensures f top)
+
+pub returns-in-Fails : goal.returns-in-Fails
+returns-in-Fails g c top =
+    let old = g.S.Store.record_of c.args.store.now in
+    let f = c.args.frame.now in
+    let fs = under old.present in
+    let shell = c.args.shell in
+    let name = c.args.name.now in
+    let text = c.deref.ensures.value ∙ c.in_ok-text.ensures in
+    let found = sym (ap text_read c.in-Fails.is) ∙ c.in_ok-script.ensures ∙ ap (started_in shell) text in
+    let at = c.at_file-at.ensures ∙ ap (λ (x : At). place f.place.list c.args.file 2 x.last) c.at.ensures in
+    comes_as c.finish.result old (g.S.Store.record_of c.finish.new.store)
+    (λ s. GoOn (moved_to c.at_file-at.result f ∷ fs) (set_status 1 s))
+    (place_question shell (started_in shell (choice_text name)) name (at_file c.args.file 2 f) fs)
+    (λ s. ap (λ (x : At). GoOn (moved_to x f ∷ fs) (set_status 1 s)) at
+    ∙ ap (λ (x : TextRead). place_question shell x name (at_file c.args.file 2 f) fs s) found)
+    (c.finish.ensures f top)
