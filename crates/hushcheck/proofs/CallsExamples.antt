@@ -69,7 +69,7 @@ in_joined = refl
 -- ---- a device list: a line of a name, a `sub` line, a computed command
 
 abbrev quiet : Effect
-quiet = record { ends = None; stays = false; always = None; needs = []; normal = false; runs = None; sets = [] }
+quiet = record { ends = None; stays = false; always = None; needs = []; normal = false; runs = []; sets = [] }
 
 abbrev list : Devices
 list = record {
@@ -78,6 +78,7 @@ list = record {
   calls = [];
   known = codes "itest" ∷ [];
   test_stays = false;
+  choices = [];
   files = [];
 }
 

@@ -120,8 +120,8 @@ circle_lines = refl
 abbrev anything : Pattern
 anything = record { words = []; more = true }
 
-abbrev runs_file : Text → Effect
-runs_file name = record { ends = None; stays = false; always = None; needs = []; normal = false; runs = Some name; sets = [] }
+abbrev runs_one_of : List Text → Effect
+runs_one_of names = record { ends = None; stays = false; always = None; needs = []; normal = false; runs = names; sets = [] }
 
 -- a file that is no image
 abbrev file : Text → FileText
@@ -131,10 +131,16 @@ abbrev list : Devices
 list = record {
   commands = [];
   subs = [];
-  calls = (codes "source", (record { words = Exactly (codes "2") ∷ []; more = false }, runs_file (codes "g")) ∷ (anything, runs_file (codes "f")) ∷ []) ∷ [];
+  calls = (
+    codes "source",
+    (record { words = Exactly (codes "2") ∷ []; more = false }, runs_one_of (codes "g" ∷ []))
+        ∷ (record { words = Exactly (codes "4") ∷ []; more = false }, runs_one_of (codes "g" ∷ codes "f" ∷ []))
+        ∷ (anything, runs_one_of (codes "f" ∷ [])) ∷ [],
+  ) ∷ [];
   known = [];
   test_stays = false;
-  files = (codes "f", file (codes "run a\ntrue\nfi")) ∷ (codes "g", file (codes "true")) ∷ (codes "h", file (codes "run a; source 2 3")) ∷ [];
+  choices = [];
+  files = (codes "f", file (codes "run a\ntrue\nfi")) ∷ (codes "g", file (codes "true")) ∷ (codes "h", file (codes "run a; source 2 3")) ∷ (codes "k", file (codes "source 4")) ∷ [];
 }
 
 abbrev with_files : Rules
@@ -167,3 +173,8 @@ file_runs = refl
 file_calls : called_by with_files board (File (codes "h")) ≡ codes "f" ∷ []
 unfolding whole script command simple keyword next behind sees expect joined joined_all and_or lists lists_all block arm arms arms_all if_command body_of loop_command for_command name name_next expect_in in_next all_words separators separator_next closes_next op_next refusal missing at_last word_next assignment_next assignments reserved_of reserved assignment name_in name_of is_in_word pieces step bare dollar braced inside front word_front
 file_calls = refl
+
+-- a call that runs one of two files leads to both
+two_called : called_by with_files board (File (codes "k")) ≡ codes "g" ∷ codes "f" ∷ []
+unfolding whole script command simple keyword next behind sees expect joined joined_all and_or lists lists_all block arm arms arms_all if_command body_of loop_command for_command name name_next expect_in in_next all_words separators separator_next closes_next op_next refusal missing at_last word_next assignment_next assignments reserved_of reserved assignment name_in name_of is_in_word pieces step bare dollar braced inside front word_front
+two_called = refl

@@ -6,7 +6,7 @@ use Rattle.envimage.specs.Data.{Pair}
 use Rattle.envtools.specs.Environment.{value_of}
 use Rattle.hushlang.specs.Tree.{Script, Empty, Runs, AndOr, Starts, Joined, Alone, Joins, Command, Simple, Assign, If, Loop, For, Arms, NoElse, Else, Arm, Word}
 use Rattle.hushlang.specs.declared.token.SyntaxError.{SyntaxError}
-use Rattle.hushcheck.specs.Calls.{NotFollowed, Reading, SetsMore, after_arms, after_call, after_command, after_file, after_joined, after_list, after_name, after_operand, after_script, after_sets, after_value, after_word, after_words, begun, files_by_read, files_by_value, find, find_lacking, is_lacking, set_name, skip}
+use Rattle.hushcheck.specs.Calls.{NotFollowed, Reading, SetsMore, after_arms, after_call, after_command, after_files, after_joined, after_list, after_name, after_operand, after_script, after_sets, after_value, after_word, after_words, begun, files_by_read, files_by_value, find, find_lacking, is_lacking, set_name, skip}
 use Rattle.hushcheck.specs.CallSets.{Sets, behind_options, none, set_by_call, set_by_env, set_by_words, set_to_value, takes_names, with_more, with_set}
 use Rattle.hushcheck.specs.Names.{Text, is_run, read_by, run_by_value, written_out}
 use Rattle.hushcheck.specs.Order.{IsOrder, Turn, Variable, File, called_by, files_in, once, run_by, text_of, variables_in}
@@ -16,7 +16,7 @@ use Rattle.envtools.specs.Environment.{same}
 -- ---- what a call sets by its words runs no file
 
 abbrev IsQuiet : Sets → Type 0
-IsQuiet s = s.runs ≡ None
+IsQuiet s = s.runs ≡ []
 
 quiet-if : (b : Bool) (x y : Sets) → IsQuiet x → IsQuiet y → IsQuiet (if b then x else y)
 quiet-if true x y p q = p
@@ -66,12 +66,12 @@ plain-name : (r : Reading) (name : Option Text) → IsPlain r → IsPlain (after
 plain-name r None p = p
 plain-name r (Some name) p = plain-if (is_lacking r.devices name) (find_lacking name r) r p p
 
-plain-file : (runs : Option Text) (r : Reading) → runs ≡ None → IsPlain r → IsPlain (after_file runs r)
-plain-file None r e p = p
-plain-file (Some name) r e p = absurd cc
+plain-files : (runs : List Text) (r : Reading) → runs ≡ [] → IsPlain r → IsPlain (after_files runs r)
+plain-files [] r e p = (p.0, ap (λ files. files ++ []) p.1)
+plain-files (name ∷ names) r e p = absurd cc
 
 plain-sets : (s : Sets) (r : Reading) → IsQuiet s → IsPlain r → IsPlain (after_sets s r)
-plain-sets s r quiet p = plain-file s.runs _ quiet (sets s.more)
+plain-sets s r quiet p = plain-files s.runs (record (if s.more then find SetsMore r else r) { sets = r.sets ++ s.names }) quiet (sets s.more)
   where
     sets : (more : Bool) → IsPlain (record (if more then find SetsMore r else r) { sets = r.sets ++ s.names })
     sets true = p

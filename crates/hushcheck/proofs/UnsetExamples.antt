@@ -21,10 +21,10 @@ use Rattle.hushcheck.specs.Unset.{used_by_text}
 -- ---- calls
 
 abbrev known : List Text → Sets
-known names = record { names = names; more = false; runs = None }
+known names = record { names = names; more = false; runs = [] }
 
 abbrev unknown : Sets
-unknown = record { names = []; more = true; runs = None }
+unknown = record { names = []; more = true; runs = [] }
 
 abbrev word : Text → Word
 word bytes = Bytes bytes ∷ []
@@ -61,7 +61,7 @@ held_command = refl
 -- ---- a device list: a variable, the second word of a call, and its last one
 
 abbrev effect : List Setting → Effect
-effect sets = record { ends = None; stays = false; always = None; needs = []; normal = false; runs = None; sets = sets }
+effect sets = record { ends = None; stays = false; always = None; needs = []; normal = false; runs = []; sets = sets }
 
 abbrev list : Devices
 list = record {
@@ -70,6 +70,7 @@ list = record {
   calls = [];
   known = [];
   test_stays = false;
+  choices = [];
   files = [];
 }
 
@@ -80,7 +81,7 @@ by_words : set_by_call (Some list) (Some (codes "part")) (word (codes "uuid") �
 by_words = refl
 
 -- a word that holds a variable, and a word that is not there
-by_held : set_by_call (Some list) (Some (codes "part")) (word (codes "uuid") ∷ word (codes "a") ∷ held ∷ []) ≡ record { names = codes "a" ∷ []; more = true; runs = None }
+by_held : set_by_call (Some list) (Some (codes "part")) (word (codes "uuid") ∷ word (codes "a") ∷ held ∷ []) ≡ record { names = codes "a" ∷ []; more = true; runs = [] }
 by_held = refl
 
 by_none : set_by_call (Some list) (Some (codes "part")) (word (codes "uuid") ∷ []) ≡ known (codes "uuid" ∷ [])
@@ -89,9 +90,9 @@ by_none = refl
 -- ---- a pattern with a variable: it fits the word that is this variable, and no word with further bytes
 
 abbrev patterns : Devices
-patterns = record list { calls = (codes "source", (record { words = Exactly (codes "${x}") ∷ []; more = false }, record (effect []) { runs = Some (codes "boot.scr") }) ∷ []) ∷ [] }
+patterns = record list { calls = (codes "source", (record { words = Exactly (codes "${x}") ∷ []; more = false }, record (effect []) { runs = codes "boot.scr" ∷ [] }) ∷ []) ∷ [] }
 
-runs_held : set_by_call (Some patterns) (Some (codes "source")) (held ∷ []) ≡ record { names = []; more = false; runs = Some (codes "boot.scr") }
+runs_held : set_by_call (Some patterns) (Some (codes "source")) (held ∷ []) ≡ record { names = []; more = false; runs = codes "boot.scr" ∷ [] }
 runs_held = refl
 
 runs_none : set_by_call (Some patterns) (Some (codes "source")) ((Bytes (codes "0") ∷ held) ∷ []) ≡ known []
@@ -121,7 +122,7 @@ in_readings : by_import (codes "get") (codes "a=1\nb=\r\n") ≡ Some (known (cod
 in_readings = refl
 
 -- `env import` may set others
-imports_more : by_import (codes "env") (codes "a=1\n") ≡ Some (record { names = codes "a" ∷ []; more = true; runs = None })
+imports_more : by_import (codes "env") (codes "a=1\n") ≡ Some (record { names = codes "a" ∷ []; more = true; runs = [] })
 imports_more = refl
 
 -- ---- whole texts, in an environment that has `a`

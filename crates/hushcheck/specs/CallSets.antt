@@ -1,5 +1,5 @@
--- What a call sets, and which file's text runs after it, as far as its words say it. That `setenv`, `setexpr` and `env` set
--- variables, and how their words name these, is U-Boot's (doc/usage/cmd/env, doc/usage/cmd/setexpr). What other commands set,
+-- What a call sets, and of which files the text may run after it, as far as its words say it. That `setenv`, `setexpr` and
+-- `env` set variables, and how their words name these, is U-Boot's (doc/usage/cmd/env, doc/usage/cmd/setexpr). What other commands set,
 -- and what runs after them, is what the device list says. That a word with a variable names nothing that is known is ours.
 use Rattle.std.specs.Prelude.{◌-◌, ◌||◌, ◌++◌, ◌∷◌, Bool, true, false, List, [], length, map, slice_get, Option, Some, None, codes, if◌then◌else◌}
 use Rattle.std.specs.List.{fold}
@@ -10,14 +10,14 @@ use Rattle.device_list.specs.DeviceList.{Devices, Effect, LeftSide, Variable, Wo
 use Rattle.hushcheck.specs.Names.{Text, written_out}
 use Rattle.hushcheck.specs.Seats.{starts_with}
 
--- the names that are set, and whether there are others that are not known; and the file whose text runs, if there is one
+-- the names that are set, and whether there are others that are not known; and the files of which the text of one runs
 pub record Sets : Type 0 where
   pub names : List Text
   pub more : Bool
-  pub runs : Option Text
+  pub runs : List Text
 
 abbrev pub none : Sets
-none = record { names = []; more = false; runs = None }
+none = record { names = []; more = false; runs = [] }
 
 abbrev pub with_more : Sets → Sets
 with_more s = record s { more = true }

@@ -108,14 +108,13 @@ abbrev pub after_name : Reading → Option Text → Reading
 after_name r None = r
 after_name r (Some name) = if is_lacking r.devices name then find_lacking name r else r
 
--- the file whose text runs after the call, if there is one
-abbrev pub after_file : Option Text → Reading → Reading
-after_file None r = r
-after_file (Some name) r = record r { files = r.files ++ name ∷ [] }
+-- the files of which the text of one runs after the call: each of them counts
+abbrev pub after_files : List Text → Reading → Reading
+after_files names r = record r { files = r.files ++ names }
 
--- what the call sets, and that file
+-- what the call sets, and these files
 abbrev pub after_sets : Sets → Reading → Reading
-after_sets s r = after_file s.runs (record (if s.more then find SetsMore r else r) { sets = r.sets ++ s.names })
+after_sets s r = after_files s.runs (record (if s.more then find SetsMore r else r) { sets = r.sets ++ s.names })
 
 -- a call that is not of `run`
 abbrev pub after_call : Reading → Word → List Word → Reading

@@ -1,10 +1,9 @@
-//! What a call sets, and which file's text runs after it, as far as its words say it.
+//! What a call sets, and of which files the text may run after it, as far as its words say it.
 ghost use Rattle.std.specs.Prelude.{◌≡◌, ◌++◌, map, option_map, Some, IfOk, OnOk};
 ghost use Rattle.std.specs.List.{fold};
 ghost use Rattle.std.specs.Option.{option_copied};
 ghost use Rattle.device_list.specs.DevicesShown.{left_shown, right_shown, setting_shown};
 ghost use Rattle.hushlang.specs.TreesShown as view;
-ghost use Rattle.text.specs.TextsShown.{option_bytes};
 ghost use Rattle.hushcheck.specs.CallSets as spec;
 ghost use Rattle.hushcheck.specs.CallSetsShown as shown;
 ghost use Rattle.hushcheck.specs.Names.{written_out};
@@ -15,6 +14,7 @@ use device_list::{Devices, LeftSide, RightSide, Setting};
 use hushlang::{Piece, Word};
 use std::alloc::{AllocError, Global};
 use std::marker::Model;
+use text::copied_words;
 
 /// The words of a call, as far as they are written out. Errors: memory ran out.
 fn written_words(alloc: Global, words: &[Word]) -> Result<Vec<Option<Vec<u8>>>, AllocError>
@@ -110,8 +110,8 @@ pub(crate) struct Sets {
     pub(crate) names: Vec<Vec<u8>>,
     /// Whether there are others, which are not known.
     pub(crate) more: bool,
-    /// The file whose text runs after the call, if there is one.
-    pub(crate) runs: Option<Vec<u8>>,
+    /// The files of which the text of one runs after the call.
+    pub(crate) runs: Vec<Vec<u8>>,
 }
 
 impl Model for Sets {
@@ -123,7 +123,7 @@ impl Model for Sets {
     ghost view = { λ s. record {
       names = shown.names_shown s.names.items;
       more = s.more;
-      runs = shown.written s.runs;
+      runs = shown.names_shown s.runs.items;
     } };
 }
 
@@ -136,7 +136,7 @@ impl Sets {
             alloc,
             names: Vec::new(alloc),
             more: false,
-            runs: None,
+            runs: Vec::new(alloc),
         }
     }
 
@@ -283,18 +283,15 @@ impl Sets {
         Ok(())
     }
 
-    /// Keeps the file whose text runs. Errors: memory ran out.
-    fn keep_file(&mut self, file: Option<&[u8]>) -> Result<(), AllocError>
-        ensures { OnOk result (self.new ≡ record self.old { runs = option_bytes file.entry }) }
+    /// Keeps copies of the names of the files of which the text of one runs. Errors: memory ran out.
+    fn keep_files(&mut self, files: &[Vec<u8>]) -> Result<(), AllocError>
+        ensures { OnOk result (self.new ≡ record self.old { runs = shown.names_shown files.now }) }
     {
-        self.runs = match file {
-            Some(file) => Some(Vec::from_slice(self.alloc, file)?),
-            None => None,
-        };
+        self.runs = copied_words(self.alloc, files)?;
         Ok(())
     }
 
-    /// Adds what the device list says that a call sets and which file's text runs after it, of a call whose
+    /// Adds what the device list says that a call sets and of which files the text may run after it, of a call whose
     /// words are written out as far as they are. Errors: memory ran out.
     fn add_by_list(
         &mut self,
@@ -312,7 +309,7 @@ impl Sets {
         match devices.effect(command, &parts) {
             Some(effect) => {
                 self.add_settings(written, effect.sets)?;
-                self.keep_file(effect.runs)
+                self.keep_files(effect.runs)
             }
             None => Ok(()),
         }

@@ -4,7 +4,6 @@ ghost use Rattle.std.specs.Option.{option_copied};
 ghost use Rattle.hushlang.specs.CursorShown.{input_in};
 ghost use Rattle.hushlang.specs.TreesShown as view;
 ghost use Rattle.hushcheck.specs.CallSets.{set_by_call};
-ghost use Rattle.hushcheck.specs.CallSetsShown.{written};
 ghost use Rattle.hushcheck.specs.Calls as spec;
 ghost use Rattle.hushcheck.specs.Remarks as shown;
 
@@ -182,36 +181,27 @@ impl<'a> Reading<'a> {
         Ok(())
     }
 
-    /// Keeps the file whose text runs, if there is one. Errors: memory ran out.
-    fn keep_file(&mut self, file: Option<Vec<u8>>) -> Result<(), AllocError>
-        ensures { OnOk result (self.new ≡ spec.after_file (written file) self.old) }
-    {
-        if let Some(file) = file {
-            self.files.push(file)?;
-        }
-        Ok(())
-    }
-
-    /// Keeps what is set, and the file whose text runs, and adds that others are set, if there are. Errors:
-    /// memory ran out.
+    /// Keeps what is set, and the files of which the text of one runs, and adds that others are set, if there
+    /// are. Errors: memory ran out.
     fn keep_sets(&mut self, sets: Sets) -> Result<(), AllocError>
         ensures { OnOk result (self.new ≡ spec.after_sets sets self.old) }
     {
         let Sets {
             mut names,
             more,
-            runs,
+            mut runs,
             ..
         } = sets;
         self.sets.append(&mut names)?;
         if more {
             self.find(Remark::SetsMore)?;
         }
-        self.keep_file(runs)
+        self.files.append(&mut runs)?;
+        Ok(())
     }
 
-    /// Keeps what a call sets with these words behind its first one, and the file whose text runs after it.
-    /// Errors: memory ran out.
+    /// Keeps what a call sets with these words behind its first one, and the files of which the text of one runs
+    /// after it. Errors: memory ran out.
     pub(crate) fn keep_call(
         &mut self,
         alloc: Global,
