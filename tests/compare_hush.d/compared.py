@@ -183,7 +183,7 @@ def few(most, listing):
 
 def compare_few(scripts, shell):
     """ubtool's listings with --failures beside the runs of a shell's listings in which so few fail."""
-    alike = [it for it in scripts if it.ours == theirs(shell, it.number) and " normal 1" not in it.devices]
+    alike = [it for it in scripts if it.ours == theirs(shell, it.number) and not re.search(" normal 1|^or call", it.devices, re.M)]
     for it in alike:
         for most in FAILURES:
             same(f"--failures {most}, {shell}: {it.block}", differences(few(most, theirs(shell, it.number)), it.few[most]), "")

@@ -14,8 +14,9 @@
  *   SHELL is `old` or, in a U-Boot that has it, `modern`.
  * - `scripted COUNT DEVICES SHELL LIST` does so by a device list in the form of docs/RUNNING.md: U-Boot has the
  *   commands of the list then, beside those of the shell, and no other. The text of a record is what `echo` writes,
- *   and no message. A call of which the list does not speak ends the run. After a success of a call that names a
- *   file, its text runs, as `source` runs it, from the folder N.files. If N.words is there, it has the words of
+ *   and no message. A call of which the list does not speak ends the run. After a success of a call that names
+ *   files, the text of one runs, as `source` runs it, from the folder N.files: a question is asked of each but the
+ *   last. If N.words is there, it has the words of
  *   the runs, a line each. If LIST is not there, an image has its own, N.LIST, or else none.
  *
  * Three endings are U-Boot's own: `broken`, if a run reads or writes where nothing is; `panic`, if the modern shell
@@ -53,7 +54,7 @@ void (*signal(int number, void (*handler)(int)))(int);
 
 enum {
 	LONGEST_WORD = 1001, LARGEST_TEXT = 0x40000, LARGEST_NAME = 256, SECONDS = 20, BAD_ADDRESS = 11,
-	MOST_LINES = 800, MOST_WORDS = 24,
+	MOST_LINES = 800, MOST_WORDS = 24, MOST_FILES = 4,
 	/* As far as U-Boot looks for the end of a text that it imports, and more. */
 	IMPORT_ROOM = 0x200000,
 	/* The greatest CONFIG_SYS_MAXARGS of a board. */
@@ -69,8 +70,8 @@ struct device_line {
 	/* how a success ends the run, and a space; NULL if it does not */
 	const char *ends;
 	bool steady, call;
-	/* the file whose text runs after a success, and the one whose variables it sets; NULL if there is none */
-	const char *runs, *imports;
+	/* the files of which the text of one runs after a success, and the one whose variables it sets; NULL if there is none */
+	const char *runs[MOST_FILES + 1], *imports;
 	char always, *needs, *needs_word, *name, *sub, *pattern[MOST_WORDS + 1], *settings[MOST_WORDS + 1];
 };
 
@@ -387,12 +388,22 @@ static char *text_of(const char *name, int *size)
 	return copy;
 }
 
-/* Runs the text of a file, as `source` does. */
-static int run_file(const char *file)
+/*
+ * Runs the text of a file, as `source` does: the first of several that a question finds, which is asked of each but the last, and
+ * once in a run.
+ */
+static int run_file(const char *const *files)
 {
 	char name[LARGEST_NAME], *script;
+	const char *file;
 	int size, status;
 
+	for (file = *files; files[1]; file = *++files) {
+		char *const words[] = { "runs", (char *)file };
+
+		if (!ask(2, words, true, 0, 0))
+			break;
+	}
 	snprintf(name, sizeof(name), "%d.files/%s", image_number, file);
 	script = text_of(name, &size);
 	if (!script)
@@ -466,7 +477,7 @@ static int do_listed(struct cmd_tbl *cmdtp, int flag, int argc, char *const argv
 			import_file(line->imports, argc, argv);
 		if (line->ends)
 			end_run(line->ends, argv[0]);
-		return line->runs ? run_file(line->runs) : 0;
+		return *line->runs ? run_file(line->runs) : 0;
 	}
 	for (line = lines; line < end_of_lines; line++)
 		sub |= speaks(line, true, argc, argv);
@@ -611,6 +622,31 @@ static char *filled(char *word)
 	return strdup(made);
 }
 
+/* Reads the words of a line `or call`: it adds a file to those of the last `call` line with the same name and pattern. */
+static void read_or(char *const *words)
+{
+	struct device_line *line = end_of_lines;
+	const char **file;
+
+	while (line-- > lines) {
+		char *const *word = words + 1, *const *pattern = line->pattern;
+
+		if (!line->call || strcmp(line->name, *words))
+			continue;
+		while (*pattern && !strcmp(*pattern, filled(*word)))
+			pattern++, word++;
+		if (*pattern || strcmp(*word, ":"))
+			continue;
+		for (file = line->runs; *file; file++)
+			;
+		if (file == line->runs || file == line->runs + MOST_FILES)
+			fail("a line `or` that adds to none");
+		*file = word[2];
+		return;
+	}
+	fail("a line `or` that adds to none");
+}
+
 /* Reads the words of a `call` line: its name and pattern, `:`, and what it says of these calls. */
 static void read_call(struct device_line *line, char **at)
 {
@@ -628,7 +664,7 @@ static void read_call(struct device_line *line, char **at)
 		else if (!strcmp(*at, "always"))
 			line->always = **++at;
 		else if (!strcmp(*at, "runs"))
-			line->runs = *++at;
+			*line->runs = *++at;
 		else if (!strcmp(*at, "imports"))
 			line->imports = *++at;
 		else if (!strcmp(*at, "normal"))
@@ -662,6 +698,10 @@ static void read_line(char *row)
 	if (!strcmp(*at, "known") && at[1] && !at[2]) {
 		strlcat(known_names, at[1], sizeof(known_names));
 		strlcat(known_names, " ", sizeof(known_names));
+		return;
+	}
+	if (!strcmp(*at, "or") && at[1] && !strcmp(at[1], "call")) {
+		read_or(at + 2);
 		return;
 	}
 	end_of_lines++;
