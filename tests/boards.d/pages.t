@@ -55,7 +55,7 @@ of open questions
 
 of a script
   $ sed -n '/^## A script in a file/,/^#### Debian/p' "$page" | calls
-  3
+  4
   $ cmp found shown
 
 of a menu

@@ -131,3 +131,13 @@ a variable in a pattern, which fits a word that is this variable
   fi
   ^
   [1]
+
+a call that may run one of two files leads to both
+  $ printf 'load\ncall source ** : runs boot.cmd\nor call source ** : runs one.cmd\n' >list; printf 'true\n' >card/boot.cmd; printf 'fi\n' >card/one.cmd
+  $ checked 'bootcmd=source 5'
+  bootcmd: ok
+  boot.cmd: ok
+  one.cmd:1:1: unexpected token
+  fi
+  ^
+  [1]
