@@ -4,7 +4,7 @@ What the first screen of the README and docs/REHEARSAL.md show, call by call.
 
   $ mkdir path; ln -s "$UBTOOL" path/ubtool; ln -s "$HUSHCHECK" path/hushcheck
   $ for board in rpi_4 sheevaplug warp7; do lines_image $board <"$repository/share/boards/$board.env"; done
-  $ ln -s "$repository/share" share; cat share/devices/* >devices.txt
+  $ ln -s "$repository/share" share; ln -s "$repository/tests" tests; cat share/devices/* >devices.txt
   $ page=$repository/docs/REHEARSAL.md
 
 How many calls a text shows, which write what it shows; and a block of the page between two lines.
@@ -84,6 +84,21 @@ of a real board
   $ sed -n '/^## A real board/,/^## What/p' "$page" | calls
   2
   $ cmp found shown
+
+of two slots
+  $ sed -n '/^## What two slots do/,/^## What is proved/p' "$page" | calls
+  1
+  $ cmp found shown
+
+the verdict on a script, by the calls of the README
+  $ mkdir recipe; ln -s "$repository/share" recipe/share; printf 'kernel_addr_r=0x80000\n' >recipe/env.txt
+  $ boots='booti ${kernel_addr_r}'
+  $ printf 'load mmc 0:1 ${kernel_addr_r} Image && %s; load mmc 1:1 ${kernel_addr_r} Image && %s\n' "$boots" "$boots" >recipe/boot.cmd
+  $ grep '^\(hushcheck\|ubtool causes\) --script boot.cmd' "$repository/README.md" >calls; wc -l <calls
+  2
+  $ (cd recipe && PATH=$PWD/../path:$PATH sh -eu ../calls)
+  boot.cmd: ok
+  it boots
 
 the lines of a flow
   $ ubtool endings -c rpi_4.config -d devices.txt --flow >flow
