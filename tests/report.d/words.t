@@ -48,6 +48,9 @@ what ubtool refuses
   $ echo 'call load ** : normal 1' >normal; marked report --text a.env -d normal -o a.html
   ! report: no page of a list with normal 1
   [1]
+  $ printf 'call load : runs f\nor call load : runs g\n' >or; marked report --text a.env -d or -o a.html
+  ! report: no page of a list with or call
+  [1]
   $ ls | grep html
   [1]
 
