@@ -100,6 +100,16 @@ the verdict on a script, by the calls of the README
   boot.cmd: ok
   it boots
 
+the script on the card, by the variable in which the board has its address
+  $ mkdir -p card; printf 'load mmc 0:1 ${kernel_addr_r} Image && booti ${kernel_addr_r}\n' >card/boot.cmd
+  $ handed() {
+  >     { echo "call source $1 : runs boot.cmd"; cat devices.txt; } >it.list
+  >     ubtool endings --text share/boards/rpi_4.env -d it.list --files card --shell old-2023.01 --states 2000000 | cksum
+  > }
+  $ handed '**' >wanted; handed '${scriptaddr}' | cmp - wanted
+  $ handed 0x1 | cmp -s - wanted
+  [1]
+
 the lines of a flow
   $ ubtool endings -c rpi_4.config -d devices.txt --flow >flow
   $ grep -c "Its flow has $(wc -l <flow) lines" "$page"
