@@ -1,5 +1,5 @@
 -- Worked examples of lines `or`, computed.
-use Rattle.std.proofs.Common.{◌≡◌, ℕ, true, false, List, [], ◌∷◌, ◌++◌, length, map, Some, None, Ok, Err, refl}
+use Rattle.std.proofs.Common.{◌≡◌, ℕ, true, false, List, [], ◌∷◌, ◌++◌, drop, length, map, Some, None, Ok, Err, refl}
 use Rattle.std.specs.Prelude.{codes}
 use Rattle.text.specs.Lines.{Text}
 use Rattle.device_list.specs.CallLines.{FileText, Files, Pattern, Exactly, Starting}
@@ -118,6 +118,13 @@ asked_of files = elim (listed_with card (many (codes "call source ** : runs a.sc
 eight : map asked_of ((codes "a.scr" ∷ codes "a.scr" ∷ codes "a.scr" ∷ codes "a.scr" ∷ codes "a.scr" ∷ codes "a.scr" ∷ codes "a.scr" ∷ codes "b.scr" ∷ []) ∷ (codes "a.scr" ∷ codes "a.scr" ∷ codes "a.scr" ∷ codes "a.scr" ∷ codes "a.scr" ∷ codes "a.scr" ∷ codes "a.scr" ∷ codes "b.scr" ∷ codes "c.scr" ∷ []) ∷ [])
     ≡ 8 ∷ 100 ∷ []
 eight = refl
+
+-- of a list with more, the first eight count
+abbrev nine : Devices
+nine = record two { choices = codes "b.scr" ∷ codes "b.scr" ∷ codes "b.scr" ∷ codes "b.scr" ∷ codes "b.scr" ∷ codes "b.scr" ∷ codes "b.scr" ∷ codes "b.scr" ∷ codes "a.scr" ∷ [] }
+
+first_eight : map (λ (skipped : ℕ). is_choice (record nine { choices = drop skipped nine.choices }) (codes "runs" ∷ codes "a.scr" ∷ [])) (0 ∷ 1 ∷ []) ≡ false ∷ true ∷ []
+first_eight = refl
 
 -- of the last file no question is asked
 questions : map (λ (words : List Text). effect_of two (codes "runs") words) ((codes "a.scr" ∷ []) ∷ (codes "b.scr" ∷ []) ∷ [] ∷ (codes "a.scr" ∷ codes "x" ∷ []) ∷ [])
