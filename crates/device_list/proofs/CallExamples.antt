@@ -3,7 +3,7 @@ use Rattle.std.proofs.Common.{◌≡◌, true, false, List, [], ◌∷◌, map, 
 use Rattle.std.specs.Prelude.{codes}
 use Rattle.text.specs.Lines.{Text}
 use Rattle.device_list.specs.declared.finish.BoardEnd.TheVariants.{Boots, Restarts, Halts}
-use Rattle.device_list.specs.Called.{sets_in}
+use Rattle.device_list.specs.Called.{Value, sets_in}
 use Rattle.device_list.specs.CallLines.{Exactly, Starting, Pattern, fits}
 use Rattle.device_list.specs.DeviceList.{Setting, Variable, WordAt, LastWord, Literal, ValueAt, LastValue, Effect, Devices, only, effect_of, fails_normally, is_listed, listed, all_steady}
 use Rattle.device_list.specs.DeviceLaws.{quiet}
@@ -316,11 +316,11 @@ named = refl
 -- ---- values in a call
 
 sets_words : sets_in (codes "addr" ∷ codes "40" ∷ codes "r" ∷ []) ((Variable (codes "a"), ValueAt 1) ∷ (Variable (codes "b"), LastValue) ∷ (WordAt 2, ValueAt 0) ∷ [])
-    ≡ (codes "a", Some (codes "40")) ∷ (codes "b", Some (codes "r")) ∷ (codes "r", Some (codes "addr")) ∷ []
+    ≡ (codes "a", Value (codes "40")) ∷ (codes "b", Value (codes "r")) ∷ (codes "r", Value (codes "addr")) ∷ []
 sets_words = refl
 
 -- a word that is not there sets nothing
-no_word : sets_in (codes "addr" ∷ []) ((Variable (codes "a"), ValueAt 1) ∷ (Variable (codes "b"), Literal (codes "1")) ∷ []) ≡ (codes "b", Some (codes "1")) ∷ []
+no_word : sets_in (codes "addr" ∷ []) ((Variable (codes "a"), ValueAt 1) ∷ (Variable (codes "b"), Literal (codes "1")) ∷ []) ≡ (codes "b", Value (codes "1")) ∷ []
 no_word = refl
 
 no_words : sets_in [] ((Variable (codes "a"), LastValue) ∷ []) ≡ []

@@ -3,7 +3,7 @@ use Rattle.std.proofs.Common.{◌≡◌, true, false, [], ◌∷◌, ◌++◌, S
 use Rattle.std.specs.Prelude.{codes}
 use Rattle.text.specs.Lines.{Text}
 use Rattle.device_list.specs.declared.finish.BoardEnd.TheVariants.{Boots, Restarts, Halts}
-use Rattle.device_list.specs.Called.{sets_in}
+use Rattle.device_list.specs.Called.{Value, sets_in}
 use Rattle.device_list.specs.DeviceList.{Variable, WordAt, LastWord, Literal, Effect, Devices, only, effect_of, listed}
 use Rattle.device_list.specs.PlainList.{plain_names}
 use Rattle.device_list.specs.declared.devices_error.DevicesError.TheVariants.{BadLine, BuiltIn, ByteOrderMark}
@@ -384,7 +384,7 @@ by_no_line = refl
 
 -- ---- what a call sets
 
-sets_the_last_word : sets_in (codes "list" ∷ codes "mmc" ∷ codes "v" ∷ []) ((LastWord, Literal (codes "1")) ∷ (WordAt 0, Literal (codes "2")) ∷ (Variable (codes "a"), Literal []) ∷ []) ≡ (codes "v", Some (codes "1")) ∷ (codes "list", Some (codes "2")) ∷ (codes "a", Some []) ∷ []
+sets_the_last_word : sets_in (codes "list" ∷ codes "mmc" ∷ codes "v" ∷ []) ((LastWord, Literal (codes "1")) ∷ (WordAt 0, Literal (codes "2")) ∷ (Variable (codes "a"), Literal []) ∷ []) ≡ (codes "v", Value (codes "1")) ∷ (codes "list", Value (codes "2")) ∷ (codes "a", Value []) ∷ []
 sets_the_last_word = refl
 
 -- a word that the call does not have, or that is not the name of a variable

@@ -14,7 +14,7 @@ use Rattle.device_list.specs.Finishes.{finish_named}
 use Rattle.device_list.specs.declared.finish.BoardEnd.{BoardEnd}
 use Rattle.device_list.specs.Quotes.{unquoted}
 use Rattle.text.specs.Words.{is_equals}
-use Rattle.device_list.specs.CallLines.{Clauses, Call, Files, Pattern, has_answer, is_decided, is_plain, once, with_finish, with_first_word, with_needed, with_new, with_setting, no_clause, pattern_of, taken, with_clause, clauses_of, call_with, call_between, call_parts, call_line, call_said, words_said, is_call, is_of_test, has_quote, lacks_colon, colon_place}
+use Rattle.device_list.specs.CallLines.{Clauses, Call, Files, Pattern, has_answer, is_decided, is_plain, is_saving, with_saving, once, with_finish, with_first_word, with_needed, with_new, with_setting, no_clause, pattern_of, taken, with_clause, clauses_of, call_with, call_between, call_parts, call_line, call_said, words_said, is_call, is_of_test, has_quote, lacks_colon, colon_place}
 use Rattle.device_list.specs.DeviceList.{Effect, Devices, DeviceLine, only, with_files, with_known, after_known, is_or, further_in, goes_on, with_or, after_call, after_words, after_line, listed_lines, joined_by, device_words, begins_comment, known_named, is_steady_test, line_of, heading_of, most_choices, with_choice}
 use Rattle.device_list.specs.DeviceLaws.{FilesChangeNothing}
 use Rattle.device_list.proofs.JoinedLines.{ok-same}
@@ -67,25 +67,27 @@ module _ (files : Files) where
 
   new-same : (clauses : Clauses) (word : Text) (next : Clauses) → with_new [] clauses word ≡ Some next → with_new files clauses word ≡ Some next
   new-same clauses word next e =
-      by (bytes_eq word (codes "steady")) (bytes_eq word (codes "always")) (bytes_eq word (codes "normal")) (bytes_eq word (codes "runs")) (bytes_eq word (codes "imports")) (bytes_eq word (codes "needs")) e
+      by (bytes_eq word (codes "steady")) (bytes_eq word (codes "always")) (bytes_eq word (codes "normal")) (bytes_eq word (codes "runs")) (bytes_eq word (codes "imports")) (bytes_eq word (codes "saves")) (bytes_eq word (codes "needs")) e
     where
-      new : Files → (a b c d f g : Bool) → Option Clauses
-      new given a b c d f g =
+      new : Files → (a b c d f s g : Bool) → Option Clauses
+      new given a b c d f s g =
           cond a (once clauses.effect.stays (record clauses { effect = record clauses.effect { stays = true } }))
           (cond b (once (has_answer clauses.effect) (record clauses { awaited = Status }))
           (cond c (once (has_answer clauses.effect) (record clauses { awaited = Expected }))
           (cond d (once (is_decided clauses.effect) (record clauses { awaited = File }))
           (cond f (Some (record clauses { awaited = Import }))
-          (cond g (once (not (length clauses.effect.needs == 0)) (record clauses { awaited = Name })) (with_finish given clauses (finish_named word) word))))))
+          (cond s (once (list_any is_saving clauses.effect.sets) (with_saving clauses))
+          (cond g (once (not (length clauses.effect.needs == 0)) (record clauses { awaited = Name })) (with_finish given clauses (finish_named word) word)))))))
 
-      by : (a b c d f g : Bool) → new [] a b c d f g ≡ Some next → new files a b c d f g ≡ Some next
-      by true b c d f g h = h
-      by false true c d f g h = h
-      by false false true d f g h = h
-      by false false false true f g h = h
-      by false false false false true g h = h
-      by false false false false false true h = h
-      by false false false false false false h = finish-same clauses (finish_named word) word next h
+      by : (a b c d f s g : Bool) → new [] a b c d f s g ≡ Some next → new files a b c d f s g ≡ Some next
+      by true b c d f s g h = h
+      by false true c d f s g h = h
+      by false false true d f s g h = h
+      by false false false true f s g h = h
+      by false false false false true s g h = h
+      by false false false false false true g h = h
+      by false false false false false false true h = h
+      by false false false false false false false h = finish-same clauses (finish_named word) word next h
 
   first-same : (clauses : Clauses) (word : Text) (next : Clauses) → with_first_word [] clauses word ≡ Some next → with_first_word files clauses word ≡ Some next
   first-same clauses word next e = by (is_plain word) e

@@ -6,6 +6,7 @@ use Rattle.std.specs.Map.{values_of}
 use Rattle.indexmap.specs.Layout.{set_value_at}
 use Rattle.text.specs.Lines.{Text}
 use Rattle.device_list.specs.CallLines.{Pattern, filled_line}
+use Rattle.device_list.specs.Saving.{saved_line, saving}
 use Rattle.device_list.specs.DevicesShown.{Bytes}
 use Rattle.device_list.specs.CommandsShown.{lines_shown, calls_shown}
 use Rattle.device_list.specs.declared.call_line.CallLine.{CallLine}
@@ -35,26 +36,29 @@ module _ {X S : Type 0} (shown : X → S) (f : S → S) where
 abbrev Named : Type 0
 Named = Text × List (Pattern × Effect)
 
+abbrev pub named_with : (Pattern × Effect → Pattern × Effect) → Named → Named
+named_with f c = (c.0, map f c.1)
+
 abbrev pub named_filled : (values : Text → Option Text) → Named → Named
-named_filled values c = (c.0, map (filled_line values) c.1)
+named_filled values = named_with (filled_line values)
 
 abbrev named_steady : Named → Named
 named_steady c = (c.0, steady_effects c.1)
 
 -- one more name
-named-step : (values : Text → Option Text) (es : List (Bytes × Vec CallLine Global)) (i : ℕ) (l w : Vec CallLine Global) → slice_get (values_of es) i ≡ Some l → lines_shown w ≡ map (filled_line values) (lines_shown l)
-    → done (named_filled values) (calls_shown (set_value_at es i w)) (suc i) ≡ done (named_filled values) (calls_shown es) i
-named-step values [] i l w there e = absurd (let f = there in cc)
-named-step values (d ∷ es) zero l w there e =
-    let same : l ≡ d.1 = let f : ◌≡◌ {A = Option (Vec CallLine Global)} (Some d.1) (Some l) = there in cc in
-    ap (λ (lines : List (Pattern × Effect)). let named : Named = (d.0.items, lines) in named ∷ map (named_filled values) (calls_shown es)) (e ∙ ap (λ (v : Vec CallLine Global). map (filled_line values) (lines_shown v)) same)
-named-step values (d ∷ es) (suc i) l w there e =
-    ap (λ (rest : List Named). let named : Named = (d.0.items, lines_shown d.1) in named ∷ rest) (named-step values es i l w there e)
+named-step : (f : Pattern × Effect → Pattern × Effect) (es : List (Bytes × Vec CallLine Global)) (i : ℕ) (l w : Vec CallLine Global) → slice_get (values_of es) i ≡ Some l → lines_shown w ≡ map f (lines_shown l)
+    → done (named_with f) (calls_shown (set_value_at es i w)) (suc i) ≡ done (named_with f) (calls_shown es) i
+named-step f [] i l w there e = absurd (let g = there in cc)
+named-step f (d ∷ es) zero l w there e =
+    let same : l ≡ d.1 = let g : ◌≡◌ {A = Option (Vec CallLine Global)} (Some d.1) (Some l) = there in cc in
+    ap (λ (lines : List (Pattern × Effect)). let named : Named = (d.0.items, lines) in named ∷ map (named_with f) (calls_shown es)) (e ∙ ap (λ (v : Vec CallLine Global). map f (lines_shown v)) same)
+named-step f (d ∷ es) (suc i) l w there e =
+    ap (λ (rest : List Named). let named : Named = (d.0.items, lines_shown d.1) in named ∷ rest) (named-step f es i l w there e)
 
-pub named-done : (values : Text → Option Text) (es : List (Bytes × Vec CallLine Global)) (i : ℕ) (l w : Vec CallLine Global) → slice_get (values_of es) i ≡ Some l → lines_shown w ≡ map (filled_line values) (lines_shown l)
-    → done (named_filled values) (calls_shown (set_value_at es i w)) (i + 1) ≡ done (named_filled values) (calls_shown es) i
-named-done values es i l w there e =
-    let n : i + 1 ≡ suc i = omega arith in ap (done (named_filled values) (calls_shown (set_value_at es i w))) n ∙ named-step values es i l w there e
+pub named-done : (f : Pattern × Effect → Pattern × Effect) (es : List (Bytes × Vec CallLine Global)) (i : ℕ) (l w : Vec CallLine Global) → slice_get (values_of es) i ≡ Some l → lines_shown w ≡ map f (lines_shown l)
+    → done (named_with f) (calls_shown (set_value_at es i w)) (i + 1) ≡ done (named_with f) (calls_shown es) i
+named-done f es i l w there e =
+    let n : i + 1 ≡ suc i = omega arith in ap (done (named_with f) (calls_shown (set_value_at es i w))) n ∙ named-step f es i l w there e
 
 -- ---- a list that is steady
 
@@ -62,13 +66,17 @@ swapped : {A : Type 0} (f g : A → A) → ((x : A) → f (g x) ≡ g (f x)) →
 swapped f g same [] = refl
 swapped f g same (x ∷ xs) = λ i. same x i ∷ swapped f g same xs i
 
-module _ (values : Text → Option Text) where
-  lines-steady : (lines : List (Pattern × Effect)) → steady_effects (map (filled_line values) lines) ≡ map (filled_line values) (steady_effects lines)
-  lines-steady = swapped (λ line. (line.0, steady_effect line.1)) (filled_line values) (λ line. refl)
+module _ (f : Pattern × Effect → Pattern × Effect) (with_f : (line : Pattern × Effect) → (let s : Pattern × Effect = ((f line).0, steady_effect (f line).1) in s) ≡ f (line.0, steady_effect line.1)) where
+  lines-steady : (lines : List (Pattern × Effect)) → steady_effects (map f lines) ≡ map f (steady_effects lines)
+  lines-steady = swapped (λ line. (line.0, steady_effect line.1)) f with_f
 
-  calls-steady : (calls : List Named) → map named_steady (map (named_filled values) calls) ≡ map (named_filled values) (map named_steady calls)
-  calls-steady = swapped named_steady (named_filled values) (λ c. ap (λ (lines : List (Pattern × Effect)). let named : Named = (c.0, lines) in named) (lines-steady c.1))
+  pub calls-steady : (calls : List Named) → map named_steady (map (named_with f) calls) ≡ map (named_with f) (map named_steady calls)
+  calls-steady = swapped named_steady (named_with f) (λ c. ap (λ (lines : List (Pattern × Effect)). let named : Named = (c.0, lines) in named) (lines-steady c.1))
 
-  pub steady-filled : (steady : Bool) (devices : Devices) → steady_if steady (filled values devices) ≡ filled values (steady_if steady devices)
-  steady-filled true devices = let same = calls-steady devices.calls in cc
-  steady-filled false devices = refl
+pub steady-filled : (values : Text → Option Text) (steady : Bool) (devices : Devices) → steady_if steady (filled values devices) ≡ filled values (steady_if steady devices)
+steady-filled values true devices = let same = calls-steady (filled_line values) (λ line. refl) devices.calls in cc
+steady-filled values false devices = refl
+
+pub steady-saving : (names : List Text) (steady : Bool) (devices : Devices) → steady_if steady (saving names devices) ≡ saving names (steady_if steady devices)
+steady-saving names true devices = let same = calls-steady (saved_line names) (λ line. refl) devices.calls in cc
+steady-saving names false devices = refl

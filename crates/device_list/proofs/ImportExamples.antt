@@ -3,7 +3,7 @@ use Rattle.std.proofs.Common.{◌≡◌, Bool, true, false, List, [], ◌∷◌,
 use Rattle.std.specs.Prelude.{codes}
 use Rattle.std.specs.Fmt.{digits}
 use Rattle.text.specs.Lines.{Text}
-use Rattle.device_list.specs.Called.{sets_in}
+use Rattle.device_list.specs.Called.{Value, Unset, sets_in}
 use Rattle.device_list.specs.CallLines.{FileText, Files}
 use Rattle.device_list.specs.DeviceList.{Devices, Effect, Setting, Imported, Variable, Literal, Deleted, listed, listed_with, with_files}
 use Rattle.device_list.specs.DeviceLaws.{quiet}
@@ -141,10 +141,10 @@ other_calls = refl
 abbrev sets_of : Text → List Setting
 sets_of text = elim (imported text) [ None ↦ [] | Some sets ↦ sets ]
 
-sets_and_deletes : sets_in (import (codes "-t" ∷ codes "40" ∷ [])) (sets_of (codes "a=1\nb\na=2")) ≡ (codes "a", Some (codes "1")) ∷ (codes "b", None) ∷ (codes "a", Some (codes "2")) ∷ []
+sets_and_deletes : sets_in (import (codes "-t" ∷ codes "40" ∷ [])) (sets_of (codes "a=1\nb\na=2")) ≡ (codes "a", Value (codes "1")) ∷ (codes "b", Unset) ∷ (codes "a", Value (codes "2")) ∷ []
 sets_and_deletes = refl
 
-sets_what_is_asked : sets_in (import (codes "-t" ∷ codes "40" ∷ codes "9" ∷ codes "a" ∷ [])) (sets_of (codes "a=1\nb\na=2")) ≡ (codes "a", Some (codes "1")) ∷ []
+sets_what_is_asked : sets_in (import (codes "-t" ∷ codes "40" ∷ codes "9" ∷ codes "a" ∷ [])) (sets_of (codes "a=1\nb\na=2")) ≡ (codes "a", Value (codes "1")) ∷ []
 sets_what_is_asked = refl
 
 -- ---- the clause, and sizes

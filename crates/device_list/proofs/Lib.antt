@@ -6,6 +6,7 @@ mod CallExamples
 mod FileExamples
 mod ImportExamples
 mod OrExamples
+mod SavingExamples
 mod FilledExamples
 pub mod MarkLemmas
 pub mod ImportLemmas
@@ -23,3 +24,4 @@ pub mod QuoteLemmas
 pub mod FileLemmas
 pub mod FurtherLemmas
 pub mod FilledLemmas
+pub mod SavingLemmas

@@ -154,13 +154,13 @@ colon_sets (word ∷ words) e =
 abbrev IsCallLine : Text → List Text → Type 0
 IsCallLine first words = (first ≡ codes "call") × (list_any is_colon words ≡ true)
 
-abbrev IsAbsentLine : Text → List Text → Type 0
-IsAbsentLine first words = (first ≡ codes "absent") × ((name : Text) × ((words ≡ name ∷ []) × (list_any is_equals name ≡ false)))
+abbrev IsLoneLine : (kind : Text) → Text → List Text → Type 0
+IsLoneLine kind first words = (first ≡ kind) × ((name : Text) × ((words ≡ name ∷ []) × (list_any is_equals name ≡ false)))
 
 abbrev IsOrLine : Text → List Text → Type 0
 IsOrLine first words = (first ≡ codes "or") × ((rest : List Text) × (words ≡ codes "call" ∷ rest))
 
-call_is : (first : Text) (words : List Text) → is_call first words ≡ true → IsCallLine first words ⊎ (IsAbsentLine first words ⊎ IsOrLine first words)
+call_is : (first : Text) (words : List Text) → is_call first words ≡ true → IsCallLine first words ⊎ ((IsLoneLine (codes "absent") first words ⊎ IsLoneLine (codes "saves") first words) ⊎ IsOrLine first words)
 call_is first [] e = absurd (let f = e in cc)
 call_is first (word ∷ words) e = by (bytes_eq first (codes "call")) refl (bytes_eq first (codes "or")) refl e
   where
@@ -169,15 +169,20 @@ call_is first (word ∷ words) e = by (bytes_eq first (codes "call")) refl (byte
     lone (w ∷ ws) f = absurd (let g = f in cc)
 
     by : (b : Bool) → bytes_eq first (codes "call") ≡ b → (o : Bool) → bytes_eq first (codes "or") ≡ o
-        → cond b (list_any is_colon (word ∷ words)) (cond o (bytes_eq word (codes "call") && list_any is_colon words) (bytes_eq first (codes "absent") && is_lone word words)) ≡ true
-        → IsCallLine first (word ∷ words) ⊎ (IsAbsentLine first (word ∷ words) ⊎ IsOrLine first (word ∷ words))
+        → cond b (list_any is_colon (word ∷ words)) (cond o (bytes_eq word (codes "call") && list_any is_colon words) ((bytes_eq first (codes "absent") || bytes_eq first (codes "saves")) && is_lone word words)) ≡ true
+        → IsCallLine first (word ∷ words) ⊎ ((IsLoneLine (codes "absent") first (word ∷ words) ⊎ IsLoneLine (codes "saves") first (word ∷ words)) ⊎ IsOrLine first (word ∷ words))
     by true is o of f = inl ((bytes_decides first (codes "call")).0 is, f)
     by false is true of f =
         let both = and_parts (bytes_eq word (codes "call")) (list_any is_colon words) f in
         inr (inr ((bytes_decides first (codes "or")).0 of, (words, ap (λ (w : Text). w ∷ words) ((bytes_decides word (codes "call")).0 both.0))))
     by false is false of f =
-        let both = and_parts (bytes_eq first (codes "absent")) (is_lone word words) f in
-        inr (inl ((bytes_decides first (codes "absent")).0 both.0, lone words both.1))
+        let both = and_parts (bytes_eq first (codes "absent") || bytes_eq first (codes "saves")) (is_lone word words) f in
+        inr (inl (either (bytes_eq first (codes "absent")) refl both.0 (lone words both.1)))
+      where
+        either : (b : Bool) → bytes_eq first (codes "absent") ≡ b → (b || bytes_eq first (codes "saves")) ≡ true → (name : Text) × ((word ∷ words ≡ name ∷ []) × (list_any is_equals name ≡ false))
+            → IsLoneLine (codes "absent") first (word ∷ words) ⊎ IsLoneLine (codes "saves") first (word ∷ words)
+        either true is g alone = inl ((bytes_decides first (codes "absent")).0 is, alone)
+        either false is g alone = inr ((bytes_decides first (codes "saves")).0 g, alone)
 
 call_heading : (words : List Text) → heading_of (codes "call") words ≡ named None false (codes "call") words
 call_heading [] = refl
@@ -195,9 +200,12 @@ calls_are_bad number first words e =
           (λ i. line_of number (heading_of (call.0 i) words))
           ∙ ap (line_of number) (call_heading words)
           ∙ ap (line_with number (named None false (codes "call") words)) (colon_sets words call.1)
-      | inr (inl absent) ↦
+      | inr (inl (inl absent)) ↦
           let bad : line_of number (heading_of (codes "absent") (absent.1.0 ∷ [])) ≡ Err (BadLine number) = named_is_bad number None false (codes "absent") absent.1.0 [] absent.1.1.1 in
           (λ i. line_of number (heading_of (absent.0 i) (absent.1.1.0 i))) ∙ bad
+      | inr (inl (inr saves)) ↦
+          let bad : line_of number (heading_of (codes "saves") (saves.1.0 ∷ [])) ≡ Err (BadLine number) = named_is_bad number None false (codes "saves") saves.1.0 [] saves.1.1.1 in
+          (λ i. line_of number (heading_of (saves.0 i) (saves.1.1.0 i))) ∙ bad
       | inr (inr further) ↦
           (λ i. line_of number (heading_of (further.0 i) (further.1.1 i)))
           ∙ ap (line_of number) (or_heading further.1.0)
@@ -208,7 +216,8 @@ pub calls_are_not_known : (first : Text) (words : List Text) → is_call first w
 calls_are_not_known first words e =
     elim (call_is first words e) [
       | inl call ↦ (λ i. known_named (call.0 i) words) ∙ none (codes "call") words refl
-      | inr (inl absent) ↦ (λ i. known_named (absent.0 i) words) ∙ none (codes "absent") words refl
+      | inr (inl (inl absent)) ↦ (λ i. known_named (absent.0 i) words) ∙ none (codes "absent") words refl
+      | inr (inl (inr saves)) ↦ (λ i. known_named (saves.0 i) words) ∙ none (codes "saves") words refl
       | inr (inr further) ↦ (λ i. known_named (further.0 i) words) ∙ none (codes "or") words refl
     ]
   where
@@ -221,7 +230,8 @@ pub calls_are_no_test : (first : Text) (words : List Text) → is_call first wor
 calls_are_no_test first words e =
     elim (call_is first words e) [
       | inl call ↦ (λ i. is_steady_test (call.0 i) words) ∙ no (codes "call") words refl
-      | inr (inl absent) ↦ (λ i. is_steady_test (absent.0 i) words) ∙ no (codes "absent") words refl
+      | inr (inl (inl absent)) ↦ (λ i. is_steady_test (absent.0 i) words) ∙ no (codes "absent") words refl
+      | inr (inl (inr saves)) ↦ (λ i. is_steady_test (saves.0 i) words) ∙ no (codes "saves") words refl
       | inr (inr further) ↦ (λ i. is_steady_test (further.0 i) words) ∙ no (codes "or") words refl
     ]
   where

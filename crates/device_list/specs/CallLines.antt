@@ -12,7 +12,7 @@ use Rattle.device_list.specs.declared.clauses.Awaited.{Awaited}
 use Rattle.device_list.specs.declared.clauses.Awaited.TheVariants.{Clause, Status, Name, FirstWord, Expected, File, Import}
 use Rattle.device_list.specs.Imports.{imported}
 pub use Rattle.device_list.specs.Settings.{FileText, Files}
-use Rattle.device_list.specs.Settings.{Setting, Effect, call_setting}
+use Rattle.device_list.specs.Settings.{Setting, LeftSide, Variable, WordAt, LastWord, Imported, Saving, Deleted, Effect, call_setting}
 use Rattle.device_list.specs.Finishes.{finish_named}
 use Rattle.device_list.specs.declared.finish.BoardEnd.{BoardEnd}
 use Rattle.device_list.specs.Quotes.{is_quote, quoted_words}
@@ -141,6 +141,21 @@ with_setting clauses None = None
 with_setting clauses (Some set) =
     Some (record clauses { effect = record clauses.effect { sets = clauses.effect.sets ++ set ∷ [] } })
 
+-- whether a setting stands for all that is saved
+abbrev pub saves_side : LeftSide → Bool
+saves_side (Variable name) = false
+saves_side (WordAt place) = false
+saves_side LastWord = false
+saves_side (Imported name reading first) = false
+saves_side Saving = true
+
+abbrev pub is_saving : Setting → Bool
+is_saving set = saves_side set.0
+
+-- the environment is saved, after all settings of the line
+abbrev pub with_saving : Clauses → Clauses
+with_saving clauses = record clauses { effect = record clauses.effect { sets = clauses.effect.sets ++ (Saving, Deleted) ∷ [] } }
+
 -- a clause that stands at most once
 abbrev pub once : (before : Bool) → (after : Clauses) → Option Clauses
 once true after = None
@@ -176,14 +191,15 @@ with_new files clauses word =
     else (if bytes_eq word (codes "normal") then once (has_answer clauses.effect) (record clauses { awaited = Expected })
     else (if bytes_eq word (codes "runs") then once (is_decided clauses.effect) (record clauses { awaited = File })
     else (if bytes_eq word (codes "imports") then Some (record clauses { awaited = Import })
+    else (if bytes_eq word (codes "saves") then once (list_any is_saving clauses.effect.sets) (with_saving clauses)
     else (if bytes_eq word (codes "needs")
     then once (not (length clauses.effect.needs == 0)) (record clauses { awaited = Name })
-    else with_finish files clauses (finish_named word) word)))))
+    else with_finish files clauses (finish_named word) word))))))
 
 -- the words of clauses
 abbrev pub is_clause_word : (word : Text) → Bool
 is_clause_word word = is_some (finish_named word)
-    || (list_any (bytes_eq word) (codes "steady" ∷ codes "always" ∷ codes "needs" ∷ codes "normal" ∷ codes "runs" ∷ codes "imports" ∷ []))
+    || (list_any (bytes_eq word) (codes "steady" ∷ codes "always" ∷ codes "needs" ∷ codes "normal" ∷ codes "runs" ∷ codes "imports" ∷ codes "saves" ∷ []))
 
 abbrev pub has_special : (word : Text) → Bool
 has_special word = list_any is_star word || (list_any is_quote word || list_any is_equals word)
@@ -314,11 +330,16 @@ call_line files number words =
 abbrev pub absent_words : (words : List Text) → List Text
 absent_words words = words ++ codes "**" ∷ codes ":" ∷ codes "always" ∷ codes "1" ∷ []
 
+-- `saves NAME` is `call NAME ** : saves`
+abbrev pub saves_words : (words : List Text) → List Text
+saves_words words = words ++ codes "**" ∷ codes ":" ∷ codes "saves" ∷ []
+
 -- the words behind `call`, or behind `or call`
 abbrev pub words_said : (line first : Text) → (words : List Text) → List Text
 words_said line first words =
     if bytes_eq first (codes "call") then drop 1 (quoted_words line)
-    else (if bytes_eq first (codes "or") then drop 2 (quoted_words line) else absent_words words)
+    else (if bytes_eq first (codes "or") then drop 2 (quoted_words line)
+    else (if bytes_eq first (codes "saves") then saves_words words else absent_words words))
 
 -- what a line of calls says
 abbrev pub call_said : Files → ℕ → (line first : Text) → (words : List Text) → Result Call DevicesError
@@ -388,10 +409,10 @@ abbrev pub is_lone : (name : Text) → (words : List Text) → Bool
 is_lone name [] = not (list_any is_equals name)
 is_lone name (word ∷ words) = false
 
--- `call` with a `:` among its words, `or call` with one, or `absent` with one word that is no setting
+-- `call` with a `:` among its words, `or call` with one, or `absent` or `saves` with one word that is no setting
 abbrev pub is_call : (first : Text) → (words : List Text) → Bool
 is_call first [] = false
 is_call first (word ∷ words) =
     if bytes_eq first (codes "call") then list_any is_colon (word ∷ words)
     else (if bytes_eq first (codes "or") then bytes_eq word (codes "call") && list_any is_colon words
-    else bytes_eq first (codes "absent") && is_lone word words)
+    else (bytes_eq first (codes "absent") || bytes_eq first (codes "saves")) && is_lone word words)

@@ -3,7 +3,7 @@ use Rattle.std.specs.Prelude.{◌-◌, cond, List, [], ◌∷◌, ◌++◌, leng
 use Rattle.builtins.specs.Builtins.{builtin_of}
 use Rattle.commands.specs.BuiltInCommands.{Deed, ChangesVariables, carried, deed_of}
 use Rattle.device_list.specs.Imports.{takes}
-use Rattle.device_list.specs.DeviceList.{LeftSide, Variable, WordAt, LastWord, Imported, RightSide, Literal, ValueAt, LastValue, Deleted, Setting, Effect, Devices, effect_of, computed_by}
+use Rattle.device_list.specs.DeviceList.{LeftSide, Variable, WordAt, LastWord, Imported, Saving, RightSide, Literal, ValueAt, LastValue, Deleted, CopyOf, Setting, Effect, Devices, effect_of, computed_by}
 use Rattle.rehearse_terms.specs.State.{Text}
 use Rattle.commands.specs.VariableNames.{is_bad_name}
 
@@ -24,23 +24,31 @@ variable_of (Variable name) words = Some name
 variable_of (WordAt place) words = named_by (slice_get words place)
 variable_of LastWord words = named_by (slice_get words (length words - 1))
 variable_of (Imported name reading first) words = cond (takes words name reading first) (Some name) None
+variable_of Saving words = None
 
--- the value that the right side of a setting means in a call with these words: none, if the variable is deleted
-abbrev pub value_of : RightSide → List Text → Option (Option Text)
-value_of (Literal text) words = Some (Some text)
-value_of (ValueAt place) words = option_map Some (slice_get words place)
-value_of LastValue words = option_map Some (slice_get words (length words - 1))
-value_of Deleted words = Some None
+-- what a setting makes of its variable: this value, or a copy of another variable; or it is deleted
+pub data NewValue : Type 0 where
+  Value : Text → NewValue
+  Copied : Text → NewValue
+  Unset : NewValue
+
+-- what the right side of a setting means in a call with these words
+abbrev pub value_of : RightSide → List Text → Option NewValue
+value_of (Literal text) words = Some (Value text)
+value_of (ValueAt place) words = option_map Value (slice_get words place)
+value_of LastValue words = option_map Value (slice_get words (length words - 1))
+value_of Deleted words = Some Unset
+value_of (CopyOf name) words = Some (Copied name)
 
 -- what one setting sets or deletes
-abbrev pub set_in : Option Text → Option (Option Text) → List (Text × Option Text)
+abbrev pub set_in : Option Text → Option NewValue → List (Text × NewValue)
 set_in None value = []
 set_in (Some name) None = []
 set_in (Some name) (Some value) = (name, value) ∷ []
 
 -- what a call with these words sets and deletes, in order; a word that names no variable sets nothing, nor does a word that is not
 -- there
-abbrev pub sets_in : List Text → List Setting → List (Text × Option Text)
+abbrev pub sets_in : List Text → List Setting → List (Text × NewValue)
 sets_in words [] = []
 sets_in words (set ∷ sets) = set_in (variable_of set.0 words) (value_of set.1 words) ++ sets_in words sets
 

@@ -10,7 +10,7 @@ use Rattle.text.specs.Lines.{Text}
 use Rattle.builtins.specs.Builtins.{is_built_in}
 use Rattle.commands.specs.KnownCommands.{known_of}
 use Rattle.commands.specs.Computed.{Computed, computes}
-pub use Rattle.device_list.specs.Settings.{LeftSide, Variable, WordAt, LastWord, Imported, RightSide, Literal, ValueAt, LastValue, Deleted, Setting, Effect, is_variable, is_decimal, word_of_call, left_side, setting, settings}
+pub use Rattle.device_list.specs.Settings.{LeftSide, Variable, WordAt, LastWord, Imported, Saving, RightSide, Literal, ValueAt, LastValue, Deleted, CopyOf, Setting, Effect, is_variable, is_decimal, word_of_call, left_side, setting, settings}
 pub use Rattle.device_list.specs.CallLines.{Pattern, Call, FileText, Files, first_fitting, word_alone, filled_line, further_lines, call_said, is_call}
 use Rattle.device_list.specs.Finishes.{finish_named, first_finish}
 use Rattle.device_list.specs.declared.finish.BoardEnd.{BoardEnd}

@@ -22,12 +22,14 @@ left_shown (sides.Variable name) = says.Variable name.items
 left_shown (sides.WordAt place) = says.WordAt place
 left_shown sides.LastWord = says.LastWord
 left_shown (sides.Imported name reading first) = says.Imported name.items reading first
+left_shown sides.Saving = says.Saving
 
 abbrev pub right_shown : RightSide → settings.RightSide
 right_shown (rights.Literal text) = settings.Literal text.items
 right_shown (rights.ValueAt place) = settings.ValueAt place
 right_shown rights.LastValue = settings.LastValue
 right_shown rights.Deleted = settings.Deleted
+right_shown (rights.CopyOf name) = settings.CopyOf name.items
 
 abbrev pub setting_shown : Setting → says.Setting
 setting_shown s = (left_shown s.left, right_shown s.value)

@@ -6,6 +6,7 @@ pub mod CallLines
 pub mod DeviceList
 pub mod Finishes
 pub mod Called
+pub mod Saving
 pub mod CommandsShown
 pub mod DeviceLaws
 pub mod DevicesShown

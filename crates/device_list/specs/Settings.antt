@@ -13,19 +13,22 @@ use Rattle.device_list.specs.declared.finish.BoardEnd.{BoardEnd}
 use Rattle.device_list.specs.declared.setting.Reading.{Reading}
 
 -- the left side of a setting: a variable, or the word of the call that names it; words are counted from 0, or it is the
--- last; or a variable of a text that is imported, with its reading, and whether it is the first entry of this name there
+-- last; or a variable of a text that is imported, with its reading, and whether it is the first entry of this name there; or
+-- the environment is saved here (Saving.antt)
 pub data LeftSide : Type 0 where
   Variable : Text → LeftSide
   WordAt : ℕ → LeftSide
   LastWord : LeftSide
   Imported : Text → Reading → (first : Bool) → LeftSide
+  Saving : LeftSide
 
--- the right side: a text, or a word of the call; or the variable is deleted
+-- the right side: a text, or a word of the call; or the variable is deleted; or a copy of a variable
 pub data RightSide : Type 0 where
   Literal : Text → RightSide
   ValueAt : ℕ → RightSide
   LastValue : RightSide
   Deleted : RightSide
+  CopyOf : Text → RightSide
 
 -- what is set, and its value
 abbrev pub Setting : Type 0
@@ -97,6 +100,7 @@ value_of_word (Variable name) = Literal name
 value_of_word (WordAt place) = ValueAt place
 value_of_word LastWord = LastValue
 value_of_word (Imported name reading first) = Literal name
+value_of_word Saving = Deleted
 
 -- what is known of a file: the text that it has as a script, and its size in bytes
 pub record FileText : Type 0 where

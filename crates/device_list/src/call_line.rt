@@ -2,7 +2,7 @@
 ghost use Rattle.std.specs.Prelude.{◌≡◌, map, option_map, IfOk};
 ghost use Rattle.std.specs.List.{list_any};
 ghost use Rattle.commands.specs.TextsShown.{texts};
-ghost use Rattle.device_list.specs.CallLines.{colon_place, call_between, call_parts, call_line, absent_words, call_said, is_call, is_of_test, has_quote, is_colon, is_star, first_fitting};
+ghost use Rattle.device_list.specs.CallLines.{colon_place, call_between, call_parts, call_line, absent_words, saves_words, call_said, is_call, is_of_test, has_quote, is_colon, is_star, first_fitting};
 ghost use Rattle.device_list.specs.CommandsShown.{call_lines_shown, files_shown, found_shown};
 ghost use Rattle.device_list.specs.DeviceListAnswers.{SaysCall};
 
@@ -187,6 +187,18 @@ fn absent_words<'a>(alloc: Global, words: &[&'a [u8]]) -> Result<Vec<&'a [u8]>, 
     Ok(all)
 }
 
+/// The words of the line `call` that a line `saves` stands for.
+fn saves_words<'a>(alloc: Global, words: &[&'a [u8]]) -> Result<Vec<&'a [u8]>, AllocError>
+    ensures { IfOk result (λ all. map (λ w. w.now) all.items
+        ≡ saves_words (map (λ w. w.now) words.now)) }
+{
+    let mut all = Vec::from_slice(alloc, words)?;
+    all.push(b"**".as_slice())?;
+    all.push(b":".as_slice())?;
+    all.push(b"saves".as_slice())?;
+    Ok(all)
+}
+
 /// What a line of calls says. Errors: `BadLine`, `BuiltIn`, `Memory`.
 pub(crate) fn call_said<'a>(
     alloc: Global,
@@ -212,12 +224,16 @@ pub(crate) fn call_said<'a>(
         };
         return call_line(alloc, files, number, behind);
     }
+    if first == b"saves".as_slice() {
+        let words = saves_words(alloc, behind)?;
+        return call_line(alloc, files, number, &words);
+    }
     let words = absent_words(alloc, behind)?;
     call_line(alloc, files, number, &words)
 }
 
-/// Whether a line is one of calls: `call` with a `:` among its words, `or call` with one, or `absent` with one
-/// word that is no setting.
+/// Whether a line is one of calls: `call` with a `:` among its words, `or call` with one, or `absent` or `saves`
+/// with one word that is no setting.
 pub(crate) fn is_call(first: &[u8], behind: &[&[u8]]) -> bool
     ensures { result ≡ is_call first.now (map (λ w. w.now) behind.now) }
 {
@@ -226,7 +242,9 @@ pub(crate) fn is_call(first: &[u8], behind: &[&[u8]]) -> bool
         [word, rest @ ..] if first == b"or".as_slice() => {
             *word == b"call".as_slice() && has_colon(rest)
         }
-        [name] => first == b"absent".as_slice() && !has_equals(name),
+        [name] => {
+            (first == b"absent".as_slice() || first == b"saves".as_slice()) && !has_equals(name)
+        }
         _ => false,
     }
 }

@@ -1,6 +1,7 @@
 //! The clauses of a list's lines of calls.
 ghost use Rattle.std.specs.Prelude.{◌≡◌, not, true, map, option_map, IfOk, OnOk};
-ghost use Rattle.device_list.specs.CallLines.{answer_of, clauses_of, has_answer, is_decided, effect_said, is_clause_word, imported_file, is_plain, has_special, may_end, no_clause, with_clause, with_file, with_first_word, with_import, with_name, with_needed, with_new};
+ghost use Rattle.std.specs.List.{list_any};
+ghost use Rattle.device_list.specs.CallLines.{answer_of, clauses_of, has_answer, is_decided, is_saving, effect_said, is_clause_word, imported_file, is_plain, has_special, may_end, no_clause, once, with_clause, with_file, with_first_word, with_import, with_name, with_needed, with_new, with_saving};
 ghost use Rattle.device_list.specs.DevicesShown.{settings_shown};
 ghost use Rattle.device_list.specs.CommandsShown.{clauses_shown, files_shown, listed_shown, text_shown, IsTaken};
 
@@ -12,7 +13,8 @@ use crate::finish::{BoardEnd, finish_named};
 use crate::imports::imported;
 use crate::listed::Listed;
 use crate::quotes::has_quote;
-use crate::setting::{Setting, call_setting};
+use crate::saving::are_saving;
+use crate::setting::{LeftSide, RightSide, Setting, call_setting};
 use builtins::is_built_in;
 use std::alloc::{AllocError, Global};
 
@@ -70,6 +72,7 @@ fn is_clause_word(word: &[u8]) -> bool
         || word == b"normal".as_slice()
         || word == b"runs".as_slice()
         || word == b"imports".as_slice()
+        || word == b"saves".as_slice()
 }
 
 /// Whether a word has a byte that no word behind `needs` has.
@@ -251,6 +254,21 @@ impl Clauses {
         self.ends.is_some() || !self.runs.is_empty()
     }
 
+    /// Takes the clause that the environment is saved. Returns whether it was not there before. Errors: memory
+    /// ran out.
+    fn add_saving(&mut self) -> Result<bool, AllocError>
+        ensures { IfOk result (IsTaken (once (list_any is_saving (clauses_shown self.old).effect.sets) (with_saving (clauses_shown self.old))) (clauses_shown self.new)) }
+    {
+        if are_saving(&self.sets) {
+            return Ok(false);
+        }
+        self.sets.push(Setting {
+            left: LeftSide::Saving,
+            value: RightSide::Deleted,
+        })?;
+        Ok(true)
+    }
+
     /// Takes a word that begins a clause. Returns whether it does.
     fn add_new(&mut self, alloc: Global, files: &FileTexts, word: &[u8]) -> Result<bool, AllocError>
         ensures { IfOk result (IsTaken (with_new (files_shown files.now.entries) (clauses_shown self.old) word.now) (clauses_shown self.new)) }
@@ -275,6 +293,9 @@ impl Clauses {
         if word == b"imports".as_slice() {
             self.awaited = Awaited::Import;
             return Ok(true);
+        }
+        if word == b"saves".as_slice() {
+            return self.add_saving();
         }
         if word == b"needs".as_slice() {
             self.awaited = Awaited::Name;

@@ -9,6 +9,7 @@ ghost use Rattle.std.specs.Str.{bytes_eq};
 ghost use Rattle.commands.specs.TextsShown.{texts};
 ghost use Rattle.envtools.specs.Environment.{value_of};
 ghost use Rattle.device_list.specs.NamedPlaces.{at_place};
+ghost use Rattle.device_list.specs.Saving.{saving, saves};
 
 use crate::call_line::{Call, CallLine, call_said, first_fitting, is_call};
 use crate::device_line::{begins_comment, device_words, heading_of, is_steady_test, known_named};
@@ -18,6 +19,7 @@ use crate::filled::fill_calls;
 use crate::finish::first_finish;
 use crate::further::{go_on, question_of};
 use crate::listed::{Effect, Listed};
+use crate::saving::{calls_save, save_calls};
 use crate::setting::settings;
 use builtins::is_built_in;
 use commands::{Computed, computes, known_of};
@@ -154,7 +156,7 @@ fn join(alloc: Global, table: &mut Table, name: &[u8], mut more: Listed) -> Resu
 }
 
 /// What a table has at a place.
-fn value_at<V>(table: &ByName<V>, place: Option<usize>) -> Option<&V>
+pub(crate) fn value_at<V>(table: &ByName<V>, place: Option<usize>) -> Option<&V>
     ensures { option_map (λ v. v.now) result ≡ at_place table.now.entries place }
 {
     let (_, value) = table.get_index(place?)?;
@@ -197,6 +199,20 @@ impl DeviceTables {
         ensures { OnOk result (self.new ≡ filled (value_of env.now) self.old) }
     {
         fill_calls(self.alloc, &mut self.calls, env)
+    }
+
+    /// Has the calls that save set copies of these variables. Errors: memory ran out.
+    pub fn save(&mut self, names: &[&[u8]]) -> Result<(), AllocError>
+        ensures { OnOk result (self.new ≡ saving (map (λ n. n.now) names.now) self.old) }
+    {
+        save_calls(self.alloc, &mut self.calls, names)
+    }
+
+    /// Whether a call of the list saves.
+    pub fn saves(&self) -> bool
+        ensures { result ≡ saves self.now }
+    {
+        calls_save(&self.calls)
     }
 
     /// A list of no command, whose lines may name these files, and whose names will be found by this hash.

@@ -1,5 +1,5 @@
 //! The device list: which commands are device commands, and what each does on success.
-ghost use Rattle.std.specs.Prelude.{◌≡◌, IfOk, IfSome, option_map};
+ghost use Rattle.std.specs.Prelude.{◌≡◌, IfOk, IfSome, map, option_map};
 ghost use Rattle.std.specs.List.{list_any};
 ghost use Rattle.std.specs.Str.{bytes_eq};
 ghost use Rattle.text.specs.TextsShown.{option_bytes};
@@ -11,6 +11,7 @@ ghost use Rattle.device_list.specs.DeviceList as spec;
 ghost use Rattle.device_list.specs.NamedPlaces.{ArePlaced, IsPlaced};
 ghost use Rattle.commands.specs.TextsShown.{texts};
 ghost use Rattle.envtools.specs.Environment.{value_of};
+ghost use Rattle.device_list.specs.Saving.{saving, saves};
 
 use crate::device_tables::{ByName, DeviceTables, FileTexts, Places};
 use crate::devices_error::DevicesError;
@@ -69,7 +70,8 @@ impl Devices {
     /// without an outcome, unless a call of NAME, whose first word is WORD, succeeded before in the run),
     /// `normal 1` (a failure is what is expected of the call), and settings, in any order; there, `VAR=@N`
     /// and `VAR=@last` have a word of the call as the value, and a value may have parts in single quotes,
-    /// with blanks in them. `absent NAME` is `call NAME ** : always 1`. Spaces, tabs and carriage returns
+    /// with blanks in them. `absent NAME` is `call NAME ** : always 1`, and `saves NAME` is `call NAME ** :
+    /// saves`: on success, after its settings, the call saves the environment. Spaces, tabs and carriage returns
     /// round a line are dropped; spaces and tabs separate its words. Lines without a word, and lines that
     /// begin with `#`, are skipped. The first word is the name, unless it is `final` or `steady` and a word
     /// without `=` follows, or `sub` and two such words follow. Each further word is a setting: a variable,
@@ -147,6 +149,33 @@ impl Devices {
             names,
             all_steady,
         })
+    }
+
+    /// The same list, but a call that saves also sets, after its other settings, a copy of each of these variables:
+    /// under the name that `saved_name` makes, `=` and the value, or nothing if the variable is not set. Errors:
+    /// memory ran out.
+    pub fn saving(self, names: &[&[u8]]) -> Result<Self, AllocError>
+        ensures { IfOk result (λ devices. devices ≡ saving (map (λ n. n.now) names.now) self) }
+    {
+        let Devices {
+            mut tables,
+            names: _,
+            all_steady,
+        } = self;
+        tables.save(names)?;
+        let names = tables.names()?;
+        Ok(Devices {
+            tables,
+            names,
+            all_steady,
+        })
+    }
+
+    /// Whether a call of the list saves. Takes no memory.
+    pub fn saves(&self) -> bool
+        ensures { result ≡ saves self.now }
+    {
+        self.tables.saves()
     }
 
     /// Whether a line names a command. Takes no memory.

@@ -18,6 +18,7 @@ mod imports;
 mod listed;
 mod pattern;
 mod quotes;
+mod saving;
 mod setting;
 
 pub use device_tables::FileTexts;
@@ -28,4 +29,5 @@ pub use file_text::FileText;
 pub use finish::BoardEnd;
 pub use import_call::takes;
 pub use listed::Effect;
+pub use saving::{saved_name, saved_of};
 pub use setting::{LeftSide, Reading, RightSide, Setting};

@@ -45,6 +45,8 @@ pub enum LeftSide {
         /// Whether it is the first entry of this name.
         first: bool,
     },
+    /// All that is asked for of the environment that is saved here.
+    Saving,
 }
 
 /// The right side of a setting.
@@ -58,6 +60,8 @@ pub enum RightSide {
     LastValue,
     /// None: the variable is deleted.
     Deleted,
+    /// A copy of this variable.
+    CopyOf(Vec<u8>),
 }
 
 /// What a device command sets on success.
@@ -149,6 +153,7 @@ fn value_of_word(word: LeftSide) -> RightSide
         LeftSide::Variable(name) | LeftSide::Imported { name, .. } => RightSide::Literal(name),
         LeftSide::WordAt(place) => RightSide::ValueAt(place),
         LeftSide::LastWord => RightSide::LastValue,
+        LeftSide::Saving => RightSide::Deleted,
     }
 }
 

@@ -19,7 +19,7 @@ loop-at-preserved c =
           let kept = w.fill_lines.auto.lines ∙ w.deref_mut.ensures.len in
           let said = ap call_lines_shown (with_items_is w.in-Some.lines.now w.fill_lines.new.lines kept) ∙ w.in_ok-fill_lines.ensures ∙ ap (λ lines. map (filled_line values) (call_lines_shown lines)) w.deref_mut.ensures.value in (
             ap (λ m. done (named_filled values) (calls_shown m.entries) (c.loop-at.at + 1)) w.calls-is
-                ∙ named-done values entries c.loop-at.at w.in-Some.lines.now new (sym w.in-Some.ensures.value) said
+                ∙ named-done (filled_line values) entries c.loop-at.at w.in-Some.lines.now new (sym w.in-Some.ensures.value) said
                 ∙ c.loop-at.invariant.0,
             ap (λ m. length m.entries) w.calls-is ∙ length-set_value_at entries c.loop-at.at new ∙ c.loop-at.invariant.1,
           )
