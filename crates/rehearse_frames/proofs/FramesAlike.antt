@@ -11,8 +11,8 @@ use Rattle.rehearse_machine.specs.Came.{Over, settled}
 use Rattle.rehearse_machine.specs.Frames.{Frame, Lists, Linked, IfCondition, LoopCondition, LoopBody, ForBody, RunNames, RunText, CommandEnd, RunFile, FileText, with_file, ChosenFile}
 use Rattle.rehearse_machine.specs.Meaning.{with, first_or_next, full, script, joined_of, arms_of, again, resume, continue}
 use Rattle.rehearse_machine.proofs.MoveMeaning.{continue-dry}
-use Rattle.rehearse_reads.specs.Keys.{Key, Environment, Status, Access, AgreeOn, ReadsWithin, known_after}
-use Rattle.rehearse_reads.specs.Accesses.{turns_accesses, each_accesses, taken_accesses, handing_reads, outcome_writes, modern_accesses, behind, behind_text, sourced_accesses, one_accesses}
+use Rattle.rehearse_reads.specs.Keys.{Key, Environment, Status, Access, AgreeOn, ReadsWithin, all_read, known_after}
+use Rattle.rehearse_reads.specs.Accesses.{turns_accesses, each_accesses, taken_accesses, copied_keys, handing_reads, outcome_writes, modern_accesses, behind, behind_text, sourced_accesses, one_accesses}
 use Rattle.rehearse_reads.specs.Alike as alike
 use Rattle.rehearse_reads.specs.Alike.{AreAbreast, IsAlike}
 use Rattle.rehearse_reads.proofs.AccessLemmas.{within_first, within_then}
@@ -212,7 +212,7 @@ file_alike limits request fs keys s t agree [] within =
 file_alike limits request fs keys s t agree (d ∷ w) within =
     ap (λ (gs : List Frame). continue limits gs (take_outcome request (d ∷ w) (with (d ∷ w) t))) (by request.effect.runs within)
   where
-    by : (runs : List Text) → ReadsWithin keys (handing_reads runs ++ outcome_writes d request) → with_file t.memory.status runs fs ≡ with_file s.memory.status runs fs
+    by : (runs : List Text) → ReadsWithin keys (handing_reads runs ++ (all_read (copied_keys request.effect.sets) ++ outcome_writes d request)) → with_file t.memory.status runs fs ≡ with_file s.memory.status runs fs
     by [] h = refl
     by (name ∷ others) h = ap (λ (n : ℕ). RunFile name others n ∷ fs) (agree Status h.0)
 
@@ -226,4 +226,4 @@ asked_alike limits wanted w request fs keys s t within agree =
     let read : ReadsWithin keys (taken ++ rest) = reads_within keys (taken ++ rest) within in
     subst (λ (c : came.Came). CameAlike limits s.steps t.steps s.log t.log wanted (continue limits below here) c) (sym (file_alike limits request fs keys s t agree w (within_first keys taken rest read)))
     (continue_alike limits s.steps t.steps s.log t.log wanted below (known_after keys taken) here there (within_then keys taken rest read)
-    (take_alike limits s.steps t.steps s.log t.log request w keys (with w s) (with w t) (beside limits keys s t w agree)))
+    (take_alike limits s.steps t.steps s.log t.log request w keys (with w s) (with w t) (beside limits keys s t w agree) (within_first keys taken rest read)))

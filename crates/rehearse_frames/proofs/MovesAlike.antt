@@ -8,7 +8,7 @@ use Rattle.hushlang_shells.specs.TreesByShell.{TextRead, Runs, Fails, Panics, Un
 use Rattle.builtins.specs.Builtins.{Builtin, SetEnv, Run, Test, Echo, True, False, Leave, builtin_of}
 use Rattle.commands.specs.Computed.{Computed}
 use Rattle.commands.specs.BuiltInCommands.{ChangesVariables, carried, deed_of, variables_changed, text_written, echo, setenv}
-use Rattle.device_list.specs.Called.{BuiltIn, Device, NoCommand, called_by, sets_in}
+use Rattle.device_list.specs.Called.{BuiltIn, Device, NoCommand, called_by, NewValue, sets_in}
 use Rattle.device_list.specs.DeviceList.{Effect, effect_of, computed_by, file_in}
 use Rattle.rehearse_terms.specs.Outcomes.{Outcome, Success, Failure}
 use Rattle.rehearse_terms.specs.State.{Text, get, State, LoggedCommand, answer_in}
@@ -21,13 +21,13 @@ use Rattle.rehearse_rules.specs.ByShell.{unread, reads_again, leaves_in, status_
 use Rattle.rehearse_rules.specs.Execution.{Limits, Ending, End, CutDevices, CutSteps, Unknown, Size, Finished, Unsupported, Request, remember, set_status, set_local, begin_turn, status_when, goes, holds, outcome_when, told, told_again, logged, set_environment, assign_local, text_failed, request_of, test_request, for_begun, block_skipped, compound_left, choice_text}
 use Rattle.rehearse_machine.specs.Frames.{Frame, Lists, Linked, IfCondition, LoopCondition, LoopBody, ForBody, RunNames, RunText, Next, Go, Ask, Stop, tell_or_ask, finish_next, leave, leave_run, begin_assign, begin_for, begin_arms, begin_read, begin_text, begin_names, begin_exit, begun_text, fitting, ask, begin_called, begin_fields, counted, begin_command, answered, move, begin_turns, begin_words, CommandEnd, leave_compound, behind_block, begin_simple_call, RunFile, FileText, with_file, leave_file, begin_sourced, begin_file, ChosenFile, begin_one, begin_question}
 use Rattle.rehearse_reads.specs.Keys.{Key, Environment, Local, Status, Access, Reads, Writes, AgreeOn, AreAmong, all_read, ReadsWithin, known_after}
-use Rattle.rehearse_reads.specs.Accesses.{status_written, word_reads, words_reads, setenv_accesses, computed_accesses, needs_reads, told_reads, handing_reads, outcome_writes, outcome_accesses, names_written, sized_accesses, local_accesses, assign_accesses, turn_accesses, nothing_accesses, begun_accesses, modern_accesses}
+use Rattle.rehearse_reads.specs.Accesses.{status_written, word_reads, words_reads, setenv_accesses, computed_accesses, needs_reads, told_reads, copied_keys, handing_reads, outcome_writes, outcome_accesses, names_written, sized_accesses, local_accesses, assign_accesses, turn_accesses, nothing_accesses, begun_accesses, modern_accesses}
 use Rattle.rehearse_reads.specs.Alike.{AreAbreast, IsCutBy}
 use Rattle.rehearse_reads.proofs.AccessLemmas.{within_first, within_then, after_both, read_first, read_then, after_read}
-use Rattle.rehearse_reads.proofs.AbreastLemmas.{near_begun, near_status, near_statuses, near_local, near_assigned, near_logged, near_set, near_computed, near_sets, near_echoed, near_failed}
+use Rattle.rehearse_reads.proofs.AbreastLemmas.{near_begun, near_status, near_statuses, near_local, near_assigned, near_logged, near_set, near_computed, near_sets, near_echoed, near_failed, copied_in, copies_among, still_among}
 use Rattle.rehearse_reads.proofs.SameWords.{fields_agree, turns_agree, assigned_agree}
 use Rattle.rehearse_reads.proofs.AlikeParts.{further_apart}
-use Rattle.rehearse_reads.proofs.AlikeDevices.{told_alike, met_alike}
+use Rattle.rehearse_reads.proofs.AlikeDevices.{told_alike, met_alike, copies_known}
 use Rattle.rehearse_reads.proofs.AlikeLoops.{near_turn, near_for, near_skipped}
 use Rattle.rehearse_machine.proofs.ProgressLemmas.{IsQuiet, either-quiet, assign-quiet, fields-quiet, for-quiet, words-quiet}
 use Rattle.rehearse_frames.specs.MoveAccesses.{of_leaving, of_exit, of_telling, of_beginning_for, of_beginning_arms, of_beginning_read, of_beginning_text, of_beginning_file, of_beginning_names, of_asking, of_listed, of_builtin, of_call, of_fields, of_command, of_move, of_beginning_turns, of_beginning_words, of_leaving_compound, of_simple_call, of_beginning_one, of_beginning_question}
@@ -163,7 +163,7 @@ module _ (limits : Limits) (i j : ℕ) (k l : List LoggedCommand) where
       → with_file t.memory.status request.effect.runs fs ≡ with_file s.memory.status request.effect.runs fs
   same_file outcome request fs known s t near = by request.effect.runs
     where
-      by : (runs : List Text) → ReadsWithin known (handing_reads runs ++ outcome_writes outcome request) → with_file t.memory.status runs fs ≡ with_file s.memory.status runs fs
+      by : (runs : List Text) → ReadsWithin known (handing_reads runs ++ (all_read (copied_keys request.effect.sets) ++ outcome_writes outcome request)) → with_file t.memory.status runs fs ≡ with_file s.memory.status runs fs
       by [] w = refl
       by (name ∷ others) w = ap (λ (n : ℕ). RunFile name others n ∷ fs) (near.keys Status w.0)
 
@@ -173,25 +173,29 @@ module _ (limits : Limits) (i j : ℕ) (k l : List LoggedCommand) where
 
   -- with the same file above the frames of both
   answers_over : (outcome : Outcome) (request : Request) (fs : List Frame) (known : List Key) (s t : State) → Near known s t → with_file t.memory.status request.effect.runs fs ≡ with_file s.memory.status request.effect.runs fs
-      → NextAlike (known_after known (outcome_writes outcome request)) (answered outcome request fs s) (answered outcome request fs t)
-  answers_over Success request fs known s t near e =
-      let sets : List (Text × Option Text) = sets_in request.words request.effect.sets in
+      → AreAmong (copied_keys request.effect.sets) known → NextAlike (known_after known (outcome_writes outcome request)) (answered outcome request fs s) (answered outcome request fs t)
+  answers_over Success request fs known s t near e w =
+      let sets : List (Text × NewValue) = sets_in request.words request.effect.sets in
       let here : State = set_environment sets (logged Success request s) in
       let there : State = set_environment sets (logged Success request t) in
       let after : List Key = known_after (Status ∷ known) (names_written (map (λ e. e.0) sets)) in
       let below : List Frame = with_file s.memory.status request.effect.runs fs in
       subst (λ (gs : List Frame). NextAlike after (finish_next request.effect.ends request.name below here) (finish_next request.effect.ends request.name gs there)) (sym e)
       (finishes after request.effect.ends request.name below here there
-      (near_set limits i j k l (Status ∷ known) (logged Success request s) (logged Success request t) sets (near_logged limits i j k l known s t Success request near)))
-  answers_over Failure request fs known s t near e =
+      (near_set limits i j k l (Status ∷ known) (logged Success request s) (logged Success request t) sets (near_logged limits i j k l known s t Success request near)
+      (still_among known Status (copied_in sets) (copies_among known request.words request.effect.sets w))))
+  answers_over Failure request fs known s t near e w =
       let below : List Frame = with_file s.memory.status request.effect.runs fs in
       subst (λ (gs : List Frame). NextAlike (Status ∷ known) (Go below (logged Failure request s)) (Go gs (logged Failure request t))) (sym e)
       (goes_alike (near_logged limits i j k l known s t Failure request near))
 
   pub answers_alike : (outcome : Outcome) (request : Request) (fs : List Frame) → Moves (answered outcome request fs) (λ s. outcome_accesses outcome request)
   answers_alike outcome request fs known s t near w =
-      after_handing request.effect.runs known (outcome_writes outcome request) (answered outcome request fs s) (answered outcome request fs t)
-      (answers_over outcome request fs known s t near (same_file outcome request fs known s t near w))
+      let keys : List Key = copied_keys request.effect.sets in
+      let writes : List Access = outcome_writes outcome request in
+      after_handing request.effect.runs known (all_read keys ++ writes) (answered outcome request fs s) (answered outcome request fs t)
+      (subst (λ (after : List Key). NextAlike after (answered outcome request fs s) (answered outcome request fs t)) (sym (after_read known keys writes))
+      (answers_over outcome request fs known s t near (same_file outcome request fs known s t near w) (copies_known limits i j k l known request outcome w)))
 
   tells : (o : Option Bool) (request : Request) (fs : List Frame) → Moves (tell_or_ask o request fs) (λ s. of_telling o request)
   tells None request fs known s t near w = asks_alike near

@@ -1,6 +1,8 @@
 -- Outcomes of device commands in a store.
-use Rattle.std.proofs.Common.{ℕ, true, false, List, [], ◌∷◌, ◌++◌, ◌+◌, map, drop, length, get_or, Option, Some, None, Result, refl, sym, ap, subst, ◌∙◌, ◌≡◌, ◌<◌, ◌≤◌, arith}
+use Rattle.std.proofs.Common.{ℕ, true, false, List, [], ◌∷◌, ◌++◌, ◌+◌, map, drop, length, get_or, Option, Some, None, Result, Ok, Err, refl, sym, ap, subst, ◌∙◌, ◌≡◌, ◌<◌, ◌≤◌, arith}
+use Rattle.std.specs.Prelude.{OnOk}
 use Rattle.std.proofs.Math.ListN.{drop_of_length-le}
+use Rattle.std.specs.FinMap as finite
 use Rattle.std.specs.FinMap.{entries}
 use Rattle.device_list.specs.declared.finish.BoardEnd.{BoardEnd}
 use Rattle.hushlang.proofs.ExpandLemmas.{drop_next}
@@ -9,19 +11,20 @@ use Rattle.bootstore_state.specs.Moment.{RunningFrame}
 use Rattle.bootstore_state.specs.Moment as stored
 use Rattle.bootstore_state.specs.Record.{Record, assigned, changed, with_environment, with_device, with_status}
 use Rattle.rehearse_terms.specs.Outcomes.{OutcomeWord, Outcome, Success, Failure}
-use Rattle.device_list.specs.Called.{variable_of, value_of, set_in, sets_in}
+use Rattle.device_list.specs.Called.{NewValue, Value, Copied, Unset, variable_of, value_of, set_in, sets_in}
 use Rattle.device_list.specs.DeviceList as says
+use Rattle.device_list.specs.Saving.{copy_of}
 use Rattle.device_list.specs.DevicesShown.{setting_shown}
 use Rattle.device_list.specs.declared.setting.Setting.{Setting}
-use Rattle.rehearse_terms.specs.State.{Text, Variables, State, LoggedCommand}
+use Rattle.rehearse_terms.specs.State.{Text, Variables, State, LoggedCommand, get, with_value}
 use Rattle.bootstore_state.specs.StoredState.{state_at}
 use Rattle.rehearse_rules.specs.Execution as execution
 use Rattle.rehearse_rules.specs.Execution.{Request, Finished, remember, succeeds, logged, with_all, set_environment, status_after}
-use Rattle.bootstore_state.proofs.StateLemmas.{stored_changes, stored_deletions}
+use Rattle.bootstore_state.proofs.StateLemmas.{stored_values, stored_changes, stored_deletions}
 use Rattle.rehearse_machine.specs.declared.ask.Step.{Step}
 use Rattle.rehearse_machine.specs.declared.ask.Step.TheVariants as steps
 use Rattle.rehearse_machine.specs.Places.{GoOn, StopOn, place_finish, place_taken, place_answered}
-use Rattle.rehearse_machine.specs.MovesShown.{Keeps, Changes, Does, Comes, next_shown, file_above}
+use Rattle.rehearse_machine.specs.MovesShown.{Keeps, Changes, Changed, Does, Comes, next_shown, file_above}
 use Rattle.rehearse_machine.proofs.StoreMoves.{comes_at, comes_after, keeps_both, keeps_change}
 
 -- one setting of a call, and then the others
@@ -29,12 +32,12 @@ set_cons : (words : List Text) (set : says.Setting) (sets : List says.Setting) (
     → with_all (sets_in words (set ∷ sets)) environment ≡ with_all (sets_in words sets) (with_all (sets_in words (set ∷ [])) environment)
 set_cons words set sets environment = by (variable_of set.0 words) (value_of set.1 words)
   where
-    by : (name : Option Text) (value : Option (Option Text)) → with_all (set_in name value ++ sets_in words sets) environment ≡ with_all (sets_in words sets) (with_all (set_in name value ++ []) environment)
+    by : (name : Option Text) (value : Option NewValue) → with_all (set_in name value ++ sets_in words sets) environment ≡ with_all (sets_in words sets) (with_all (set_in name value ++ []) environment)
     by None value = refl
     by (Some name) None = refl
     by (Some name) (Some value) = refl
 
-abbrev in_call : List Text → List Setting → List (Text × Option Text)
+abbrev in_call : List Text → List Setting → List (Text × NewValue)
 in_call words sets = sets_in words (map setting_shown sets)
 
 -- the first i of the settings are made
@@ -74,25 +77,36 @@ all_set words sets i old now past before = (
 )
 
 -- what one setting sets
-abbrev pub environment_with : (set : List (Text × Option Text)) → State → State
+abbrev pub environment_with : (set : List (Text × NewValue)) → State → State
 environment_with set = remember (λ m. record m { environment = with_all (set ++ []) m.environment })
 
--- the variables of a store, with one of them set or deleted
-stored_one : (variables : stored.Variables) (name : Text) (value : Option Text) → entries (assigned variables name value) ≡ execution.changed (entries variables) name value
-stored_one variables name None = stored_deletions variables name
-stored_one variables name (Some value) = stored_changes variables name value
+-- the variables of a store, with one of them set, to this or to a copy, or deleted
+pub stored_value : (variables : stored.Variables) (name value : Text) → entries (assigned variables name (Some value)) ≡ execution.changed (entries variables) name (Value value)
+stored_value variables name value = stored_changes variables name value
+
+pub stored_copy : (variables : stored.Variables) (name other copy : Text) → copy ≡ copy_of (get (entries variables) other) → entries (assigned variables name (Some copy)) ≡ execution.changed (entries variables) name (Copied other)
+stored_copy variables name other copy is = stored_changes variables name copy ∙ ap (with_value (entries variables) name) is
+
+pub stored_unset : (variables : stored.Variables) (name : Text) → entries (assigned variables name None) ≡ execution.changed (entries variables) name Unset
+stored_unset variables name = stored_deletions variables name
+
+-- what a copy of a variable of a store holds
+pub copy_made : (variables : stored.Variables) (name : Text) (found : Option Text) (copy : Text) → found ≡ finite.get variables name → copy ≡ copy_of found → copy ≡ copy_of (get (entries variables) name)
+copy_made variables name found copy is made = made ∙ ap copy_of (is ∙ sym (stored_values variables name))
 
 -- a setting of a variable
-pub sets_one : (words : List Text) (set : says.Setting) (old new : Record) (name : Text) (value : Option Text) → variable_of set.0 words ≡ Some name → value_of set.1 words ≡ Some value → new ≡ changed (with_environment name value) old
-    → Changes old new (λ m. record m { environment = with_all (sets_in words (set ∷ [])) m.environment })
-sets_one words set old new name value named valued made = (
+pub sets_one : (words : List Text) (set : says.Setting) (r : Result (Unit {0}) StoreError) (old new : Record) (name : Text) (value : NewValue) (to : Option Text) → variable_of set.0 words ≡ Some name → value_of set.1 words ≡ Some value
+    → entries (assigned old.present.environment name to) ≡ execution.changed (entries old.present.environment) name value → OnOk r (new ≡ changed (with_environment name to) old)
+    → Changed r old new (λ m. record m { environment = with_all (sets_in words (set ∷ [])) m.environment })
+sets_one words set (Ok done) old new name value to named valued same made = (
   λ w.
       ap (λ (x : Record). state_at x.present w) made
-      ∙ ap (λ (x : Variables). remember (λ m. record m { environment = x }) (state_at old.present w)) (stored_one old.present.environment name value)
+      ∙ ap (λ (x : Variables). remember (λ m. record m { environment = x }) (state_at old.present w)) same
       ∙ sym (λ i. environment_with (set_in (named i) (valued i)) (state_at old.present w)),
   ap (λ (r : Record). r.present.frames) made,
-  subst (Keeps old) (sym made) (keeps_change (with_environment name value) old refl),
+  subst (Keeps old) (sym made) (keeps_change (with_environment name to) old refl),
 )
+sets_one words set (Err e) old new name value to named valued same made = tt
 
 module _ (outcome : Outcome) (request : Request) (old mid late : Record) (entry : LoggedCommand) (words : entry.words ≡ request.name ∷ request.words) (stays : entry.stays ≡ request.effect.stays) (again : entry.again ≡ request.again) (success : succeeds outcome ≡ entry.success) (device : mid ≡ changed (with_device entry) old) (n : ℕ) (code : n ≡ status_after outcome request) (status : late ≡ changed (with_status n) mid) where
   entry_is : entry ≡ record { success = succeeds outcome; words = request.name ∷ request.words; stays = request.effect.stays; again = request.again }
@@ -134,9 +148,9 @@ pub stayed : (ends : Option BoardEnd) (name : Text) (ps : List RunningFrame) (s 
 stayed (Some how) name ps s e = absurd (let f = e in cc)
 stayed None name ps s e = refl
 
-module _ (outcome : Outcome) (request : Request) (old set late : Record) (sets : List (Text × Option Text)) (changes : Changes old set (λ m. record m { environment = with_all sets m.environment })) (here : (w : OutcomeWord) → state_at late.present w ≡ logged outcome request (state_at set.present w)) (frames : late.present.frames ≡ set.present.frames) (keeps : Keeps set late) where
-  here_is : (made : List (Text × Option Text)) → sets ≡ made → (w : OutcomeWord) → state_at late.present w ≡ logged outcome request (set_environment made (state_at old.present w))
-  here_is made s w = here w ∙ ap (logged outcome request) (changes.0 w ∙ ap (λ (x : List (Text × Option Text)). set_environment x (state_at old.present w)) s)
+module _ (outcome : Outcome) (request : Request) (old set late : Record) (sets : List (Text × NewValue)) (changes : Changes old set (λ m. record m { environment = with_all sets m.environment })) (here : (w : OutcomeWord) → state_at late.present w ≡ logged outcome request (state_at set.present w)) (frames : late.present.frames ≡ set.present.frames) (keeps : Keeps set late) where
+  here_is : (made : List (Text × NewValue)) → sets ≡ made → (w : OutcomeWord) → state_at late.present w ≡ logged outcome request (set_environment made (state_at old.present w))
+  here_is made s w = here w ∙ ap (logged outcome request) (changes.0 w ∙ ap (λ (x : List (Text × NewValue)). set_environment x (state_at old.present w)) s)
 
   -- what a success does
   pub success_does : (step : Step) → sets ≡ sets_in request.words request.effect.sets → succeeds outcome ≡ true

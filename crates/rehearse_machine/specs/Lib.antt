@@ -6,6 +6,7 @@ pub mod Meaning
 pub mod MoveCounts
 pub mod AskingCommand
 pub mod MovesShown
+pub mod NewValueShown
 pub mod Exits
 pub mod NextMoves
 pub mod CalledShown

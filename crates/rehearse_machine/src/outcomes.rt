@@ -1,17 +1,23 @@
 //! Outcomes of device commands.
-ghost use Rattle.std.specs.Prelude.{◌≡◌, ◌∷◌, [], false, Some, map, option_map, if◌then◌else◌};
-ghost use Rattle.text.specs.TextsShown.{bytes_of_words, option_bytes};
+ghost use Rattle.std.specs.Prelude.{◌≡◌, ◌∷◌, [], false, map, option_map, IfOk, if◌then◌else◌};
+ghost use Rattle.std.specs.FinMap.{entries};
+ghost use Rattle.text.specs.TextsShown.{bytes_of_words};
+ghost use Rattle.device_list.specs.Called as called;
 ghost use Rattle.device_list.specs.Called.{named_by, variable_of, value_of, sets_in};
 ghost use Rattle.device_list.specs.DevicesShown.{left_shown, right_shown, setting_shown};
+ghost use Rattle.device_list.specs.Saving.{copy_of};
 ghost use Rattle.rehearse_terms.specs.Outcomes.{Outcome};
+ghost use Rattle.rehearse_terms.specs.State.{get};
 ghost use Rattle.rehearse_rules.specs.Execution.{succeeds, with_all};
 ghost use Rattle.device_list.specs.CommandsShown.{lent_effect};
 ghost use Rattle.device_list.specs.DeviceList.{Devices as ListedDevices};
 ghost use Rattle.rehearse_machine.specs.Places.{place_taken, place_answered, place_ask};
 ghost use Rattle.rehearse_machine.specs.MovesShown.{Changed, Comes, request_shown, limits_of};
+ghost use Rattle.rehearse_machine.specs.NewValueShown.{new_value_shown};
 
 use crate::ask::{Ask, Statuses, Step};
 use crate::file_moves::hand_over;
+use crate::new_value::NewValue;
 use crate::told::told;
 use bootstore_state::{LogEntry, Store, StoreError};
 use commands::is_bad_name;
@@ -35,11 +41,16 @@ pub fn answer<'d, S: Store>(
         (place_answered outcome (request_shown ask.entry) (S.record_of store.old).present.frames) }
 {
     hand_over(alloc, store, ask.effect.runs)?;
-    take(store, ask, success)
+    take(alloc, store, ask, success)
 }
 
 /// Gives a device command its outcome, above the frames that are there.
-fn take<'d, S: Store>(store: &mut S, ask: Ask<'d>, success: bool) -> Result<Step<'d>, StoreError>
+fn take<'d, S: Store>(
+    alloc: Global,
+    store: &mut S,
+    ask: Ask<'d>,
+    success: bool,
+) -> Result<Step<'d>, StoreError>
     ensures { (outcome : Outcome) → succeeds outcome ≡ success
         → Comes result (S.record_of store.old) (S.record_of store.new)
         (place_taken outcome (request_shown ask.entry) (S.record_of store.old).present.frames) }
@@ -51,7 +62,7 @@ fn take<'d, S: Store>(store: &mut S, ask: Ask<'d>, success: bool) -> Result<Step
         again,
         statuses,
     } = ask;
-    set_all(store, &words, sets_on(success, effect))?;
+    set_all(alloc, store, &words, sets_on(success, effect))?;
     words.insert(0, name.clone()?)?;
     let stays = effect.stays;
     store.device(LogEntry {
@@ -117,8 +128,13 @@ fn sets_on(success: bool, effect: Effect<'_>) -> &[Setting]
     if success { effect.sets } else { &[] }
 }
 
-/// Sets what a call with these words sets, one setting after another.
-fn set_all<S: Store>(store: &mut S, words: &[Vec<u8>], sets: &[Setting]) -> Result<(), StoreError>
+/// Sets what a call with these words sets, one setting after another. Errors: `Memory`.
+fn set_all<S: Store>(
+    alloc: Global,
+    store: &mut S,
+    words: &[Vec<u8>],
+    sets: &[Setting],
+) -> Result<(), StoreError>
     ensures { Changed result (S.record_of store.old) (S.record_of store.new)
         (λ m. record m {
           environment = with_all
@@ -126,13 +142,19 @@ fn set_all<S: Store>(store: &mut S, words: &[Vec<u8>], sets: &[Setting]) -> Resu
         }) }
 {
     for set in sets {
-        set_one(store, words, set)?;
+        set_one(alloc, store, words, set)?;
     }
     Ok(())
 }
 
-/// Makes one setting in a call with these words: the variable is set or deleted.
-fn set_one<S: Store>(store: &mut S, words: &[Vec<u8>], set: &Setting) -> Result<(), StoreError>
+/// Makes one setting in a call with these words: the variable is set, also to a copy of another
+/// one, or it is deleted. Errors: `Memory`.
+fn set_one<S: Store>(
+    alloc: Global,
+    store: &mut S,
+    words: &[Vec<u8>],
+    set: &Setting,
+) -> Result<(), StoreError>
     ensures { Changed result (S.record_of store.old) (S.record_of store.new)
         (λ m. record m {
           environment = with_all
@@ -145,31 +167,52 @@ fn set_one<S: Store>(store: &mut S, words: &[Vec<u8>], set: &Setting) -> Result<
     let Some(value) = value_of(&set.value, words) else {
         return Ok(());
     };
-    store.set_env(name, value)?;
-    Ok(())
-}
-
-/// The value that the right side of a setting means in a call with these words: none inside, if the
-/// variable is deleted.
-pub fn value_of<'a>(right: &'a RightSide, words: &'a [Vec<u8>]) -> Option<Option<&'a [u8]>>
-    ensures { option_map option_bytes result ≡ value_of (right_shown right.now)
-        (bytes_of_words words.now) }
-{
-    match right {
-        RightSide::Literal(text) => Some(Some(text)),
-        RightSide::ValueAt(place) => bytes_of_word(words.get(*place as usize)),
-        RightSide::LastValue => bytes_of_word(words.last()),
-        RightSide::Deleted => Some(None),
+    match value {
+        NewValue::Value(text) => store.set_env(name, Some(text)),
+        NewValue::Copied(other) => {
+            let copy = copy_of(alloc, store, other)?;
+            store.set_env(name, Some(&copy))
+        }
+        NewValue::Unset => store.set_env(name, None),
     }
 }
 
-/// The bytes of a word, if there is one.
-fn bytes_of_word(word: Option<&Vec<u8>>) -> Option<Option<&[u8]>>
-    ensures { option_map option_bytes result
-        ≡ option_map Some (option_map (λ w. w.now.items) word.entry) }
+/// What a copy of an environment variable holds: `=` and the value, or nothing if the variable is
+/// not set. Errors: `Memory`.
+fn copy_of<S: Store>(alloc: Global, store: &S, name: &[u8]) -> Result<Vec<u8>, StoreError>
+    ensures { IfOk result (λ copy. copy.items
+        ≡ copy_of (get (entries (S.record_of store.now).present.environment) name.now)) }
+{
+    let mut copy = Vec::new(alloc);
+    let Some(value) = store.get_env(name) else {
+        return Ok(copy);
+    };
+    copy.push(b'=')?;
+    copy.extend_from_slice(value)?;
+    Ok(copy)
+}
+
+/// What the right side of a setting means in a call with these words.
+pub fn value_of<'a>(right: &'a RightSide, words: &'a [Vec<u8>]) -> Option<NewValue<'a>>
+    ensures { option_map new_value_shown result ≡ value_of (right_shown right.now)
+        (bytes_of_words words.now) }
+{
+    match right {
+        RightSide::Literal(text) => Some(NewValue::Value(text)),
+        RightSide::ValueAt(place) => word_value(words.get(*place as usize)),
+        RightSide::LastValue => word_value(words.last()),
+        RightSide::Deleted => Some(NewValue::Unset),
+        RightSide::CopyOf(name) => Some(NewValue::Copied(name)),
+    }
+}
+
+/// The value that a word is, if there is one.
+fn word_value(word: Option<&Vec<u8>>) -> Option<NewValue<'_>>
+    ensures { option_map new_value_shown result
+        ≡ option_map called.Value (option_map (λ w. w.now.items) word.entry) }
 {
     let word = word?;
-    Some(Some(word))
+    Some(NewValue::Value(word))
 }
 
 /// The variable that the left side of a setting means in a call with these words.
@@ -192,6 +235,7 @@ pub fn variable_of<'a>(left: &'a LeftSide, words: &'a [Vec<u8>]) -> Option<&'a [
                 None
             }
         }
+        LeftSide::Saving => None,
     }
 }
 

@@ -1,9 +1,14 @@
 -- States that agree go on to agree when both are changed alike.
-use Rattle.std.proofs.Common.{◌≡◌, ◌∙◌, refl, sym, ap, subst, ℕ, suc, Bool, true, false, ◌||◌, cond, List, [], ◌∷◌, ◌++◌, map, append_assoc, arith, inl, inr, is_some, Option, Some, None, if◌then◌else◌}
+use Rattle.std.proofs.Common.{◌≡◌, ◌∙◌, refl, sym, ap, subst, ℕ, suc, Bool, true, false, ◌||◌, cond, List, [], ◌∷◌, ◌++◌, ◌-◌, length, map, append_assoc, arith, inl, inr, is_some, Option, Some, None, if◌then◌else◌}
 use Rattle.commands.specs.BuiltInCommands.{changed_by, text_written, deletions, setenv, carried}
 use Rattle.commands.specs.Computed.{Computed, Gives, Exists, Sets, Deletes, SetsNumber}
 use Rattle.commands.specs.VariableNames.{is_bad_name}
+use Rattle.device_list.specs.Called.{NewValue, Value, Copied, Unset, variable_of, value_of, set_in, sets_in}
+use Rattle.device_list.specs.DeviceList.{RightSide, Literal, ValueAt, LastValue, Deleted, CopyOf, Setting}
+use Rattle.device_list.specs.Saving.{copy_of}
 use Rattle.std.specs.Fmt.{digits}
+use Rattle.std.specs.List.{slice_get}
+use Rattle.std.specs.Option.{option_map}
 use Rattle.text.specs.Words.{joined_words}
 use Rattle.rehearse_terms.specs.Outcomes.{OutcomeWord, Outcome}
 use Rattle.rehearse_terms.specs.State.{Text, State, get, with_value, without, LoggedCommand}
@@ -12,10 +17,48 @@ use Rattle.rehearse_rules.specs.ByShell.{is_refused, status_of_text}
 use Rattle.rehearse_rules.specs.Needs.{has_succeeded}
 use Rattle.rehearse_rules.proofs.NeedsLemmas.{succeeded_on}
 use Rattle.rehearse_rules.specs.Execution.{Limits, Request, remember, set_status, set_local, assign_local, changed, set_environment, logged, succeeds, text_failed}
-use Rattle.rehearse_reads.specs.Keys.{Key, Environment, Local, AnswerTo, Succeeded, Status, IsAmong, AgreeAt, Writes, ReadsWithin, known_after}
-use Rattle.rehearse_reads.specs.Accesses.{names_written, setenv_accesses, deletion_accesses, computed_accesses, local_accesses}
+use Rattle.rehearse_reads.specs.Keys.{Key, Environment, Local, AnswerTo, Succeeded, Status, IsAmong, AreAmong, AgreeAt, Writes, ReadsWithin, known_after}
+use Rattle.rehearse_reads.specs.Accesses.{copied_key, copied_keys, names_written, setenv_accesses, deletion_accesses, computed_accesses, local_accesses}
 use Rattle.rehearse_reads.specs.Alike.{HaveFurther, AreAbreast}
 use Rattle.rehearse_reads.proofs.LookedUpLemmas.{get_set, get_deleted, get_set_alike, get_deleted_alike, answer_alike}
+
+-- the variables of which these are copies
+abbrev pub copied_by : NewValue → List Key
+copied_by (Value value) = []
+copied_by (Copied other) = Environment other ∷ []
+copied_by Unset = []
+
+abbrev pub copied_in : List (Text × NewValue) → List Key
+copied_in [] = []
+copied_in (e ∷ sets) = copied_by e.1 ++ copied_in sets
+
+pub still_among : (known : List Key) (key : Key) (keys : List Key) → AreAmong keys known → AreAmong keys (key ∷ known)
+still_among known key [] w = tt
+still_among known key (one ∷ keys) w = (inr w.0, still_among known key keys w.1)
+
+-- they are among those of which the settings of the call set copies
+pub copies_among : (known : List Key) (words : List Text) (sets : List Setting) → AreAmong (copied_keys sets) known → AreAmong (copied_in (sets_in words sets)) known
+copies_among known words [] w = tt
+copies_among known words (set ∷ sets) w = by (variable_of set.0 words) set.1 (copies_among known words sets) w
+  where
+    Rest : Type 0
+    Rest = AreAmong (copied_keys sets) known → AreAmong (copied_in (sets_in words sets)) known
+
+    word : (name : Text) (o : Option Text) → Rest → AreAmong (copied_keys sets) known → AreAmong (copied_in (set_in (Some name) (option_map Value o) ++ sets_in words sets)) known
+    word name None rest w = rest w
+    word name (Some value) rest w = rest w
+
+    by : (o : Option Text) (right : RightSide) → Rest → AreAmong (copied_key right ++ copied_keys sets) known → AreAmong (copied_in (set_in o (value_of right words) ++ sets_in words sets)) known
+    by None (Literal text) rest w = rest w
+    by None (ValueAt place) rest w = rest w
+    by None LastValue rest w = rest w
+    by None Deleted rest w = rest w
+    by None (CopyOf other) rest w = rest w.1
+    by (Some name) (Literal text) rest w = rest w
+    by (Some name) (ValueAt place) rest w = word name (slice_get words place) rest w
+    by (Some name) LastValue rest w = word name (slice_get words (length words - 1)) rest w
+    by (Some name) Deleted rest w = rest w
+    by (Some name) (CopyOf other) rest w = (w.0, rest w.1)
 
 -- one more entry
 further_on : (k l here there : List LoggedCommand) (entry : LoggedCommand) → HaveFurther k l here there → HaveFurther k l (here ++ entry ∷ []) (there ++ entry ∷ [])
@@ -169,17 +212,28 @@ module _ (limits : Limits) (i j : ℕ) (k l : List LoggedCommand) where
 
   -- ---- settings of a device command, one after another
 
-  pub near_set : (known : List Key) (s t : State) (sets : List (Text × Option Text)) → Near known s t → Near (known_after known (names_written (map (λ e. e.0) sets))) (set_environment sets s) (set_environment sets t)
-  near_set known s t [] near = near
-  near_set known s t (e ∷ sets) near = by e.1 (λ known s t near. near_set known s t sets near)
+  pub near_set : (known : List Key) (s t : State) (sets : List (Text × NewValue)) → Near known s t → AreAmong (copied_in sets) known
+      → Near (known_after known (names_written (map (λ e. e.0) sets))) (set_environment sets s) (set_environment sets t)
+  near_set known s t [] near w = near
+  near_set known s t (e ∷ sets) near w = by e.1 w (λ known s t near w. near_set known s t sets near w)
     where
-      one : Option Text → State → State
+      one : NewValue → State → State
       one value = remember (λ m. record m { environment = changed m.environment e.0 value })
 
-      by : (value : Option Text) → ((known : List Key) (s t : State) → Near known s t → Near (known_after known (names_written (map (λ e. e.0) sets))) (set_environment sets s) (set_environment sets t))
-          → Near (known_after (Environment e.0 ∷ known) (names_written (map (λ e. e.0) sets))) (set_environment sets (one value s)) (set_environment sets (one value t))
-      by None rest = rest (Environment e.0 ∷ known) (left_out e.0 s) (left_out e.0 t) (near_left_out known s t e.0 near)
-      by (Some value) rest = rest (Environment e.0 ∷ known) (put e.0 value s) (put e.0 value t) (near_put known s t e.0 value near)
+      written_one : List Key
+      written_one = Environment e.0 ∷ known
+
+      by : (value : NewValue) → AreAmong (copied_by value ++ copied_in sets) known
+          → ((known : List Key) (s t : State) → Near known s t → AreAmong (copied_in sets) known → Near (known_after known (names_written (map (λ e. e.0) sets))) (set_environment sets s) (set_environment sets t))
+          → Near (known_after written_one (names_written (map (λ e. e.0) sets))) (set_environment sets (one value s)) (set_environment sets (one value t))
+      by Unset w rest = rest written_one (left_out e.0 s) (left_out e.0 t) (near_left_out known s t e.0 near) (still_among known (Environment e.0) (copied_in sets) w)
+      by (Value value) w rest = rest written_one (put e.0 value s) (put e.0 value t) (near_put known s t e.0 value near) (still_among known (Environment e.0) (copied_in sets) w)
+      by (Copied other) w rest =
+          let copy : Text = copy_of (get s.memory.environment other) in
+          let same = near.keys (Environment other) w.0 in
+          rest written_one (put e.0 copy s) (put e.0 (copy_of (get t.memory.environment other)) t)
+          (subst (λ (o : Option Text). Near written_one (put e.0 copy s) (put e.0 (copy_of o) t)) (sym same) (near_put known s t e.0 copy near))
+          (still_among known (Environment e.0) (copied_in sets) w.1)
 
   -- ---- assignments
 

@@ -9,7 +9,7 @@ use Rattle.hushlang_old.specs.OldFields.{old_fields, old_turns, inserted, word_t
 use Rattle.hushlang_modern.specs.ModernFields.{expanded, modern_fields}
 use Rattle.hushlang_modern.specs.ModernTrees.{modern_text}
 use Rattle.hushlang_shells.specs.TreesByShell.{TextRead, Runs, Fails, Panics, Unread, first_in}
-use Rattle.device_list.specs.DeviceList.{FileText, Variable, Literal, Devices, only}
+use Rattle.device_list.specs.DeviceList.{FileText, Variable, Literal, CopyOf, Devices, only}
 use Rattle.device_list.specs.DeviceLaws.{quiet}
 use Rattle.rehearse_terms.specs.Outcomes.{OutcomeWord, Success, Failure}
 use Rattle.rehearse_terms.specs.State.{Text, Variables, State, LoggedCommand, start}
@@ -26,10 +26,11 @@ use Rattle.rehearse_reads.specs.Accesses.{accesses}
 abbrev plain : Text → FileText
 plain text = record { text = text; size = length text }
 
--- `load` is asked each time, `stay` once, `set` sets the variable b, `file` runs a file, and `boot` needs `load`
+-- `load` is asked each time, `stay` once, `set` sets the variable b, `copy` sets b to a copy of a, `file` runs a file, and `boot` needs `load`
 abbrev devices : Devices
 devices = record (only ((codes "load", quiet) ∷ (codes "stay", record quiet { stays = true })
     ∷ (codes "set", record quiet { sets = (Variable (codes "b"), Literal (codes "1")) ∷ [] })
+    ∷ (codes "copy", record quiet { sets = (Variable (codes "b"), CopyOf (codes "a")) ∷ [] })
     ∷ (codes "file", record quiet { runs = codes "boot.scr" ∷ [] }) ∷ (codes "none", record quiet { runs = codes "none" ∷ [] }) ∷ (codes "left", record quiet { runs = codes "left.scr" ∷ [] }) ∷ [])) {
       calls = (codes "boot", (record { words = []; more = true }, record quiet { needs = codes "load" ∷ [] }) ∷ []) ∷ [];
       known = codes "env" ∷ [];
@@ -155,6 +156,15 @@ needs_a_call = refl
 sets_on_success : reached (codes "set") ≡ Writes Status ∷ Writes b ∷ []
 unfolding reached_in
 sets_on_success = refl
+
+-- a copy is read whatever the outcome is
+reads_what_it_copies : reached (codes "copy") ≡ Reads a ∷ Writes Status ∷ Writes b ∷ []
+unfolding reached_in
+reads_what_it_copies = refl
+
+reads_it_on_failure : reached_in Profile (before (Failure ∷ [])) (codes "copy") ≡ Reads a ∷ Writes Status ∷ []
+unfolding reached_in
+reads_it_on_failure = refl
 
 sets_nothing_on_failure : reached_in Profile (before (Failure ∷ [])) (codes "set") ≡ Writes Status ∷ []
 unfolding reached_in

@@ -1,7 +1,7 @@
 -- Steps and device commands go alike, as far as the bounds allow.
 use Rattle.std.proofs.Common.{◌≡◌, refl, sym, subst, ℕ, suc, ◌<◌, ◌≤◌, Bool, true, false, List, [], ◌∷◌, ◌++◌, map, length, Option, Some, None, inl, inr, length-append, arith, nat_lt, ltb-true, ltb-false, if◌then◌else◌}
 use Rattle.device_list.specs.declared.finish.BoardEnd.{BoardEnd}
-use Rattle.device_list.specs.Called.{sets_in}
+use Rattle.device_list.specs.Called.{NewValue, sets_in}
 use Rattle.rehearse_terms.specs.Outcomes.{OutcomeWord, Outcome, Success, Failure}
 use Rattle.rehearse_terms.specs.State.{Text, State, LoggedCommand, answer_in}
 use Rattle.device_list.specs.DeviceList.{Effect}
@@ -11,10 +11,10 @@ use Rattle.rehearse_rules.specs.Execution.{Limits, Answer, Normal, Ended, CutDev
 use Rattle.rehearse_rules.specs.Runs.{state_of}
 use Rattle.rehearse_rules.proofs.TakenOutcomes.{Track-of, KeepsAll}
 use Rattle.rehearse_reads.specs.Keys.{Key, Status, AnswerTo, Succeeded, Access, IsAmong, AreAmong, all_read, ReadsWithin, known_after}
-use Rattle.rehearse_reads.specs.Accesses.{begun_accesses, needs_reads, listed_accesses, told_reads, handing_reads, outcome_writes, outcome_accesses, taken_accesses, answer_accesses, device_accesses, names_written}
+use Rattle.rehearse_reads.specs.Accesses.{begun_accesses, needs_reads, listed_accesses, told_reads, handing_reads, outcome_writes, outcome_accesses, taken_accesses, answer_accesses, device_accesses, copied_keys, names_written}
 use Rattle.rehearse_reads.specs.Alike.{devices_of, AreAbreast, IsAlike, cut_here, beyond}
 use Rattle.rehearse_reads.proofs.AccessLemmas.{read_first, read_then}
-use Rattle.rehearse_reads.proofs.AbreastLemmas.{near_moved, near_begun, near_logged, near_set}
+use Rattle.rehearse_reads.proofs.AbreastLemmas.{near_moved, near_begun, near_logged, near_set, copied_in, copies_among, still_among}
 use Rattle.rehearse_reads.proofs.AlikeParts.{further_apart, normal_alike, ended_alike, dry_alike, after_keys}
 
 module _ (limits : Limits) (i j : ℕ) (k l : List LoggedCommand) where
@@ -65,31 +65,46 @@ module _ (limits : Limits) (i j : ℕ) (k l : List LoggedCommand) where
   finish_alike known (Some finish) name s t near = ended_alike limits i j k l known (Finished finish name) s t near
   finish_alike known None name s t near = normal_alike limits i j k l known s t near
 
-  writes_alike : (request : Request) (d : Outcome) (known : List Key) (s t : State) → Near known s t → Is (known_after known (outcome_writes d request)) (with_outcome d request s) (with_outcome d request t)
-  writes_alike request Success known s t near =
-      let sets : List (Text × Option Text) = sets_in request.words request.effect.sets in
+  writes_alike : (request : Request) (d : Outcome) (known : List Key) (s t : State) → Near known s t → AreAmong (copied_keys request.effect.sets) known → Is (known_after known (outcome_writes d request)) (with_outcome d request s) (with_outcome d request t)
+  writes_alike request Success known s t near w =
+      let sets : List (Text × NewValue) = sets_in request.words request.effect.sets in
       finish_alike (known_after (Status ∷ known) (names_written (map (λ e. e.0) sets))) request.effect.ends request.name (set_environment sets (logged Success request s)) (set_environment sets (logged Success request t))
-      (near_set limits i j k l (Status ∷ known) (logged Success request s) (logged Success request t) sets (near_logged limits i j k l known s t Success request near))
-  writes_alike request Failure known s t near = normal_alike limits i j k l (Status ∷ known) (logged Failure request s) (logged Failure request t) (near_logged limits i j k l known s t Failure request near)
+      (near_set limits i j k l (Status ∷ known) (logged Success request s) (logged Success request t) sets (near_logged limits i j k l known s t Success request near)
+      (still_among known Status (copied_in sets) (copies_among known request.words request.effect.sets w)))
+  writes_alike request Failure known s t near w = normal_alike limits i j k l (Status ∷ known) (logged Failure request s) (logged Failure request t) (near_logged limits i j k l known s t Failure request near)
 
   -- the status that is kept for the text of a file
   handing_alike : (runs : List Text) (known : List Key) (xs : List Access) (a b : Answer) → Is (known_after known xs) a b → Is (known_after known (handing_reads runs ++ xs)) a b
   handing_alike [] known xs a b h = h
   handing_alike (name ∷ others) known xs a b h = h
 
-  with_alike : (request : Request) (d : Outcome) (known : List Key) (s t : State) → Near known s t → Is (known_after known (outcome_accesses d request)) (with_outcome d request s) (with_outcome d request t)
-  with_alike request d known s t near =
-      handing_alike request.effect.runs known (outcome_writes d request) (with_outcome d request s) (with_outcome d request t) (writes_alike request d known s t near)
+  -- the variables of which it sets copies are known
+  pub copies_known : (known : List Key) (request : Request) (d : Outcome) → ReadsWithin known (outcome_accesses d request) → AreAmong (copied_keys request.effect.sets) known
+  copies_known known request d = by request.effect.runs
+    where
+      keys : List Key
+      keys = copied_keys request.effect.sets
 
-  pub take_alike : (request : Request) (w : OutcomeWord) (known : List Key) (s t : State) → Near known s t → Is (known_after known (taken_accesses request w)) (take_outcome request w s) (take_outcome request w t)
-  take_alike request [] known s t near = dry_alike limits i j k l known s t near
-  take_alike request (d ∷ rest) known s t near = with_alike request d known (record s { word = rest }) (record t { word = rest }) (near_moved limits i j k l known s t rest near)
+      by : (runs : List Text) → ReadsWithin known (handing_reads runs ++ (all_read keys ++ outcome_writes d request)) → AreAmong keys known
+      by [] w = read_first known keys (outcome_writes d request) w
+      by (name ∷ others) w = read_first known keys (outcome_writes d request) w.1
 
-  tell_alike : (o : Option Bool) (request : Request) (known : List Key) (s t : State) → Near known s t → Is (known_after known (answer_accesses o request s)) (tell_or_take o request s) (tell_or_take o request t)
-  tell_alike None request known s t near =
-      subst (λ (w : OutcomeWord). Is (known_after known (taken_accesses request s.word)) (take_outcome request s.word s) (take_outcome request w t)) (sym near.word) (take_alike request s.word known s t near)
-  tell_alike (Some true) request known s t near = with_alike (told_again request) Success known s t near
-  tell_alike (Some false) request known s t near = with_alike (told_again request) Failure known s t near
+  with_alike : (request : Request) (d : Outcome) (known : List Key) (s t : State) → Near known s t → ReadsWithin known (outcome_accesses d request)
+      → Is (known_after known (outcome_accesses d request)) (with_outcome d request s) (with_outcome d request t)
+  with_alike request d known s t near w =
+      let keys : List Key = copied_keys request.effect.sets in
+      handing_alike request.effect.runs known (all_read keys ++ outcome_writes d request) (with_outcome d request s) (with_outcome d request t)
+      (after_keys limits i j k l known keys (outcome_writes d request) (with_outcome d request s) (with_outcome d request t) (writes_alike request d known s t near (copies_known known request d w)))
+
+  pub take_alike : (request : Request) (w : OutcomeWord) (known : List Key) (s t : State) → Near known s t → ReadsWithin known (taken_accesses request w) → Is (known_after known (taken_accesses request w)) (take_outcome request w s) (take_outcome request w t)
+  take_alike request [] known s t near r = dry_alike limits i j k l known s t near
+  take_alike request (d ∷ rest) known s t near r = with_alike request d known (record s { word = rest }) (record t { word = rest }) (near_moved limits i j k l known s t rest near) r
+
+  tell_alike : (o : Option Bool) (request : Request) (known : List Key) (s t : State) → Near known s t → ReadsWithin known (answer_accesses o request s) → Is (known_after known (answer_accesses o request s)) (tell_or_take o request s) (tell_or_take o request t)
+  tell_alike None request known s t near r =
+      subst (λ (w : OutcomeWord). Is (known_after known (taken_accesses request s.word)) (take_outcome request s.word s) (take_outcome request w t)) (sym near.word) (take_alike request s.word known s t near r)
+  tell_alike (Some true) request known s t near r = with_alike (told_again request) Success known s t near r
+  tell_alike (Some false) request known s t near r = with_alike (told_again request) Failure known s t near r
 
   abbrev entry_of : Request → Outcome → LoggedCommand
   entry_of request d = record { success = succeeds d; words = request.name ∷ request.words; stays = request.effect.stays; again = request.again }
@@ -115,22 +130,23 @@ module _ (limits : Limits) (i j : ℕ) (k l : List LoggedCommand) where
 
   -- what the command is told is the same if it is told anything
   device_by : (o p : Option Bool) (request : Request) (known : List Key) (s t : State) → Near known s t → (b c : Bool) → nat_lt (length s.log) limits.device_bound ≡ b → nat_lt (length t.log) limits.device_bound ≡ c → (b ≡ true → p ≡ o)
+      → ReadsWithin known (elim b [ true ↦ all_read (told_reads request) ++ answer_accesses o request s | false ↦ [] ])
       → Is (known_after known (elim b [ true ↦ all_read (told_reads request) ++ answer_accesses o request s | false ↦ [] ])) (elim b [ true ↦ tell_or_take o request s | false ↦ Ended CutDevices s ]) (elim c [ true ↦ tell_or_take p request t | false ↦ Ended CutDevices t ])
-  device_by o p request known s t near true true e f told =
+  device_by o p request known s t near true true e f told r =
       after_keys limits i j k l known (told_reads request) (answer_accesses o request s) (tell_or_take o request s) (tell_or_take p request t)
-      (subst (λ (x : Option Bool). Is (known_after known (answer_accesses o request s)) (tell_or_take o request s) (tell_or_take x request t)) (sym (told refl)) (tell_alike o request known s t near))
-  device_by o p request known s t near true false e f told =
+      (subst (λ (x : Option Bool). Is (known_after known (answer_accesses o request s)) (tell_or_take o request s) (tell_or_take x request t)) (sym (told refl)) (tell_alike o request known s t near (read_then known (told_reads request) (answer_accesses o request s) r)))
+  device_by o p request known s t near true false e f told r =
       let full = ltb-false (length t.log) limits.device_bound f in
       let room = ltb-true (length s.log) limits.device_bound e in
       let a = further_apart k l s.log t.log near.logs in
       let needs = tell_needs o request s in
       beyond (inr (omega arith, omega arith))
-  device_by o p request known s t near false true e f told =
+  device_by o p request known s t near false true e f told r =
       let full = ltb-false (length s.log) limits.device_bound e in
       let room = ltb-true (length t.log) limits.device_bound f in
       let a = further_apart k l s.log t.log near.logs in
       cut_here (let less : length l < length k = omega arith in less)
-  device_by o p request known s t near false false e f told = ended_alike limits i j k l known CutDevices s t near
+  device_by o p request known s t near false false e f told r = ended_alike limits i j k l known CutDevices s t near
 
   -- the key that is read, if the bound allows the command
   asked_within : (known : List Key) (request : Request) (s : State) (b : Bool) → ReadsWithin known (elim b [ true ↦ all_read (told_reads request) ++ answer_accesses (told request s.log) request s | false ↦ [] ]) → b ≡ true → AreAmong (told_reads request) known
@@ -142,11 +158,12 @@ module _ (limits : Limits) (i j : ℕ) (k l : List LoggedCommand) where
       let room : Bool = nat_lt (length s.log) limits.device_bound in
       device_by (told request s.log) (told request t.log) request known s t near room (nat_lt (length t.log) limits.device_bound) refl refl
       (λ e. told_alike known s t request near (asked_within known request s room w e))
+      w
 
   -- ---- the status is known where a command that may hand over has its outcome
 
   outcome_knows : (known : List Key) (request : Request) (name : Text) (others : List Text) → request.effect.runs ≡ name ∷ others → (d : Outcome) → ReadsWithin known (outcome_accesses d request) → IsAmong Status known
-  outcome_knows known request name others e d w = (subst (λ (runs : List Text). ReadsWithin known (handing_reads runs ++ outcome_writes d request)) e w).0
+  outcome_knows known request name others e d w = (subst (λ (runs : List Text). ReadsWithin known (handing_reads runs ++ (all_read (copied_keys request.effect.sets) ++ outcome_writes d request))) e w).0
 
   taken_knows : (known : List Key) (request : Request) (name : Text) (others : List Text) → request.effect.runs ≡ name ∷ others → (v : OutcomeWord) (s u : State) → take_outcome request v s ≡ Normal u → ReadsWithin known (taken_accesses request v) → IsAmong Status known
   taken_knows known request name others e [] s u f w = absurd (let g = f in cc)

@@ -12,7 +12,7 @@ use Rattle.builtins.specs.Builtins.{Builtin, SetEnv, Run, Test, Echo, True, Fals
 use Rattle.commands.specs.Computed.{Computed, Gives, Exists, Sets, Deletes, SetsNumber}
 use Rattle.commands.specs.VariableNames.{is_bad_name}
 use Rattle.device_list.specs.Called.{sets_in}
-use Rattle.device_list.specs.DeviceList.{Effect, effect_of, computed_by, file_in}
+use Rattle.device_list.specs.DeviceList.{RightSide, Literal, ValueAt, LastValue, Deleted, CopyOf, Setting, Effect, effect_of, computed_by, file_in}
 use Rattle.rehearse_terms.specs.Outcomes.{Outcome, Success, Failure, OutcomeWord}
 use Rattle.rehearse_terms.specs.State.{Text, get, Memory, State}
 use Rattle.rehearse_terms.specs.declared.shell.Shell.{Shell}
@@ -97,6 +97,17 @@ abbrev pub handing_reads : (runs : List Text) → List Access
 handing_reads [] = []
 handing_reads (name ∷ others) = Reads Status ∷ []
 
+-- a variable of which it sets a copy
+abbrev pub copied_key : RightSide → List Key
+copied_key (Literal text) = []
+copied_key (ValueAt place) = []
+copied_key LastValue = []
+copied_key Deleted = []
+copied_key (CopyOf name) = Environment name ∷ []
+
+abbrev pub copied_keys : List Setting → List Key
+copied_keys sets = flat_map (λ set. copied_key set.1) sets
+
 -- on success it sets what its settings say
 abbrev pub outcome_writes : Outcome → Request → List Access
 outcome_writes Success request =
@@ -104,7 +115,8 @@ outcome_writes Success request =
 outcome_writes Failure request = status_written
 
 abbrev pub outcome_accesses : Outcome → Request → List Access
-outcome_accesses outcome request = handing_reads request.effect.runs ++ outcome_writes outcome request
+outcome_accesses outcome request =
+    handing_reads request.effect.runs ++ (all_read (copied_keys request.effect.sets) ++ outcome_writes outcome request)
 
 abbrev pub taken_accesses : Request → OutcomeWord → List Access
 taken_accesses request [] = []

@@ -21,7 +21,7 @@ use Rattle.rehearse_reads.proofs.KeysRead.{covering_joins}
 use Rattle.rehearse_frames.specs.MoveAccesses.{of_asking}
 use Rattle.rehearse_reports.specs.Reports.{Reports, Adds}
 use Rattle.rehearse_reports.proofs.ReportLemmas.{covers_itself, covers_less, covers_through, reads_cover, reads_alone, reports_nothing, reports_as, reports_then}
-use Rattle.rehearse_reports.proofs.CoverLemmas.{covers_status, covers_asking}
+use Rattle.rehearse_reports.proofs.CoverLemmas.{covers_status, covers_asking, early_reads}
 
 -- an access, and then the status is written
 pub then_status : (old new : List Access) (access : Access) → Reports old new (access ∷ []) → Reports old new (access ∷ status_written)
@@ -101,16 +101,16 @@ asks_steady old new request call is h = by request.effect.stays refl
         let none : told_reads request ≡ [] = ap (told_if request) e in
         subst (λ (keys : List Key). Reports old new (all_read keys)) (sym none) (reports_as old new (Reads (AnswerTo call) ∷ []) [] h (reads_alone (AnswerTo call ∷ [])))
 
--- the answer, and then the status that is kept for the text of a file
-pub asks_all : (old mid new : List Access) (limits : Limits) (request : Request) (s : State) → Reports old mid (all_read (told_reads request)) → Reports mid new (handing_reads request.effect.runs) → Reports old new (of_asking limits request s)
+-- the answer, and then what is read before the outcome
+pub asks_all : (old mid new : List Access) (limits : Limits) (request : Request) (s : State) → Reports old mid (all_read (told_reads request)) → Reports mid new (early_reads request.effect) → Reports old new (of_asking limits request s)
 asks_all old mid new limits request s h k =
-    reports_as old new (all_read (told_reads request) ++ handing_reads request.effect.runs) (of_asking limits request s)
-    (reports_then old mid new (all_read (told_reads request)) (handing_reads request.effect.runs) h k) (covers_asking limits request s)
+    reports_as old new (all_read (told_reads request) ++ early_reads request.effect) (of_asking limits request s)
+    (reports_then old mid new (all_read (told_reads request)) (early_reads request.effect) h k) (covers_asking limits request s)
 
--- a command that hands nothing over reads its answer alone
-pub asks_alone : (old new : List Access) (limits : Limits) (request : Request) (s : State) → request.effect.runs ≡ [] → Reports old new (all_read (told_reads request)) → Reports old new (of_asking limits request s)
+-- a command that runs no file and makes no setting reads its answer alone
+pub asks_alone : (old new : List Access) (limits : Limits) (request : Request) (s : State) → early_reads request.effect ≡ [] → Reports old new (all_read (told_reads request)) → Reports old new (of_asking limits request s)
 asks_alone old new limits request s none h =
-    asks_all old new new limits request s h (subst (λ (runs : List Text). Reports new new (handing_reads runs)) (sym none) (reports_nothing new))
+    asks_all old new new limits request s h (subst (Reports new new) (sym none) (reports_nothing new))
 
 -- ---- the call that a command needs
 
@@ -129,6 +129,14 @@ now_steady log effect = by (is_met effect.needs log)
     by : (b : Bool) → (let e : Effect = cond b effect (record effect { stays = false; always = Some false }) in e.stays) ≡ true → effect.stays ≡ true
     by true e = e
     by false e = absurd (let g = e in cc)
+
+-- and makes the settings that it would make
+pub now_sets : (log : List LoggedCommand) (effect : Effect) → (effect_now log effect).sets ≡ effect.sets
+now_sets log effect = by (is_met effect.needs log)
+  where
+    by : (b : Bool) → (let e : Effect = cond b effect (record effect { stays = false; always = Some false }) in e.sets) ≡ effect.sets
+    by true = refl
+    by false = refl
 
 -- ---- computed calls
 

@@ -1,11 +1,12 @@
 -- What may be reported in the place of what commands read and write.
-use Rattle.std.proofs.Common.{◌≡◌, ◌∙◌, refl, sym, ap, subst, ℕ, suc, Bool, true, false, List, [], ◌∷◌, ◌++◌, map, length, Option, Some, None, nat_lt, nat_le, nat_eq, if◌then◌else◌}
+use Rattle.std.proofs.Common.{◌≡◌, ◌∙◌, refl, sym, ap, subst, ℕ, suc, Bool, true, false, List, [], ◌∷◌, ◌++◌, append_assoc, map, length, Option, Some, None, nat_lt, nat_le, nat_eq, if◌then◌else◌}
 use Rattle.std.specs.List.{flat_map}
 use Rattle.hushlang.specs.Tree as tree
 use Rattle.hushlang.specs.Tree.{Arms}
 use Rattle.hushlang.specs.Expansion.{size, most_bytes}
 use Rattle.hushlang_old.specs.Defaults.{variable_of, has_more}
 use Rattle.device_list.specs.Called.{sets_in}
+use Rattle.device_list.specs.DeviceList.{Effect}
 use Rattle.rehearse_terms.specs.Outcomes.{Outcome, Success, Failure}
 use Rattle.rehearse_terms.specs.State.{Text, Memory, State, get}
 use Rattle.rehearse_terms.specs.declared.shell.Shell.{Shell}
@@ -14,7 +15,7 @@ use Rattle.rehearse_rules.specs.ByShell.{fields_in, turns_in, assigned_in, is_re
 use Rattle.rehearse_rules.specs.Parameters.{parameters_in}
 use Rattle.rehearse_rules.specs.Execution.{Limits, Request, told, outcome_when, assign_local, for_begun}
 use Rattle.rehearse_reads.specs.Keys.{Key, Access, Reads, Writes, Environment, Local, Status, all_read, Covers}
-use Rattle.rehearse_reads.specs.Accesses.{status_written, variable_reads, inside_reads, piece_reads, word_reads, words_reads, names_written, told_reads, handing_reads, outcome_writes, outcome_accesses, sized_accesses, local_accesses, assign_accesses, nothing_accesses, begun_accesses, modern_accesses}
+use Rattle.rehearse_reads.specs.Accesses.{status_written, variable_reads, inside_reads, piece_reads, word_reads, words_reads, copied_keys, names_written, told_reads, handing_reads, outcome_writes, outcome_accesses, sized_accesses, local_accesses, assign_accesses, nothing_accesses, begun_accesses, modern_accesses}
 use Rattle.rehearse_reads.proofs.KeysRead.{covering_joins}
 use Rattle.rehearse_frames.specs.MoveAccesses.{of_asking, of_telling, of_beginning_for, of_beginning_arms, of_fields, of_command, of_beginning_turns, of_beginning_words}
 use Rattle.rehearse_reports.proofs.ReportLemmas.{covers_itself, covers_through, covers_less, covers_write, covers_written, reads_cover, reads_alone, nothing_after}
@@ -45,28 +46,34 @@ covers_writes : (outcome : Outcome) (request : Request) → Covers [] (outcome_w
 covers_writes Success request = covers_write Status (names_written (map (λ e. e.0) (sets_in request.words request.effect.sets))) (covers_names (map (λ e. e.0) (sets_in request.words request.effect.sets)))
 covers_writes Failure request = covers_status
 
-handing_alone : (runs : List Text) → Covers (handing_reads runs) []
-handing_alone [] = covers_itself []
-handing_alone (name ∷ others) = reads_alone (Status ∷ [])
+-- what is read before the outcome
+abbrev pub early_reads : Effect → List Access
+early_reads effect = handing_reads effect.runs ++ all_read (copied_keys effect.sets)
 
-covers_told : (o : Option Bool) (request : Request) → Covers (handing_reads request.effect.runs) (of_telling o request)
-covers_told None request = handing_alone request.effect.runs
+early_alone : (runs : List Text) (keys : List Key) → Covers (handing_reads runs ++ all_read keys) []
+early_alone [] keys = reads_alone keys
+early_alone (name ∷ others) keys = reads_alone (Status ∷ keys)
+
+covers_told : (o : Option Bool) (request : Request) → Covers (early_reads request.effect) (of_telling o request)
+covers_told None request = early_alone request.effect.runs (copied_keys request.effect.sets)
 covers_told (Some success) request =
-    covers_less (handing_reads request.effect.runs) (outcome_writes (outcome_when success) request) (covers_writes (outcome_when success) request)
+    let writes : List Access = outcome_writes (outcome_when success) request in
+    subst (Covers (early_reads request.effect)) (append_assoc (handing_reads request.effect.runs) (all_read (copied_keys request.effect.sets)) writes)
+    (covers_less (early_reads request.effect) writes (covers_writes (outcome_when success) request))
 
--- the answer is read, if a device command is left, and the status, if it is kept for the text of a file
-pub covers_asking : (limits : Limits) (request : Request) (s : State) → Covers (all_read (told_reads request) ++ handing_reads request.effect.runs) (of_asking limits request s)
+-- the answer is read, if a device command is left, and what is read before the outcome
+pub covers_asking : (limits : Limits) (request : Request) (s : State) → Covers (all_read (told_reads request) ++ early_reads request.effect) (of_asking limits request s)
 covers_asking limits request s = by (nat_lt (length s.log) limits.device_bound)
   where
     keys : List Access
     keys = all_read (told_reads request)
 
-    handing : List Access
-    handing = handing_reads request.effect.runs
+    early : List Access
+    early = early_reads request.effect
 
-    by : (b : Bool) → Covers (keys ++ handing) (elim b [ true ↦ keys ++ of_telling (told request s.log) request | false ↦ [] ])
-    by true = covering_joins keys (of_telling (told request s.log) request) keys handing (covers_itself keys) (covers_told (told request s.log) request)
-    by false = reads_cover (told_reads request) handing [] (handing_alone request.effect.runs)
+    by : (b : Bool) → Covers (keys ++ early) (elim b [ true ↦ keys ++ of_telling (told request s.log) request | false ↦ [] ])
+    by true = covering_joins keys (of_telling (told request s.log) request) keys early (covers_itself keys) (covers_told (told request s.log) request)
+    by false = reads_cover (told_reads request) early [] (early_alone request.effect.runs (copied_keys request.effect.sets))
 
 -- ---- commands that begin
 

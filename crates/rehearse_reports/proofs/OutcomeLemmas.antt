@@ -1,10 +1,11 @@
 -- Reports of outcomes.
 use Rattle.text.specs.TextsShown.{bytes_of_words}
 use Rattle.std.specs.declared.alloc.Global.{Global}
-use Rattle.std.proofs.Common.{◌≡◌, ◌∙◌, ◌≤◌, arith, refl, sym, ap, subst, Bool, true, false, List, [], ◌∷◌, ◌++◌, length, map, Option, Some, None, Result, Ok, Err, ℕ, ◌<◌}
+use Rattle.std.proofs.Common.{◌≡◌, ◌∙◌, ◌≤◌, arith, refl, sym, ap, subst, Bool, true, false, List, [], ◌∷◌, ◌++◌, length, map, append_assoc, Option, Some, None, Result, Ok, Err, ℕ, ◌<◌}
+use Rattle.std.proofs.lemmas.List.{map-append}
 use Rattle.std.specs.Prelude.{OnOk, IfOk, Vec}
 use Rattle.std.specs.List.{flat_map}
-use Rattle.device_list.specs.Called.{sets_in, set_in, variable_of, value_of}
+use Rattle.device_list.specs.Called.{NewValue, sets_in, set_in, variable_of, value_of}
 use Rattle.device_list.specs.DeviceList as says
 use Rattle.device_list.specs.DevicesShown.{setting_shown}
 use Rattle.device_list.specs.declared.setting.Setting.{Setting}
@@ -26,18 +27,19 @@ use Rattle.rehearse_machine.specs.declared.ask.Step.TheVariants as steps
 use Rattle.rehearse_machine.specs.declared.rehearsal.Stop.{Stop}
 use Rattle.rehearse_machine.specs.declared.rehearsal.Stop.TheVariants as stops
 use Rattle.rehearse_rules.specs.declared.halt.Halt.{Halt}
-use Rattle.rehearse_reads.specs.Keys.{Access, Writes, Environment, Status}
-use Rattle.rehearse_reads.specs.Accesses.{handing_reads, names_written, outcome_accesses, outcome_writes}
+use Rattle.rehearse_reads.specs.Keys.{Access, Reads, Writes, Environment, Status, all_read}
+use Rattle.rehearse_reads.specs.Accesses.{copied_key, copied_keys, handing_reads, names_written, outcome_accesses, outcome_writes}
 use Rattle.rehearse_frames.specs.Above.{without_lowest}
 use Rattle.rehearse_frames.specs.KeysToCome.{AreEnoughFrom}
 use Rattle.rehearse_frames.proofs.LowestFrames.{again_above, asking_above, asks_in_frames, outcomes_stay_above}
 use Rattle.rehearse_reports.specs.Reports.{Reports}
 use Rattle.rehearse_reports.specs.Following.{FollowsOutcome, FollowsAbove, FollowsOutcomeAbove, FollowsToStopAbove, IsReportedAbove, AreEnoughFor, AreEnoughAtStop, comes_at_stop}
 use Rattle.rehearse_reports.specs.Looping.{HasFrames}
+use Rattle.rehearse_reports.proofs.CoverLemmas.{early_reads}
 use Rattle.rehearse_reports.proofs.ReportLemmas.{reports_nothing, reports_then}
 use Rattle.rehearse_reports.proofs.FollowingLemmas.{at_end, follows_asking, follows_ended, follows_outcome, leads_then, reported_for}
 
-abbrev names_of : List (Text × Option Text) → List Access
+abbrev names_of : List (Text × NewValue) → List Access
 names_of sets = names_written (map (λ e. e.0) sets)
 
 -- what one setting writes
@@ -53,14 +55,14 @@ no_value (Some name) = refl
 
 pub sets_no_value : (old : List Access) (words : List Text) (set : says.Setting) → None ≡ value_of set.1 words → Reports old old (names_of (sets_in words (set ∷ [])))
 sets_no_value old words set e =
-    subst (λ (o : Option (Option Text)). Reports old old (names_of (set_in (variable_of set.0 words) o ++ []))) e (subst (Reports old old) (sym (no_value (variable_of set.0 words))) (reports_nothing old))
+    subst (λ (o : Option NewValue). Reports old old (names_of (set_in (variable_of set.0 words) o ++ []))) e (subst (Reports old old) (sym (no_value (variable_of set.0 words))) (reports_nothing old))
 
-pub sets_one : (old new : List Access) (words : List Text) (set : says.Setting) (name : Text) (value : Option Text) (written : Text) → Some name ≡ variable_of set.0 words → Some value ≡ value_of set.1 words → written ≡ name → Reports old new (Writes (Environment written) ∷ []) → Reports old new (names_of (sets_in words (set ∷ [])))
+pub sets_one : (old new : List Access) (words : List Text) (set : says.Setting) (name : Text) (value : NewValue) (written : Text) → Some name ≡ variable_of set.0 words → Some value ≡ value_of set.1 words → written ≡ name → Reports old new (Writes (Environment written) ∷ []) → Reports old new (names_of (sets_in words (set ∷ [])))
 sets_one old new words set name value written e f is h =
     subst (λ (o : Option Text). Reports old new (names_of (set_in o (value_of set.1 words) ++ []))) e
-    (subst (λ (o : Option (Option Text)). Reports old new (names_of (set_in (Some name) o ++ []))) f (subst (λ (n : Text). Reports old new (Writes (Environment n) ∷ [])) is h))
+    (subst (λ (o : Option NewValue). Reports old new (names_of (set_in (Some name) o ++ []))) f (subst (λ (n : Text). Reports old new (Writes (Environment n) ∷ [])) is h))
 
-names_joined : (xs ys : List (Text × Option Text)) → names_of (xs ++ ys) ≡ names_of (xs ++ []) ++ names_of ys
+names_joined : (xs ys : List (Text × NewValue)) → names_of (xs ++ ys) ≡ names_of (xs ++ []) ++ names_of ys
 names_joined [] ys = refl
 names_joined (x ∷ xs) ys = ap (λ (zs : List Access). Writes (Environment x.0) ∷ zs) (names_joined xs ys)
 
@@ -87,10 +89,30 @@ pub nothing_handed : (runs : List (Vec ℕ Global)) → length runs < 1 → (old
 nothing_handed [] h old = reports_nothing old
 nothing_handed (name ∷ others) h old = absurd (omega arith)
 
--- the status that is kept, and then what the outcome writes
-pub handing_then : {E : Type 0} (r : Result (Unit {0}) E) (old mid new : List Access) (outcome : Outcome) (request : Request) → Reports old mid (handing_reads request.effect.runs) → OnOk r (Reports mid new (outcome_writes outcome request)) → OnOk r (Reports old new (outcome_accesses outcome request))
-handing_then (Ok x) old mid new outcome request h k = reports_then old mid new (handing_reads request.effect.runs) (outcome_writes outcome request) h k
-handing_then (Err x) old mid new outcome request h k = k
+-- one of these, and then the others
+pub both_reported : {E : Type 0} (r : Result (Unit {0}) E) (old mid new : List Access) (xs ys : List Access) → Reports old mid xs → OnOk r (Reports mid new ys) → OnOk r (Reports old new (xs ++ ys))
+both_reported (Ok x) old mid new xs ys h k = reports_then old mid new xs ys h k
+both_reported (Err x) old mid new xs ys h k = k
+
+-- what is read first, and then what the outcome writes
+pub early_then : {E : Type 0} (r : Result (Unit {0}) E) (old mid new : List Access) (outcome : Outcome) (request : Request) → Reports old mid (early_reads request.effect) → OnOk r (Reports mid new (outcome_writes outcome request)) → OnOk r (Reports old new (outcome_accesses outcome request))
+early_then r old mid new outcome request h k =
+    let writes : List Access = outcome_writes outcome request in
+    subst (λ (xs : List Access). OnOk r (Reports old new xs)) (append_assoc (handing_reads request.effect.runs) (all_read (copied_keys request.effect.sets)) writes)
+    (both_reported r old mid new (early_reads request.effect) writes h k)
+
+-- what one setting copies
+abbrev pub of_copy : Setting → List Access
+of_copy set = all_read (copied_key (setting_shown set).1)
+
+copies_so : (sets : List Setting) → flat_map of_copy sets ≡ all_read (copied_keys (map setting_shown sets))
+copies_so [] = refl
+copies_so (set ∷ sets) =
+    ap (λ (xs : List Access). of_copy set ++ xs) (copies_so sets)
+    ∙ sym (map-append Reads (copied_key (setting_shown set).1) (copied_keys (map setting_shown sets)))
+
+pub copies_done : (old new : List Access) (sets : List Setting) → Reports old new (flat_map of_copy sets) → Reports old new (all_read (copied_keys (map setting_shown sets)))
+copies_done old new sets h = subst (Reports old new) (copies_so sets) h
 
 -- ---- a device command takes its outcome
 

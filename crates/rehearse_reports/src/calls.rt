@@ -15,7 +15,7 @@ ghost use Rattle.rehearse_reports.specs.Reports.{Reports, of_test};
 ghost use Rattle.rehearse_reports.specs.ReportsShown.{accesses_shown};
 
 use crate::key::Key;
-use crate::outcomes::report_handing;
+use crate::outcomes::report_early;
 use crate::reported::Reported;
 use bootstore_state::StoreError;
 use builtins::{Builtin, builtin_of};
@@ -137,7 +137,7 @@ fn report_listed(
 {
     report_needs(alloc, reported, effect.needs)?;
     report_told(alloc, reported, name, words, effect.stays)?;
-    report_handing(reported, effect.runs)
+    report_early(alloc, reported, effect.runs, effect.sets)
 }
 
 /// Reports what `test` reads: the answer about the file that it asks for, if the answers stay. Errors:

@@ -1,5 +1,6 @@
 -- A run asks at most once of a file whether it runs, and so at most as often as the list has such files.
 use Rattle.std.proofs.Common.{◌≡◌, ◌≤◌, ◌∙◌, ℕ, suc, Bool, true, false, not, ◌&&◌, ◌||◌, cond, List, [], ◌∷◌, ◌++◌, length, map, filter, Option, Some, None, refl, sym, ap, subst, nat_lt, append_assoc}
+use Rattle.std.proofs.lemmas.Bool.{and_parts}
 use Rattle.std.specs.Prelude.{codes}
 use Rattle.std.specs.Cmp.{IsEquivalence}
 use Rattle.std.specs.List.{AllByRecursion, IsDistinct, list_any}
@@ -19,14 +20,6 @@ use Rattle.rehearse_rules.specs.Execution.{Limits, Answer, Ended, CutDevices, Re
 use Rattle.rehearse_rules.specs.Runs.{Task, run_on, state_of}
 use Rattle.rehearse_rules.proofs.KeptLogs.{run-keeps}
 use Rattle.rehearse_rules.proofs.StayingAnswers.{AllFit, Fits, Fitting, answer_stays, answer_begins, all-fit}
-
-and_left : (b c : Bool) → (b && c) ≡ true → b ≡ true
-and_left true c e = refl
-and_left false c e = absurd (let f = e in cc)
-
-and_right : (b c : Bool) → (b && c) ≡ true → c ≡ true
-and_right true c e = e
-and_right false c e = absurd (let f = e in cc)
 
 effect_same : (effect listed : Effect) → Some effect ≡ Some listed → effect ≡ listed
 effect_same effect listed e = cc
@@ -52,13 +45,13 @@ module _ (devices : Devices) where
   choice_words [] e = absurd (let f = e in cc)
   choice_words (name ∷ []) e = absurd (let f = e in cc)
   choice_words (name ∷ file ∷ second ∷ words) e = absurd (let f = e in cc)
-  choice_words (name ∷ file ∷ []) e = ap (λ (n : Text). n ∷ file ∷ []) ((bytes_eq-Decides name (codes "runs")).0 (and_left (bytes_eq name (codes "runs")) _ e))
+  choice_words (name ∷ file ∷ []) e = ap (λ (n : Text). n ∷ file ∷ []) ((bytes_eq-Decides name (codes "runs")).0 (and_parts (bytes_eq name (codes "runs")) _ e).0)
 
   choice_among : (call : List Text) → is_choice devices call ≡ true → list_any (bytes_eq (file_of call)) (asked_about devices) ≡ true
   choice_among [] e = absurd (let f = e in cc)
   choice_among (name ∷ []) e = absurd (let f = e in cc)
   choice_among (name ∷ file ∷ second ∷ words) e = absurd (let f = e in cc)
-  choice_among (name ∷ file ∷ []) e = and_left (list_any (bytes_eq file) (asked_about devices)) _ (and_right (bytes_eq name (codes "runs")) _ e)
+  choice_among (name ∷ file ∷ []) e = (and_parts (list_any (bytes_eq file) (asked_about devices)) _ (and_parts (bytes_eq name (codes "runs")) _ e).1).0
 
   -- ---- its answer stays
 
@@ -73,8 +66,8 @@ module _ (devices : Devices) where
   listed_choice name [] e = absurd (let f = e in cc)
   listed_choice name (file ∷ second ∷ words) e = absurd (let f = e in cc)
   listed_choice name (file ∷ []) e =
-      let named = (bytes_eq-Decides name (codes "runs")).0 (and_left (bytes_eq name (codes "runs")) _ e) in
-      let stays : stays_in devices (codes "runs") (file ∷ []) ≡ true = and_right (list_any (bytes_eq file) (asked_about devices)) _ (and_right (bytes_eq name (codes "runs")) _ e) in
+      let named = (bytes_eq-Decides name (codes "runs")).0 (and_parts (bytes_eq name (codes "runs")) _ e).0 in
+      let stays : stays_in devices (codes "runs") (file ∷ []) ≡ true = (and_parts (list_any (bytes_eq file) (asked_about devices)) _ (and_parts (bytes_eq name (codes "runs")) _ e).1).1 in
       subst (λ (n : Text). Listed n (file ∷ [])) (sym named) (staying (file ∷ []) (effect_of devices (codes "runs") (file ∷ [])) refl stays)
 
   abbrev StaysIf : LoggedCommand → Type 0

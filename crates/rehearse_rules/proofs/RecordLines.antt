@@ -9,7 +9,8 @@ use Rattle.rehearse_terms.specs.State.{Text, Variables, get, State, LoggedComman
 use Rattle.rehearse_rules.specs.Execution.{Ending, End, CutDevices, CutSteps, Unknown, Syntax, Unsupported, Panic, Size, Finished}
 use Rattle.text.specs.Escapes.{hex_digit, escaped, text_form, word_escaped, word_form}
 use Rattle.text.specs.Words.{joined_words}
-use Rattle.rehearse_rules.specs.Listing.{finish_word, digit_when, outcome_digit, spelled, line, device_line, text_lines, written_lines, variable_line, asked_line, variable_lines, last_line, inner_lines, record_lines}
+use Rattle.rehearse_rules.specs.Listing.{finish_word, digit_when, outcome_digit, spelled, line, device_line, text_lines, written_lines, variable_line, asked_line, saved_line, saved_lines, named_lines, variable_lines, last_line, inner_lines, record_lines}
+use Rattle.device_list.specs.Saving.{saved_of}
 use Rattle.rehearse_rules.specs.Resuming.{ended_lines, is_last_line, is_first_line, Point, point_in, resume_point_of}
 
 -- no byte of it is a newline
@@ -133,9 +134,22 @@ asked-inner : (o : Option Text) (name : Text) → IsInner (elim o [ Some value �
 asked-inner (Some value) name = variable-inner name value
 asked-inner None name = unset-inner name
 
-each-inner : (environment : Variables) (names : List Text) → AreInner (map (asked_line environment) names)
+saved-inner : (name copy : Text) → IsInner (saved_line name copy)
+saved-inner name [] = ((refl, (refl, (refl, (refl, (refl, (refl, (refl, (refl, (refl, (refl, (refl, (refl, word-line name)))))))))))), refl, refl)
+saved-inner name (b ∷ value) = ((refl, (refl, (refl, (refl, (refl, (refl, OneLine-append (word_form name ++ codes "=") (text_form value) (OneLine-append (word_form name) (codes "=") (word-line name) (refl, tt)) (text-line value))))))), refl, refl)
+
+copy-inner : (name : Text) (copy : Option Text) → AreInner (saved_lines name copy)
+copy-inner name None = tt
+copy-inner name (Some copy) = (saved-inner name copy, tt)
+
+named-inner : (environment : Variables) (name : Text) (variable : Option Text)
+    → AreInner (elim variable [ None ↦ asked_line environment name ∷ [] | Some of ↦ saved_lines of (get environment name) ])
+named-inner environment name None = (asked-inner (get environment name) name, tt)
+named-inner environment name (Some variable) = copy-inner variable (get environment name)
+
+each-inner : (environment : Variables) (names : List Text) → AreInner (flat_map (named_lines environment) names)
 each-inner environment [] = tt
-each-inner environment (name ∷ names) = (asked-inner (get environment name) name, each-inner environment names)
+each-inner environment (name ∷ names) = Inner-append (named_lines environment name) (flat_map (named_lines environment) names) (named-inner environment name (saved_of name)) (each-inner environment names)
 
 variables-inner : (environment : Variables) (names : List Text) → AreInner (variable_lines environment names)
 variables-inner environment [] = all-inner environment

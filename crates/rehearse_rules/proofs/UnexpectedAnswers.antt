@@ -5,7 +5,7 @@ use Rattle.std.specs.Prelude.{nat_le, codes, take}
 use Rattle.std.specs.Str.{bytes_eq}
 use Rattle.std.specs.List.{list_any}
 use Rattle.std.proofs.Math.Dec.{leb-zero}
-use Rattle.std.proofs.lemmas.Bool.{le-leb, leb-true}
+use Rattle.std.proofs.lemmas.Bool.{and_parts, le-leb, leb-true}
 use Rattle.std.proofs.lemmas.List.{length-map}
 use Rattle.std.proofs.lemmas.List.Elements.{filter-append}
 use Rattle.device_list.specs.DeviceList.{Devices, Effect, call_effect, line_effect, fails_normally, most_choices, asked_about, is_choice, expected}
@@ -123,20 +123,12 @@ some_among : (file : Text) (files : List Text) → list_any (bytes_eq file) file
 some_among file [] e = absurd (let f = e in cc)
 some_among file (f ∷ files) e = omega arith
 
-and_left : (b c : Bool) → (b && c) ≡ true → b ≡ true
-and_left true c e = refl
-and_left false c e = absurd (let f = e in cc)
-
-and_right : (b c : Bool) → (b && c) ≡ true → c ≡ true
-and_right true c e = e
-and_right false c e = absurd (let f = e in cc)
-
 choice_among : (devices : Devices) (call : List Text) → is_choice devices call ≡ true → 0 < length (asked_about devices)
 choice_among devices [] e = absurd (let f = e in cc)
 choice_among devices (name ∷ []) e = absurd (let f = e in cc)
 choice_among devices (name ∷ file ∷ second ∷ words) e = absurd (let f = e in cc)
 choice_among devices (name ∷ file ∷ []) e =
-    some_among file (asked_about devices) (and_left _ _ (and_right (bytes_eq name (codes "runs")) _ e))
+    some_among file (asked_about devices) (and_parts _ _ (and_parts (bytes_eq name (codes "runs")) _ e).1).0
 
 -- neither answer is expected of a choice alone
 pub is_choice_if : (devices : Devices) (call : List Text) → expected devices call ≡ None → is_choice devices call ≡ true

@@ -17,7 +17,8 @@ pub use Rattle.rehearse_rules.specs.Ending.{Ending, End, CutDevices, CutSteps, U
 use Rattle.rehearse_rules.specs.Parameters.{parameters_in}
 use Rattle.rehearse_rules.specs.ByShell.{unread, reads_again, leaves_in, status_of_exit, left_status, status_of_text, call_in, asks_in, question_in, truth_in, truth_if, fields_in, turns_in, skips_rest, status_of_nothing, status_of_no_block, status_of_loop, status_in_turn, status_of_for, status_of_skipped, follows, follows_turns, assigned_in, locals_in}
 use Rattle.device_list.specs.DeviceList.{Effect, Devices, file_in}
-use Rattle.device_list.specs.Called.{Called, BuiltIn, NoCommand, Device, called_by, sets_in}
+use Rattle.device_list.specs.Called.{Called, BuiltIn, NoCommand, Device, called_by, NewValue, Value, Copied, Unset, sets_in}
+use Rattle.device_list.specs.Saving.{copy_of}
 use Rattle.commands.specs.BuiltInCommands.{ChangesVariables, WritesText, RunsTexts, Tests, Exits, variables_changed, text_written}
 
 -- the device list, how many device commands a run may ask, how many steps it may begin, and the shell
@@ -132,17 +133,18 @@ logged outcome request s =
       } ∷ [];
     })
 
--- a variable is set, or without a value deleted
-abbrev pub changed : Variables → Text → Option Text → Variables
-changed variables name None = without variables name
-changed variables name (Some value) = with_value variables name value
+-- a variable is set, also to a copy of another one, or it is deleted
+abbrev pub changed : Variables → Text → NewValue → Variables
+changed variables name Unset = without variables name
+changed variables name (Value value) = with_value variables name value
+changed variables name (Copied other) = with_value variables name (copy_of (get variables other))
 
-abbrev pub with_all : List (Text × Option Text) → Variables → Variables
+abbrev pub with_all : List (Text × NewValue) → Variables → Variables
 with_all [] variables = variables
 with_all (e ∷ es) variables = with_all es (changed variables e.0 e.1)
 
 -- sets and deletes environment variables, one after another
-abbrev pub set_environment : List (Text × Option Text) → State → State
+abbrev pub set_environment : List (Text × NewValue) → State → State
 set_environment sets = remember (λ m. record m { environment = with_all sets m.environment })
 
 -- a command that ends the run, or another one

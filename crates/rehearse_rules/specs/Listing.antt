@@ -1,6 +1,7 @@
 -- The text that a rehearsal writes. Ours.
 use Rattle.std.specs.Prelude.{ℕ, nat_le, Bool, true, false, List, [], ◌∷◌, ◌++◌, map, flat_map, length, take, Option, Some, None, codes, decimal}
 use Rattle.device_list.specs.declared.finish.BoardEnd.{BoardEnd}
+use Rattle.device_list.specs.Saving.{saved_of}
 use Rattle.device_list.specs.declared.finish.BoardEnd.TheVariants.{Boots, Restarts, Halts}
 use Rattle.text.specs.Bytes as ascii
 use Rattle.text.specs.Escapes.{text_form, word_form}
@@ -53,10 +54,28 @@ asked_line environment name =
       | None ↦ codes "unset " ++ word_form name
     ]
 
+-- what a run has saved of a variable, by the copy of it: its value, or that it is not set
+abbrev pub saved_line : (name copy : Text) → Text
+saved_line name [] = codes "saved unset " ++ word_form name
+saved_line name (b ∷ value) = codes "saved " ++ word_form name ++ codes "=" ++ text_form value
+
+-- a run that has saved nothing has no line of it
+abbrev pub saved_lines : (name : Text) → (copy : Option Text) → List Text
+saved_lines name None = []
+saved_lines name (Some copy) = saved_line name copy ∷ []
+
+-- the lines of a variable, or of the copy of one
+abbrev pub named_lines : Variables → Text → List Text
+named_lines environment name =
+    elim (saved_of name) [
+      | None ↦ asked_line environment name ∷ []
+      | Some variable ↦ saved_lines variable (get environment name)
+    ]
+
 -- every environment variable, or those that are asked for, in the order asked
 abbrev pub variable_lines : Variables → (names : List Text) → List Text
 variable_lines environment [] = map variable_line environment
-variable_lines environment (name ∷ names) = map (asked_line environment) (name ∷ names)
+variable_lines environment (name ∷ names) = flat_map (named_lines environment) (name ∷ names)
 
 -- how a device command ended the run
 abbrev pub finish_word : BoardEnd → Text

@@ -1,16 +1,15 @@
-use Rattle.std.proofs.Common.{refl, sym, subst, Option, List}
+use Rattle.std.proofs.Common.{refl, sym, subst, ◌++◌}
 use Rattle.text.specs.TextsShown.{bytes_of_words}
 use Rattle.device_list.specs.CommandsShown.{lent_effect}
 use Rattle.rehearse_rules.specs.Execution.{request_of}
 use Rattle.rehearse_rules.specs.Needs.{effect_now}
 use Rattle.rehearse_rules.proofs.NeedsLemmas.{now_runs}
-use Rattle.rehearse_terms.specs.State.{Text}
 use Rattle.rehearse_reads.specs.Keys.{all_read}
-use Rattle.rehearse_reads.specs.Accesses.{needs_reads, handing_reads}
+use Rattle.rehearse_reads.specs.Accesses.{needs_reads, copied_keys, handing_reads}
 use Rattle.rehearse_frames.specs.MoveAccesses.{of_asking}
 use Rattle.rehearse_reports.specs.Reports.{Reports}
 use Rattle.rehearse_reports.specs.ReportsShown.{accesses_shown}
-use Rattle.rehearse_reports.proofs.CallLemmas.{now_steady, asks_all}
+use Rattle.rehearse_reports.proofs.CallLemmas.{now_steady, now_sets, asks_all}
 use Rattle.rehearse_reports.proofs.NamedLemmas.{ok_as}
 use Rattle.rehearse_reports.proofs.ReportLemmas.{reports_then}
 use Rattle.rehearse_reports.proofs.calls.report_listed.Goals as goal
@@ -23,9 +22,9 @@ returns c limits s =
     let before = accesses_shown c.args.reported.now in
     let needed = accesses_shown c.report_needs.new.reported in
     let told = accesses_shown c.report_told.new.reported in
-    let after = accesses_shown c.report_handing.new.reported in
-    ok_as c.report_handing.result
-    (λ handing. reports_then before needed after (all_read (needs_reads effect.needs)) (of_asking limits request s) c.in_ok-report_needs.ensures
+    let after = accesses_shown c.report_early.new.reported in
+    ok_as c.report_early.result
+    (λ early. reports_then before needed after (all_read (needs_reads effect.needs)) (of_asking limits request s) c.in_ok-report_needs.ensures
     (asks_all needed told after limits request s (c.in_ok-report_told.ensures request refl refl (now_steady s.log effect))
-    (subst (λ (runs : List Text). Reports told after (handing_reads runs)) (sym (now_runs s.log effect)) handing)))
-    c.report_handing.ensures
+    (subst (Reports told after) (λ i. handing_reads (sym (now_runs s.log effect) i) ++ all_read (copied_keys (sym (now_sets s.log effect) i))) early)))
+    c.report_early.ensures

@@ -1,7 +1,8 @@
 use Rattle.std.proofs.Common.{ℕ, List, ap, sym, ◌∙◌}
 use Rattle.std.specs.Prelude.{option_map}
 use Rattle.std.specs.Borrow.{Bor}
-use Rattle.text.specs.TextsShown.{bytes_of_words, option_bytes}
+use Rattle.text.specs.TextsShown.{bytes_of_words}
+use Rattle.rehearse_machine.specs.NewValueShown.{new_value_shown}
 use Rattle.device_list.specs.DevicesShown.{setting_shown}
 use Rattle.rehearse_reports.specs.ReportsShown.{accesses_shown}
 use Rattle.rehearse_reports.proofs.OutcomeLemmas.{sets_no_name, sets_no_value, sets_one}
@@ -15,4 +16,4 @@ returns-in_default-value_of c = sets_no_value (accesses_shown c.args.reported.no
 
 pub returns : goal.returns
 returns c =
-    sets_one (accesses_shown c.args.reported.now) (accesses_shown c.writes.new.self) (bytes_of_words c.args.words.now) (setting_shown c.args.set.now) c.in-Some.name.now (option_bytes c.in-Some-value_of._value) c.in_ok-from_slice.field-0.items c.in-Some.ensures c.in-Some-value_of.ensures c.in_ok-from_slice.ensures.items c.in_ok-writes.ensures.covers
+    sets_one (accesses_shown c.args.reported.now) (accesses_shown c.writes.new.self) (bytes_of_words c.args.words.now) (setting_shown c.args.set.now) c.in-Some.name.now (new_value_shown c.in-Some-value_of._value) c.in_ok-from_slice.field-0.items c.in-Some.ensures c.in-Some-value_of.ensures c.in_ok-from_slice.ensures.items c.in_ok-writes.ensures.covers
