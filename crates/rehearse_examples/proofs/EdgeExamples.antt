@@ -119,7 +119,7 @@ syntax_of_the_empty_name : listed (bootcmd_among (limits only_load 0 10000) (([]
 unfolding listed
 syntax_of_the_empty_name = refl
 
-odd_names_asked : listed (bootcmd_among (limits only_load 0 10000) ((odd, odd) ∷ []) []) (odd ∷ (0 ∷ odd) ∷ [] ∷ []) None ≡ codes "run .\nvar a\\x20b\\\\\\n\\xff=a b\\\\\\n\\xff\nunset \\x00a\\x20b\\\\\\n\\xff\nunset \\e\nend 0\ndone\n"
+odd_names_asked : listed (bootcmd_among (limits only_load 0 10000) ((odd, odd) ∷ []) []) (odd ∷ (7 ∷ 0 ∷ odd) ∷ [] ∷ []) None ≡ codes "run .\nvar a\\x20b\\\\\\n\\xff=a b\\\\\\n\\xff\nunset \\x07\\x00a\\x20b\\\\\\n\\xff\nunset \\e\nend 0\ndone\n"
 unfolding listed
 odd_names_asked = refl
 

@@ -7,6 +7,7 @@ mod BootingExamples
 mod SteadyExamples
 mod NeedsExamples
 mod NormalExamples
+mod SavedExamples
 mod ResumingExamples
 mod PlainExecutionExamples
 mod ListedExamples

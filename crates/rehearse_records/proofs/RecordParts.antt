@@ -11,8 +11,8 @@ use Rattle.bootstore_state.specs.declared.store.Store.{Ghosts}
 use Rattle.bootstore_state.specs.DeviceLog.{entry_line}
 use Rattle.rehearse_terms.specs.State.{Text, Variables, State}
 use Rattle.rehearse_rules.specs.Execution.{Ending}
-use Rattle.rehearse_rules.specs.Listing.{line, device_line, written_lines, variable_line, variable_lines, asked_line, last_line}
-use Rattle.rehearse_records.specs.Recording.{printed, set_line, named_line, recorded}
+use Rattle.rehearse_rules.specs.Listing.{line, device_line, written_lines, variable_line, variable_lines, named_lines, last_line}
+use Rattle.rehearse_records.specs.Recording.{printed, set_line, named_text, recorded}
 use Rattle.rehearse_records.specs.RunViewShown.{shown_word, shown_moment, shown_ending}
 use Rattle.rehearse_records.specs.declared.run_view.RunView.{RunView}
 
@@ -25,13 +25,15 @@ pub all_variables : {X : Type 0} (now : X → Text) (environment : Variables) (n
 all_variables now environment [] e = sym (lines_of-map variable_line environment)
 all_variables now environment (x ∷ xs) e = absurd (omega (arith, e))
 
-pub named_variables : {X : Type 0} (now : X → Text) (environment : Variables) (names : List X) → (length names ≡ 0 → ⊥) → flat_map (λ n. named_line environment (now n)) names ≡ flat_map line (variable_lines environment (map now names))
+pub named_variables : {X : Type 0} (now : X → Text) (environment : Variables) (names : List X) → (length names ≡ 0 → ⊥) → flat_map (λ n. named_text environment (now n)) names ≡ flat_map line (variable_lines environment (map now names))
 named_variables now environment [] e = absurd (e refl)
-named_variables now environment (x ∷ xs) e = ap (λ t. named_line environment (now x) ++ t) (lines_of-map2 now environment xs)
+named_variables now environment (x ∷ xs) e = lines_of-named now environment (x ∷ xs)
   where
-    lines_of-map2 : {X : Type 0} (now : X → Text) (environment : Variables) (names : List X) → flat_map (λ n. named_line environment (now n)) names ≡ flat_map line (map (asked_line environment) (map now names))
-    lines_of-map2 now environment [] = refl
-    lines_of-map2 now environment (x ∷ xs) = ap (λ t. named_line environment (now x) ++ t) (lines_of-map2 now environment xs)
+    lines_of-named : {X : Type 0} (now : X → Text) (environment : Variables) (names : List X) → flat_map (λ n. named_text environment (now n)) names ≡ flat_map line (flat_map (named_lines environment) (map now names))
+    lines_of-named now environment [] = refl
+    lines_of-named now environment (x ∷ xs) =
+        ap (λ t. named_text environment (now x) ++ t) (lines_of-named now environment xs)
+        ∙ sym (flat_map-append line (named_lines environment (now x)) (flat_map (named_lines environment) (map now xs)))
 
 record_parts : (digits : Text) (s : State) (ending : Ending) (names : List Text)
     → line (codes "run " ++ printed digits) ++ (flat_map entry_line s.log ++ (flat_map line (written_lines s.memory.text) ++ (flat_map line (variable_lines s.memory.environment names) ++ line (last_line ending)))) ≡ recorded digits s ending names

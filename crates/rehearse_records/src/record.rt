@@ -6,15 +6,16 @@ ghost use Rattle.text.specs.Escapes.{word_form};
 ghost use Rattle.output.specs.Sink.{Prints};
 ghost use Rattle.text.specs.TextsShown.{option_bytes};
 ghost use Rattle.bootstore_state.specs.StoredState.{state_at};
-ghost use Rattle.rehearse_rules.specs.Listing.{line, text_lines, written_lines, variable_lines, last_line};
+ghost use Rattle.rehearse_rules.specs.Listing.{line, text_lines, written_lines, asked_line, saved_line, variable_lines, last_line};
 ghost use Rattle.output.specs.Paging.{Puts};
-ghost use Rattle.rehearse_records.specs.Recording.{printed, set_line, named_line, recorded};
+ghost use Rattle.rehearse_records.specs.Recording.{printed, set_line, named_text, recorded};
 ghost use Rattle.rehearse_records.specs.RunViewShown.{shown_word, shown_moment, shown_ending};
 ghost use Rattle.rehearse_rules.specs.EndingsShown.{ending_shown};
 
 use crate::line_pieces::{Piece, is_plain_text, is_plain_word, put_pieces};
 use crate::run_view::RunView;
 use bootstore_state::{Store, Variables};
+use device_list::saved_of;
 use output::{BytePage, Out, OutFault, flush, put};
 use rehearse_rules::{Ending, finish_word};
 
@@ -184,7 +185,50 @@ fn put_all<O: Out>(
     Ok(())
 }
 
-/// Puts the line of a variable that is asked for.
+/// Puts the line of what was saved of a variable, by the copy of it.
+fn put_saved<'x, O: Out>(
+    out: &mut O,
+    page: &mut BytePage,
+    name: &'x [u8],
+    copy: &'x [u8],
+) -> Result<(), OutFault>
+    ensures { Puts result (O.sink out.old) (O.sink out.new) page.old.items page.new.items
+        (line (saved_line name.now copy.now)) }
+{
+    match copy {
+        [_, value @ ..] => put_pieces(
+            out,
+            page,
+            &[
+                Piece::Plain(b"saved "),
+                Piece::Word(name),
+                Piece::Plain(b"="),
+                Piece::Text(value),
+                Piece::Plain(b"\n"),
+            ],
+        ),
+        [] => put_word_line(out, page, b"saved unset ", name),
+    }
+}
+
+/// Puts the line of a variable: its value, or that it is not set.
+fn put_variable<S: Store, O: Out>(
+    out: &mut O,
+    page: &mut BytePage,
+    view: &RunView<'_, S>,
+    name: &[u8],
+) -> Result<(), OutFault>
+    ensures { Puts result (O.sink out.old) (O.sink out.new) page.old.items page.new.items
+        (line (asked_line (entries (shown_moment S.Store view.now).environment) name.now)) }
+{
+    match view.variable(name) {
+        Some(value) => put_set(out, page, name, value),
+        None => put_word_line(out, page, b"unset ", name),
+    }
+}
+
+/// Puts the line of a variable that is asked for, or of what was saved of one: no line, if nothing
+/// was.
 fn put_asked<S: Store, O: Out>(
     out: &mut O,
     page: &mut BytePage,
@@ -192,11 +236,14 @@ fn put_asked<S: Store, O: Out>(
     name: &[u8],
 ) -> Result<(), OutFault>
     ensures { Puts result (O.sink out.old) (O.sink out.new) page.old.items page.new.items
-        (named_line (entries (shown_moment S.Store view.now).environment) name.now) }
+        (named_text (entries (shown_moment S.Store view.now).environment) name.now) }
 {
+    let Some(variable) = saved_of(name) else {
+        return put_variable(out, page, view, name);
+    };
     match view.variable(name) {
-        Some(value) => put_set(out, page, name, value),
-        None => put_word_line(out, page, b"unset ", name),
+        Some(copy) => put_saved(out, page, variable, copy),
+        None => Ok(()),
     }
 }
 
@@ -208,7 +255,7 @@ fn put_named<S: Store, O: Out>(
     names: &[&[u8]],
 ) -> Result<(), OutFault>
     ensures { Puts result (O.sink out.old) (O.sink out.new) page.old.items page.new.items
-        (flat_map (λ n. named_line (entries (shown_moment S.Store view.now).environment) n.now)
+        (flat_map (λ n. named_text (entries (shown_moment S.Store view.now).environment) n.now)
         names.now) }
 {
     for name in names {

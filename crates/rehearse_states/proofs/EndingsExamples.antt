@@ -6,14 +6,15 @@ use Rattle.device_list.specs.declared.finish.BoardEnd.TheVariants.{Boots, Restar
 use Rattle.hushlang.specs.Expansion.{fields, joined, atoms}
 use Rattle.rehearse_terms.specs.Outcomes.{OutcomeWord, Success, Failure, failures}
 use Rattle.device_list.specs.DeviceLaws.{quiet}
-use Rattle.device_list.specs.DeviceList.{only}
+use Rattle.device_list.specs.DeviceList.{only, Saving, Deleted}
+use Rattle.device_list.specs.Saving.{saved_name, saving}
 use Rattle.hushlang.specs.Trees.{tree_of}
 use Rattle.rehearse_terms.specs.State.{Text}
 use Rattle.rehearse_rules.specs.Execution.{Ending, End, CutDevices, CutSteps, Unknown, Syntax, Unsupported, Panic, Size, Finished}
 use Rattle.rehearse_rules.specs.Runs.{Task, all_runs}
 use Rattle.rehearse_rules.proofs.ExampleRehearsals.{only_load, limits, bootcmd}
 use Rattle.rehearse_states.specs.Endings.{RunEnd, Row, Counted, ending_eq, end_eq, fewer, joined as with_further, with_row, gather, endings, counts_at, of_both}
-use Rattle.rehearse_states.specs.EndingLines.{failing, count_text, endings_text, counted}
+use Rattle.rehearse_states.specs.EndingLines.{failing, count_text, value_lines, endings_text, counted}
 use Rattle.rehearse_states.specs.RowsShown.{most_runs, saturated, with_row_up}
 
 abbrev task : ℕ → Text → Task
@@ -104,6 +105,36 @@ order_asked = refl
 at_the_end : lines_with (codes "v" ∷ []) (task 3 (codes "setenv v 1; load a && setenv v; setenv v 2")) 1 ≡ codes "ends 2 first 0 fewest 0 0 end 0\nvar v=2\nall 2 states 1\n"
 unfolding tree_of fields joined atoms digits
 at_the_end = refl
+
+-- ---- what was saved
+
+-- the device list `load` and `saves keep`: a call of `keep` sets a copy of `v`
+abbrev keeping : Text → Task
+keeping text = bootcmd (limits (saving (codes "v" ∷ []) (record (only ((codes "load", quiet) ∷ [])) { calls = (codes "keep", (record { words = []; more = true }, record quiet { sets = (Saving, Deleted) ∷ [] }) ∷ []) ∷ [] })) 3 20) text
+
+-- the variable and what was saved of it
+abbrev with_saved : Text → ℕ → Text
+with_saved text states = lines_with (codes "v" ∷ saved_name (codes "v") ∷ []) (keeping text) states
+
+-- the value at the call, not at the end; where nothing was saved there is no line
+saved_at_the_call : with_saved (codes "setenv v 1; load a && keep; setenv v 2; true") 2 ≡ codes "ends 1 first 00 fewest 0 00 end 0\nvar v=2\nsaved v=1\nends 2 first 01 fewest 1 01 end 0\nvar v=2\nfails keep\nall 3 states 2\n"
+unfolding tree_of fields joined atoms digits
+saved_at_the_call = refl
+
+-- a variable that was not set when the environment was saved is not one that was not saved
+saved_unset : with_saved (codes "keep; setenv v 1; true") 1 ≡ codes "ends 1 first 0 fewest 0 0 end 0\nvar v=1\nsaved unset v\nends 1 first 1 fewest 1 1 end 0\nvar v=1\nfails keep\nall 2 states 1\n"
+unfolding tree_of fields joined atoms digits
+saved_unset = refl
+
+-- a value, one that begins with `=`, an empty one, none, and nothing saved
+saved_values : value_lines (map saved_name (codes "a" ∷ codes "b" ∷ codes "c" ∷ codes "d" ∷ codes "e" ∷ [])) (Some (codes "=1") ∷ Some (codes "==2") ∷ Some (codes "=") ∷ Some [] ∷ None ∷ []) ≡ codes "saved a=1\nsaved b==2\nsaved c=\nsaved unset d\n"
+saved_values = refl
+
+-- beside the variables, with bytes that are escaped
+saved_beside : value_lines (saved_name (codes "a b") ∷ codes "v" ∷ saved_name (codes "v") ∷ []) (Some [] ∷ None ∷ Some (codes "=x \n") ∷ []) ≡ codes "saved unset a\\x20b\nunset v\nsaved v=x \\n\n"
+saved_beside = refl
+
+-- ---- answers that stay
 
 -- the device list `steady load`: of the four runs that succeed and fail in turn, two are left, and each is one state
 abbrev steady : Text → Task

@@ -3,7 +3,8 @@ use Rattle.std.specs.Prelude.{ℕ, ◌+◌, nat_lt, Bool, true, false, List, [],
 use Rattle.text.specs.Escapes.{word_form}
 use Rattle.text.specs.Words.{joined_words}
 use Rattle.rehearse_terms.specs.State.{Text}
-use Rattle.rehearse_rules.specs.Listing.{spelled, line, variable_line, last_line}
+use Rattle.device_list.specs.Saving.{saved_of}
+use Rattle.rehearse_rules.specs.Listing.{spelled, line, variable_line, saved_lines, last_line}
 use Rattle.rehearse_rules.specs.Runs.{Task, run_on, state_of}
 use Rattle.rehearse_terms.specs.Outcomes.{OutcomeWord}
 use Rattle.rehearse_rules.specs.Expected.{Answered, asked_in, unexpected_of}
@@ -48,11 +49,16 @@ abbrev pub value_text : (name : Text) → Option Text → Text
 value_text name (Some value) = variable_line (name, value)
 value_text name None = codes "unset " ++ word_form name
 
+-- and what was saved of a variable, by the copy of it
+abbrev pub value_texts : (name : Text) → Option Text → List Text
+value_texts name value =
+    elim (saved_of name) [ None ↦ value_text name value ∷ [] | Some variable ↦ saved_lines variable value ]
+
 -- in the order asked
 abbrev pub value_lines : (names : List Text) → List (Option Text) → Text
 value_lines [] values = []
 value_lines (name ∷ names) [] = []
-value_lines (name ∷ names) (value ∷ values) = line (value_text name value) ++ value_lines names values
+value_lines (name ∷ names) (value ∷ values) = flat_map line (value_texts name value) ++ value_lines names values
 
 -- the line of an ending, the values that are left, and what it takes: the unexpected answers of the run with the fewest
 abbrev pub row_lines : (names : List Text) → (fails : OutcomeWord → List Answered) → Row → Text

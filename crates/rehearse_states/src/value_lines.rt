@@ -1,12 +1,14 @@
 //! The lines of the values that runs leave.
 ghost use Rattle.std.specs.Prelude.{◌≡◌, ◌++◌, OnOk, map};
-ghost use Rattle.rehearse_rules.specs.Listing.{line};
+ghost use Rattle.std.specs.List.{flat_map};
+ghost use Rattle.rehearse_rules.specs.Listing.{line, saved_line};
 ghost use Rattle.text.specs.Escapes.{escaped, text_form};
-ghost use Rattle.rehearse_states.specs.EndingLines.{value_lines, value_text};
+ghost use Rattle.rehearse_states.specs.EndingLines.{value_lines, value_text, value_texts};
 ghost use Rattle.rehearse_states.specs.RowsShown.{value_shown};
 
 use crate::ending_lines::{put, put_word};
 use bootstore_state::StoreError;
+use device_list::saved_of;
 use text::Escaped;
 
 /// Adds bytes in text form.
@@ -20,7 +22,7 @@ fn put_text(text: &mut Vec<u8>, bytes: &[u8]) -> Result<(), StoreError>
 }
 
 /// Adds the line of a variable: its value, or that it is not set.
-fn put_value(text: &mut Vec<u8>, name: &[u8], value: &Option<Vec<u8>>) -> Result<(), StoreError>
+fn put_variable(text: &mut Vec<u8>, name: &[u8], value: &Option<Vec<u8>>) -> Result<(), StoreError>
     ensures { OnOk result (text.new.items
         ≡ text.old.items ++ line (value_text name.now (value_shown value.now))) }
 {
@@ -40,7 +42,41 @@ fn put_value(text: &mut Vec<u8>, name: &[u8], value: &Option<Vec<u8>>) -> Result
     }
 }
 
-/// Adds a line for each variable, with its value.
+/// Adds the line of what was saved of a variable, by the copy of it.
+fn put_saved(text: &mut Vec<u8>, name: &[u8], copy: &[u8]) -> Result<(), StoreError>
+    ensures { OnOk result (text.new.items ≡ text.old.items ++ line (saved_line name.now copy.now)) }
+{
+    match copy {
+        [_, value @ ..] => {
+            put(text, b"saved ")?;
+            put_word(text, name)?;
+            put(text, b"=")?;
+            put_text(text, value)?;
+            put(text, b"\n")
+        }
+        [] => {
+            put(text, b"saved unset ")?;
+            put_word(text, name)?;
+            put(text, b"\n")
+        }
+    }
+}
+
+/// Adds the line of a variable, or of what was saved of one: no line, if nothing was.
+fn put_value(text: &mut Vec<u8>, name: &[u8], value: &Option<Vec<u8>>) -> Result<(), StoreError>
+    ensures { OnOk result (text.new.items ≡ text.old.items
+        ++ flat_map line (value_texts name.now (value_shown value.now))) }
+{
+    let Some(variable) = saved_of(name) else {
+        return put_variable(text, name, value);
+    };
+    match value {
+        Some(copy) => put_saved(text, variable, copy),
+        None => Ok(()),
+    }
+}
+
+/// Adds the lines of the variables, with their values, and of what was saved.
 pub(crate) fn put_values(
     text: &mut Vec<u8>,
     names: &[&[u8]],
