@@ -1,3 +1,4 @@
+pub mod SavedCopies
 pub use Rattle.commands.specs.Verdict
 pub use Rattle.device_list.specs.DeviceList
 pub use Rattle.rehearse_terms.specs.Outcomes

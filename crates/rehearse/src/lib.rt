@@ -2,6 +2,8 @@
 //! name.
 #![tactic(auto)]
 
+pub mod laws;
+
 pub use bootstore_trail::Trail;
 pub use commands::verdict;
 pub use device_list::{BoardEnd, Devices, DevicesError, Effect, LeftSide, RightSide, Setting};
