@@ -6,7 +6,7 @@ use Rattle.envimage.specs.declared.image.ImageError.{ImageError}
 use Rattle.envimage.specs.declared.image.ImageError.TheVariants.{BadCrc}
 use Rattle.board_start.specs.Boards.{OfDevices, OfStart, board_of, text_alone}
 use Rattle.board_start.specs.declared.start_error.StartError.TheVariants.{Alternatives, Name, NoAlternative, TooMany}
-use Rattle.device_list.specs.DeviceList.{Devices, all_steady, only}
+use Rattle.device_list.specs.DeviceList.{CopyOf, Deleted, Devices, Saving, Setting, Variable, all_steady, only}
 use Rattle.device_list.specs.DeviceLaws.{quiet}
 use Rattle.device_list.specs.declared.devices_error.DevicesError.TheVariants.{BadLine}
 use Rattle.rehearse_terms.specs.State.{Text}
@@ -25,7 +25,7 @@ stored = (codes "bootcmd", codes "load") ∷ (codes "p", codes "pro\\be") ∷ (c
 -- on a board of this shell, with this list, of which this alternative is named
 abbrev begins : Shell → (list : Text) → Option ℕ → (variable : Text) → Result Beginning NoBeginning
 begins shell list alternative variable =
-    with_image (Ok stored) shell (board_of (text_alone list)) (taking false alternative) variable None
+    with_image (Ok stored) shell (board_of (text_alone list)) (taking false alternative) variable None []
 
 -- ---- refusals
 
@@ -40,7 +40,7 @@ abbrev too_many : Text
 too_many = codes "load x\ngiven a=1\ngiven a=2\ngiven a=3\ngiven a=4\ngiven a=5\ngiven a=6\ngiven a=7\ngiven a=8\ngiven b=1\ngiven b=2\ngiven b=3\ngiven b=4\ngiven b=5\ngiven b=6\ngiven b=7\ngiven b=8\ngiven b=9"
 
 -- the image is refused before the list
-image_first : with_image (Err BadCrc) Profile (board_of (text_alone bad_line)) (taking false None) (codes "bootcmd") None ≡ Err (OfImage BadCrc)
+image_first : with_image (Err BadCrc) Profile (board_of (text_alone bad_line)) (taking false None) (codes "bootcmd") None [] ≡ Err (OfImage BadCrc)
 image_first = refl
 
 -- a list with too many alternatives is refused before its first fault
@@ -77,30 +77,62 @@ abbrev first_text : Option Text
 first_text = Some (codes "run p\nrun bootcmd\n")
 
 -- the environment with what the list gives, its commands, and the text that runs in place of the variable's
-first_alternative : begins Profile two (Some 1) (codes "bootcmd") ≡ Ok (record { environment = with_a (codes "pro\\be") (codes "1"); devices = loads; text = first_text })
+first_alternative : begins Profile two (Some 1) (codes "bootcmd") ≡ Ok (record { environment = with_a (codes "pro\\be") (codes "1"); devices = loads; names = []; text = first_text })
 first_alternative = refl
 
-second_alternative : begins Profile two (Some 2) (codes "bootcmd") ≡ Ok (record { environment = with_a (codes "pro\\be") (codes "2"); devices = loads; text = first_text })
+second_alternative : begins Profile two (Some 2) (codes "bootcmd") ≡ Ok (record { environment = with_a (codes "pro\\be") (codes "2"); devices = loads; names = []; text = first_text })
 second_alternative = refl
 
 -- a shell of U-Boot has the variables as U-Boot reads them
-read_by_uboot : begins Old2023 two (Some 1) (codes "bootcmd") ≡ Ok (record { environment = with_a (codes "probe") (codes "1"); devices = loads; text = first_text })
+read_by_uboot : begins Old2023 two (Some 1) (codes "bootcmd") ≡ Ok (record { environment = with_a (codes "probe") (codes "1"); devices = loads; names = []; text = first_text })
 read_by_uboot = refl
 
-read_by_a_later_uboot : begins Old2025 two (Some 1) (codes "bootcmd") ≡ Ok (record { environment = with_a (codes "probe") (codes "1"); devices = loads; text = first_text })
+read_by_a_later_uboot : begins Old2025 two (Some 1) (codes "bootcmd") ≡ Ok (record { environment = with_a (codes "probe") (codes "1"); devices = loads; names = []; text = first_text })
 read_by_a_later_uboot = refl
 
 -- what the list gives is not read so
-given_as_it_is : begins Old2023 (codes "given a=1\\2") None (codes "bootcmd") ≡ Ok (record { environment = with_a (codes "probe") (codes "1\\2"); devices = only []; text = None })
+given_as_it_is : begins Old2023 (codes "given a=1\\2") None (codes "bootcmd") ≡ Ok (record { environment = with_a (codes "probe") (codes "1\\2"); devices = only []; names = []; text = None })
 given_as_it_is = refl
 
 -- all of the list is steady if that is asked
-steady_if_asked : with_image (Ok stored) Profile (board_of (text_alone (codes "load"))) (taking true None) (codes "bootcmd") None ≡ Ok (record { environment = stored; devices = all_steady loads; text = None })
+steady_if_asked : with_image (Ok stored) Profile (board_of (text_alone (codes "load"))) (taking true None) (codes "bootcmd") None [] ≡ Ok (record { environment = stored; devices = all_steady loads; names = []; text = None })
 steady_if_asked = refl
 
 -- a text that is given goes behind those that run first
-given_text : with_image (Ok stored) Profile (board_of (text_alone (codes "load\nbefore p"))) (taking false None) (codes "boot.scr") (Some (codes "load")) ≡ Ok (record { environment = stored; devices = loads; text = Some (codes "run p\nload") })
+given_text : with_image (Ok stored) Profile (board_of (text_alone (codes "load\nbefore p"))) (taking false None) (codes "boot.scr") (Some (codes "load")) [] ≡ Ok (record { environment = stored; devices = loads; names = []; text = Some (codes "run p\nload") })
 given_text = refl
+
+-- ---- calls that save
+
+abbrev begins_asking : (list : Text) → (steady : Bool) → (names : List Text) → Result Beginning NoBeginning
+begins_asking list steady names =
+    with_image (Ok stored) Profile (board_of (text_alone list)) (taking steady None) (codes "bootcmd") None names
+
+abbrev with_saves : Text
+with_saves = codes "load\nsaves saveenv"
+
+-- what `saveenv` sets after it saves
+abbrev setting_copies : List Setting → Devices
+setting_copies sets =
+    record loads { calls = (codes "saveenv", (record { words = []; more = true }, record quiet { sets = (Saving, Deleted) ∷ sets }) ∷ []) ∷ [] }
+
+abbrev copy_of_p : List Setting
+copy_of_p = (Variable (0 ∷ codes "p"), CopyOf (codes "p")) ∷ []
+
+-- the variable that is asked for has a copy, and the copy is asked for too
+one_copied : begins_asking with_saves false (codes "p" ∷ []) ≡ Ok (record { environment = stored; devices = setting_copies copy_of_p; names = codes "p" ∷ (0 ∷ codes "p") ∷ []; text = None })
+one_copied = refl
+
+one_copied_steadily : begins_asking with_saves true (codes "p" ∷ []) ≡ Ok (record { environment = stored; devices = all_steady (setting_copies copy_of_p); names = codes "p" ∷ (0 ∷ codes "p") ∷ []; text = None })
+one_copied_steadily = refl
+
+-- nothing is asked for, and so nothing is copied
+none_copied : begins_asking with_saves false [] ≡ Ok (record { environment = stored; devices = setting_copies []; names = []; text = None })
+none_copied = refl
+
+-- nor is it if no call saves
+not_saved : begins_asking (codes "load") false (codes "p" ∷ []) ≡ Ok (record { environment = stored; devices = loads; names = codes "p" ∷ []; text = None })
+not_saved = refl
 
 -- ---- answers
 

@@ -11,6 +11,7 @@ use Rattle.device_list.specs.declared.devices_error.DevicesError.{DevicesError}
 use Rattle.rehearse_rules.specs.declared.rehearse_error.RehearseError.TheVariants as rehearsal
 use Rattle.rehearse_rules.specs.Runs.{Task}
 use Rattle.rehearse_runs.specs.RehearsedEnvironment.{task_asked}
+use Rattle.rehearse_terms.specs.Asking.{Asking}
 use Rattle.rehearse_terms.specs.State.{Text}
 use Rattle.rehearse_terms.specs.declared.shell.Shell.{Shell}
 use Rattle.tool_images.specs.PrintingImages.{environment_in}
@@ -20,7 +21,7 @@ use Rattle.ubtool.specs.BoardEnvironment.{on_board as on_board_of}
 use Rattle.ubtool.specs.Faults.{board_error}
 use Rattle.ubtool.specs.Given.{Given}
 use Rattle.ubtool.specs.declared.beginning.Beginning.{Beginning as BeginningRead}
-use Rattle.ubtool.specs.Headline.{HasBoard}
+use Rattle.ubtool.specs.Headline.{HasBoard, asked_of}
 use Rattle.ubtool.specs.Refusing.{HasImage}
 use Rattle.ubtool.specs.declared.rehearsal_error.RehearsalError.{RehearsalError}
 use Rattle.ubtool.specs.declared.rehearsal_error.RehearsalError.TheVariants as refused
@@ -47,31 +48,31 @@ not_begun image answer IsSo told listed starts memory refused.Write h = absurd h
 not_begun image answer IsSo told listed starts memory refused.Memory h = memory h.0 h.1
 
 -- where the list of the board is faulty
-pub no_board : (list : Result Board Fault) (environment : List Pair) (taking : Taking) (name : Text) (text : Option Text)
-    → (error : BoardError) → IsBoard list (Err error) → Begins (Ok environment) (with_board list taking environment name text) (Err (board_error error))
-no_board list environment taking name text (faulty.Start fault) h = ap (λ b. with_board b taking environment name text) h
-no_board list environment taking name text (faulty.Devices fault) h = ap (λ b. with_board b taking environment name text) h
-no_board list environment taking name text faulty.Memory h = (environment, refl)
+pub no_board : (list : Result Board Fault) (environment : List Pair) (taking : Taking) (name : Text) (text : Option Text) (names : List Text)
+    → (error : BoardError) → IsBoard list (Err error) → Begins (Ok environment) (with_board list taking environment name text names) (Err (board_error error))
+no_board list environment taking name text names (faulty.Start fault) h = ap (λ b. with_board b taking environment name text names) h
+no_board list environment taking name text names (faulty.Devices fault) h = ap (λ b. with_board b taking environment name text names) h
+no_board list environment taking name text names faulty.Memory h = (environment, refl)
 
 -- what begins in the environment that a board has of an image begins with the image
-pub from_image : (image : Result (List Pair) ImageError) (shell : Shell) (list : Result Board Fault) (taking : Taking) (name : Text) (text : Option Text) (environment found : List Pair) → image ≡ Ok environment → found ≡ on_board_of shell environment
-    → (result : Result BeginningRead RehearsalError) → Begins (Ok found) (with_board list taking found name text) result → Begins image (with_image image shell list taking name text) result
-from_image image shell list taking name text environment found is same result h = by result h
+pub from_image : (image : Result (List Pair) ImageError) (shell : Shell) (list : Result Board Fault) (taking : Taking) (name : Text) (text : Option Text) (names : List Text) (environment found : List Pair) → image ≡ Ok environment → found ≡ on_board_of shell environment
+    → (result : Result BeginningRead RehearsalError) → Begins (Ok found) (with_board list taking found name text names) result → Begins image (with_image image shell list taking name text names) result
+from_image image shell list taking name text names environment found is same result h = by result h
   where
-    alike : with_image image shell list taking name text ≡ with_board list taking found name text
-    alike = ap (λ i. with_image i shell list taking name text) is ∙ ap (λ e. with_board list taking e name text) (sym same)
+    alike : with_image image shell list taking name text names ≡ with_board list taking found name text names
+    alike = ap (λ i. with_image i shell list taking name text names) is ∙ ap (λ e. with_board list taking e name text names) (sym same)
 
-    by : (r : Result BeginningRead RehearsalError) → Begins (Ok found) (with_board list taking found name text) r → Begins image (with_image image shell list taking name text) r
+    by : (r : Result BeginningRead RehearsalError) → Begins (Ok found) (with_board list taking found name text names) r → Begins image (with_image image shell list taking name text names) r
     by (Ok beginning) k = alike ∙ k
     by (Err error) k =
-        not_begun (Ok found) (with_board list taking found name text) (λ e. Begins image (with_image image shell list taking name text) (Err e))
+        not_begun (Ok found) (with_board list taking found name text names) (λ e. Begins image (with_image image shell list taking name text names) (Err e))
         (λ fault said. alike ∙ said) (λ fault said. alike ∙ said) (λ fault said. alike ∙ said) (λ e said. (environment, is)) error k
 
 -- where there is something to begin with, the image is right
 pub has-image : (g : Given) (beginning : Beginning) → beginning_of g ≡ Ok beginning → HasImage g
 has-image g beginning found = by (environment_in g.order g.first g.second) refl found
   where
-    by : (image : Result (List Pair) ImageError) → environment_in g.order g.first g.second ≡ image → with_image image g.asking.bounds.shell (board_of g.device_list) g.taking g.asking.variable g.text ≡ Ok beginning → HasImage g
+    by : (image : Result (List Pair) ImageError) → environment_in g.order g.first g.second ≡ image → with_image image g.asking.bounds.shell (board_of g.device_list) g.taking g.asking.variable g.text g.asking.names ≡ Ok beginning → HasImage g
     by (Ok environment) is f = record { environment = environment; image = is }
     by (Err fault) is f = absurd (let e : ◌≡◌ {A = Result Beginning NoBeginning} (Err (OfImage fault)) (Ok beginning) = f in cc)
 
@@ -79,15 +80,15 @@ has-image g beginning found = by (environment_in g.order g.first g.second) refl 
 pub image-of-start : (g : Given) (fault : StartError) → beginning_of g ≡ Err (OfBoard (OfStart fault)) → HasImage g
 image-of-start g fault found = by (environment_in g.order g.first g.second) refl found
   where
-    by : (image : Result (List Pair) ImageError) → environment_in g.order g.first g.second ≡ image → with_image image g.asking.bounds.shell (board_of g.device_list) g.taking g.asking.variable g.text ≡ Err (OfBoard (OfStart fault)) → HasImage g
+    by : (image : Result (List Pair) ImageError) → environment_in g.order g.first g.second ≡ image → with_image image g.asking.bounds.shell (board_of g.device_list) g.taking g.asking.variable g.text g.asking.names ≡ Err (OfBoard (OfStart fault)) → HasImage g
     by (Ok environment) is f = record { environment = environment; image = is }
     by (Err other) is f = absurd (let e : ◌≡◌ {A = Result Beginning NoBeginning} (Err (OfImage other)) (Err (OfBoard (OfStart fault))) = f in cc)
 
 -- what holds of the rehearsal of what it begins with holds of what it was read from
-pub on_board : (g : Given) (beginning : Beginning) → beginning_of g ≡ Ok beginning → (text : Option Text) → text ≡ beginning.text → (IsSo : Option Task → Type 0)
-    → IsSo (task_asked beginning.environment beginning.devices text g.asking) → HasBoard g IsSo
+pub on_board : (g : Given) (beginning : Beginning) → beginning_of g ≡ Ok beginning → (text : Option Text) → text ≡ beginning.text → (IsSo : Asking → Option Task → Type 0)
+    → IsSo (asked_of beginning g.asking) (task_asked beginning.environment beginning.devices text (asked_of beginning g.asking)) → HasBoard g IsSo
 on_board g beginning found text same IsSo h = record {
   beginning = beginning;
   found = found;
-  so = subst (λ (t : Option Text). IsSo (task_asked beginning.environment beginning.devices t g.asking)) same h;
+  so = subst (λ (t : Option Text). IsSo (asked_of beginning g.asking) (task_asked beginning.environment beginning.devices t (asked_of beginning g.asking))) same h;
 }

@@ -18,8 +18,8 @@ use Rattle.ubtool.specs.Headline.{HasBoard}
 use Rattle.ubtool.proofs.BeginningLemmas.{has-image, on_board}
 
 module _ (g : Given) (check : Bool) (beginning : Beginning) (text : Option Text) (old new : Sink) (found : beginning_of g ≡ Ok beginning) (same : text ≡ beginning.text) where
-  on_image : (IsSo : Option Task → Type 0) → IsSo (task_asked beginning.environment beginning.devices text g.asking) → HasBoard g IsSo
-  on_image IsSo h = on_board g beginning found text same IsSo h
+  on_image : (IsSo : Option Task → Type 0) → IsSo (task_asked beginning.environment beginning.devices text g.asking) → HasBoard g (λ asking task. IsSo task)
+  on_image IsSo h = on_board g beginning found text same (λ asking task. IsSo task) h
 
   pub causes-image : (fine : Bool) → below.TellsCauses (task_asked beginning.environment beginning.devices text g.asking) check old new fine → TellsOne g check old new fine
   causes-image fine h = (

@@ -14,12 +14,12 @@ use Rattle.ubtool.specs.Beginning.{Beginning, beginning_of}
 use Rattle.ubtool.specs.EndingsOfImages.{RefusesOne, TellsOne, runs_by}
 use Rattle.ubtool.specs.Faults.{rehearse_error}
 use Rattle.ubtool.specs.Given.{Given}
-use Rattle.ubtool.specs.Headline.{HasBoard}
+use Rattle.ubtool.specs.Headline.{HasBoard, asked_of}
 use Rattle.ubtool.proofs.BeginningLemmas.{has-image, on_board}
 
-module _ (g : Given) (ask : EndingsAsk) (beginning : Beginning) (text : Option Text) (old new : Sink) (found : beginning_of g ≡ Ok beginning) (asked : g.asking ≡ runs_by ask) (same : text ≡ beginning.text) where
-  on_image : (IsSo : List Text → Option Task → Type 0) → IsSo (names_of ask) (task_asked beginning.environment beginning.devices text (runs_by ask)) → HasBoard g (IsSo g.asking.names)
-  on_image IsSo h = on_board g beginning found text same (IsSo g.asking.names) (subst (λ (a : Asking). IsSo a.names (task_asked beginning.environment beginning.devices text a)) (sym asked) h)
+module _ (g : Given) (ask : EndingsAsk) (beginning : Beginning) (text : Option Text) (old new : Sink) (found : beginning_of g ≡ Ok beginning) (asked : asked_of beginning g.asking ≡ runs_by ask) (same : text ≡ beginning.text) where
+  on_image : (IsSo : List Text → Option Task → Type 0) → IsSo (names_of ask) (task_asked beginning.environment beginning.devices text (runs_by ask)) → HasBoard g (λ asking task. IsSo asking.names task)
+  on_image IsSo h = on_board g beginning found text same (λ asking task. IsSo asking.names task) (subst (λ (a : Asking). IsSo a.names (task_asked beginning.environment beginning.devices text a)) (sym asked) h)
 
   pub tells-image : below.TellsEndings (task_asked beginning.environment beginning.devices text (runs_by ask)) ask old new → TellsOne g ask.flow ask.states ask.memory old new
   tells-image h = (h.0, on_image (λ names task. AreLines names ask.flow ask.states ask.memory task h.0) h.1, h.2)
@@ -27,9 +27,9 @@ module _ (g : Given) (ask : EndingsAsk) (beginning : Beginning) (text : Option T
   pub refused-endings : (error : RehearseError) → below.RefusesEndings (task_asked beginning.environment beginning.devices text (runs_by ask)) ask old new error → RefusesOne g ask.flow ask.states ask.work ask.memory old new (rehearse_error error)
   refused-endings (rehearsal.DeviceList fault) h = absurd h
   refused-endings rehearsal.NoSuchVariable h = (on_image (λ names task. task ≡ None) h.0, h.1)
-  refused-endings rehearsal.States h = (on_image (λ names. HasMoreStates names ask.states) h.0, h.1)
-  refused-endings (rehearsal.Steps count) h = (on_image (λ names. HasMoreSteps names count ask.work) h.0, h.1)
-  refused-endings (rehearsal.Bytes count) h = (on_image (λ names. HasMoreBytes names count ask.memory) h.0, h.1)
+  refused-endings rehearsal.States h = (on_image (λ names task. HasMoreStates names ask.states task) h.0, h.1)
+  refused-endings (rehearsal.Steps count) h = (on_image (λ names task. HasMoreSteps names count ask.work task) h.0, h.1)
+  refused-endings (rehearsal.Bytes count) h = (on_image (λ names task. HasMoreBytes names count ask.memory task) h.0, h.1)
   refused-endings rehearsal.Write h = (h.0, on_image (λ names task. AreLines names ask.flow ask.states ask.memory task h.0) h.1, h.2)
   refused-endings rehearsal.NotARun h = absurd h
   refused-endings rehearsal.Failed h = absurd h

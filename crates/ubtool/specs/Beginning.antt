@@ -1,5 +1,5 @@
--- What a rehearsal begins with: the environment that the board has, its device list as it is taken, and the text that is
--- rehearsed in place of the variable's, if there is one. Ours.
+-- What a rehearsal begins with: the environment that the board has, its device list as it is taken, the names of what is
+-- asked for of each run, and the text that is rehearsed in place of the variable's, if there is one. Ours.
 use Rattle.std.specs.Prelude.{◌≡◌, List, Option, Result, Ok, Err}
 use Rattle.envimage.specs.Data.{Pair}
 use Rattle.envimage.specs.declared.image.ImageError.{ImageError}
@@ -7,12 +7,13 @@ use Rattle.board_start.specs.Boards.{Board, Fault, OfDevices, OfStart, board_of}
 use Rattle.board_start.specs.Start.{Begun, begun}
 use Rattle.board_start.specs.declared.start_error.StartError.{StartError}
 use Rattle.device_list.specs.DeviceList.{Devices, filled, steady_if}
+use Rattle.device_list.specs.Saving.{names_with_saved, saving}
 use Rattle.envtools.specs.Environment.{value_of}
 use Rattle.rehearse_rules.specs.declared.rehearse_error.RehearseError.TheVariants.{DeviceList}
 use Rattle.rehearse_terms.specs.Asking.{Asking}
 use Rattle.rehearse_terms.specs.State.{Text}
 use Rattle.rehearse_terms.specs.declared.shell.Shell.{Shell}
-use Rattle.text.specs.TextsShown.{option_items}
+use Rattle.text.specs.TextsShown.{bytes_of_words, option_items}
 use Rattle.tool_images.specs.PrintingImages.{environment_in}
 use Rattle.tool_words.specs.declared.ask.Taking.{Taking}
 use Rattle.ubtool.specs.BoardEnvironment.{on_board}
@@ -24,6 +25,8 @@ use Rattle.ubtool.specs.declared.rehearsal_error.RehearsalError.TheVariants.{Ima
 pub record Beginning : Type 0 where
   pub environment : List Pair
   pub devices : Devices
+  -- the names of what is asked for of each run: with copies, if the list saves
+  pub names : List Text
   -- a text that is rehearsed in place of the variable's
   pub text : Option Text
 
@@ -32,35 +35,41 @@ pub data NoBeginning : Type 0 where
   OfImage : ImageError → NoBeginning
   OfBoard : Fault → NoBeginning
 
-abbrev pub begun_with : Devices → Result Begun StartError → Result Beginning NoBeginning
-begun_with devices (Ok begun) =
-    Ok (record { environment = begun.environment; devices = filled (value_of begun.environment) devices; text = begun.text })
-begun_with devices (Err fault) = Err (OfBoard (OfStart fault))
+-- A variable of the environment may stand in a pattern of the list, and a call of the list that saves sets a copy of each
+-- variable that is asked for.
+abbrev pub begun_with : Devices → (names : List Text) → Result Begun StartError → Result Beginning NoBeginning
+begun_with devices names (Ok begun) = Ok (record {
+  environment = begun.environment;
+  devices = saving names (filled (value_of begun.environment) devices);
+  names = names_with_saved devices names;
+  text = begun.text;
+})
+begun_with devices names (Err fault) = Err (OfBoard (OfStart fault))
 
--- All of the list is steady if that is asked, what the list gives is in the environment, and a variable of that environment may
--- stand in a pattern of the list.
+-- All of the list is steady if that is asked, and what the list gives is in the environment.
 abbrev pub with_board : Result Board Fault → Taking → List Pair → (variable : Text) → (text : Option Text) →
-    Result Beginning NoBeginning
-with_board (Ok board) taking environment variable text =
-    begun_with (steady_if taking.steady board.devices) (begun board.start taking.alternative environment variable text)
-with_board (Err fault) taking environment variable text = Err (OfBoard fault)
+    (names : List Text) → Result Beginning NoBeginning
+with_board (Ok board) taking environment variable text names =
+    begun_with (steady_if taking.steady board.devices) names (begun board.start taking.alternative environment variable text)
+with_board (Err fault) taking environment variable text names = Err (OfBoard fault)
 
 -- The environment is that of the image, as a board with this shell has it.
 abbrev pub with_image : Result (List Pair) ImageError → Shell → Result Board Fault → Taking → (variable : Text) →
-    (text : Option Text) → Result Beginning NoBeginning
-with_image (Ok environment) shell board taking variable text =
-    with_board board taking (on_board shell environment) variable text
-with_image (Err fault) shell board taking variable text = Err (OfImage fault)
+    (text : Option Text) → (names : List Text) → Result Beginning NoBeginning
+with_image (Ok environment) shell board taking variable text names =
+    with_board board taking (on_board shell environment) variable text names
+with_image (Err fault) shell board taking variable text names = Err (OfImage fault)
 
 -- what all that is given begins with
 abbrev pub beginning_of : Given → Result Beginning NoBeginning
 beginning_of g =
     with_image (environment_in g.order g.first g.second) g.asking.bounds.shell (board_of g.device_list) g.taking
-    g.asking.variable g.text
+    g.asking.variable g.text g.asking.names
 
 -- what the program begins with, seen as the definitions have it
 abbrev pub beginning_shown : BeginningRead → Beginning
-beginning_shown b = record { environment = b.env; devices = b.devices; text = option_items b.text }
+beginning_shown b =
+    record { environment = b.env; devices = b.devices; names = bytes_of_words b.names.items; text = option_items b.text }
 
 -- all that is given begins with this, and these runs are asked for
 abbrev pub StartsWith : Given → BeginningRead → Asking → Type 0

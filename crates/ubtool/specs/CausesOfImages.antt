@@ -40,7 +40,7 @@ Part = Text × Bool
 -- the image and the device list are right, there is a text, and these are the lines
 abbrev pub AreCausesOf : (check : Bool) → Given → Part → Type 0
 AreCausesOf check g part =
-    HasBoard g (λ found. WithCauses found check (λ told. (part.0 ≡ causes_text told) × (part.1 ≡ is_fine check told)))
+    HasBoard g (λ asking found. WithCauses found check (λ told. (part.0 ≡ causes_text told) × (part.1 ≡ is_fine check told)))
 
 -- the lines were written, and the answer says whether all is well
 abbrev pub TellsOne : Given → (check : Bool) → (old new : Sink) → (fine : Bool) → Type 0
@@ -51,7 +51,7 @@ abbrev pub WhyNoCauses : Given → RehearsalError → Type 0
 WhyNoCauses g (Image fault) = beginning_of g ≡ Err (OfImage fault)
 WhyNoCauses g (Rehearsal (DeviceList fault)) = beginning_of g ≡ Err (OfBoard (OfDevices fault))
 WhyNoCauses g (Start fault) = beginning_of g ≡ Err (OfBoard (OfStart fault))
-WhyNoCauses g (Rehearsal NoSuchVariable) = HasBoard g (λ found. found ≡ None)
+WhyNoCauses g (Rehearsal NoSuchVariable) = HasBoard g (λ asking found. found ≡ None)
 WhyNoCauses g _ = ⊥
 
 abbrev pub RefusesOne : Given → (check : Bool) → (old new : Sink) → RehearsalError → Type 0

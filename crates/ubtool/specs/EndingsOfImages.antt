@@ -34,7 +34,7 @@ endings_given order first second device_list taking ask =
 
 -- these are the lines, or the lines of the flow, with at most this many states
 abbrev pub AreLinesOf : (flow : Bool) → (states bytes : ℕ) → Given → Text → Type 0
-AreLinesOf flow states bytes g text = HasBoard g (λ found. AreLines g.asking.names flow states bytes found text)
+AreLinesOf flow states bytes g text = HasBoard g (λ asking found. AreLines asking.names flow states bytes found text)
 
 -- the lines were written
 abbrev pub TellsOne : Given → (flow : Bool) → (states bytes : ℕ) → (old new : Sink) → Type 0
@@ -45,10 +45,10 @@ abbrev pub WhyNoLines : (states work bytes : ℕ) → Given → RehearsalError �
 WhyNoLines states work bytes g (Image fault) = beginning_of g ≡ Err (OfImage fault)
 WhyNoLines states work bytes g (Rehearsal (DeviceList fault)) = beginning_of g ≡ Err (OfBoard (OfDevices fault))
 WhyNoLines states work bytes g (Start fault) = beginning_of g ≡ Err (OfBoard (OfStart fault))
-WhyNoLines states work bytes g (Rehearsal NoSuchVariable) = HasBoard g (λ found. found ≡ None)
-WhyNoLines states work bytes g (Rehearsal States) = HasBoard g (HasMoreStates g.asking.names states)
-WhyNoLines states work bytes g (Rehearsal (Steps count)) = HasBoard g (HasMoreSteps g.asking.names count work)
-WhyNoLines states work bytes g (Rehearsal (Bytes count)) = HasBoard g (HasMoreBytes g.asking.names count bytes)
+WhyNoLines states work bytes g (Rehearsal NoSuchVariable) = HasBoard g (λ asking found. found ≡ None)
+WhyNoLines states work bytes g (Rehearsal States) = HasBoard g (λ asking found. HasMoreStates asking.names states found)
+WhyNoLines states work bytes g (Rehearsal (Steps count)) = HasBoard g (λ asking found. HasMoreSteps asking.names count work found)
+WhyNoLines states work bytes g (Rehearsal (Bytes count)) = HasBoard g (λ asking found. HasMoreBytes asking.names count bytes found)
 WhyNoLines states work bytes g _ = ⊥
 
 abbrev pub RefusesOne : Given → (flow : Bool) → (states work bytes : ℕ) → (old new : Sink) → RehearsalError → Type 0

@@ -23,9 +23,9 @@ abbrev pub Refuses : Given → (old new : Sink) → RehearsalError → Type 0
 Refuses g old new (Image fault) = (beginning_of g ≡ Err (OfImage fault)) × (new ≡ old)
 Refuses g old new (Rehearsal (DeviceList fault)) = (beginning_of g ≡ Err (OfBoard (OfDevices fault))) × (new ≡ old)
 Refuses g old new (Start fault) = (beginning_of g ≡ Err (OfBoard (OfStart fault))) × (new ≡ old)
-Refuses g old new (Rehearsal NoSuchVariable) = HasBoard g (λ found. found ≡ None) × (new ≡ old)
+Refuses g old new (Rehearsal NoSuchVariable) = HasBoard g (λ asking found. found ≡ None) × (new ≡ old)
 Refuses g old new (Rehearsal NotARun) =
-    HasBoard g (λ found. LacksRun found g.asking.wanted) × (new ≡ old)
+    HasBoard g (λ asking found. LacksRun found asking.wanted) × (new ≡ old)
 Refuses g old new Write = LeavesPrefix g old new
 Refuses g old new Memory = (HasImage g × (new ≡ old)) ⊎ LeavesRecords g old new
 Refuses g old new _ = ⊥

@@ -79,7 +79,17 @@ fn causes_of_one<O: Out>(
         (list_shown list.entry) list.entry.taking ask.now) ask.now.check (O.sink out.old) (O.sink out.new) e) }
 {
     let shell = ask.bounds.shell();
-    match begin(alloc, first, second, order, shell, list, ask.name, ask.text) {
+    match begin(
+        alloc,
+        first,
+        second,
+        order,
+        shell,
+        list,
+        ask.name,
+        ask.text,
+        &[],
+    ) {
         Ok(beginning) => {
             let told = causes_told(alloc, &beginning, ask, out);
             drop(beginning);

@@ -10,7 +10,7 @@ ghost use Rattle.rehearse_endings.specs.TellingEndings as below;
 ghost use Rattle.rehearse_runs.specs.RehearsedEnvironment.{task_asked};
 ghost use Rattle.text.specs.TextsShown.{option_items};
 
-use crate::beginning::{Beginning, DeviceText, begin};
+use crate::beginning::{Beginning, DeviceText, begin, slices_of};
 use crate::in_turn::{add_headed, named, start_of, turns_told};
 use crate::rehearsal_error::RehearsalError;
 use board_start::Start;
@@ -46,8 +46,8 @@ fn endings_begun<'x, O: Out>(
     endings_env::<Trail, O>(alloc, &beginning.env, &beginning.devices, &ask, out)
 }
 
-/// The same, of all that begins so. Errors: `Rehearsal` with `NoSuchVariable`, `States`, `Steps` and `Bytes`;
-/// `Write`, `Memory`.
+/// The same, of all that begins so, and with the names that it begins with. Errors: `Rehearsal` with `NoSuchVariable`,
+/// `States`, `Steps` and `Bytes`; `Write`, `Memory`.
 fn endings_told<O: Out>(
     alloc: Global,
     beginning: &Beginning,
@@ -60,7 +60,14 @@ fn endings_told<O: Out>(
         → IfErr result
         (λ e. RefusesOne g ask.now.flow ask.now.states ask.now.work ask.now.memory (O.sink out.old) (O.sink out.new) e) }
 {
-    match endings_begun(alloc, beginning, ask, out) {
+    let Ok(names) = slices_of(alloc, &beginning.names) else {
+        return Err(RehearsalError::Memory);
+    };
+    let ask = EndingsAsk {
+        names: &names,
+        ..*ask
+    };
+    match endings_begun(alloc, beginning, &ask, out) {
         Ok(()) => Ok(()),
         Err(error) => Err(error.into()),
     }
@@ -85,7 +92,9 @@ fn endings_of_one<O: Out>(
         (list_shown list.entry) list.entry.taking ask.now) ask.now.flow ask.now.states ask.now.work ask.now.memory (O.sink out.old) (O.sink out.new) e) }
 {
     let shell = ask.bounds.shell();
-    match begin(alloc, first, second, order, shell, list, ask.name, ask.text) {
+    match begin(
+        alloc, first, second, order, shell, list, ask.name, ask.text, ask.names,
+    ) {
         Ok(beginning) => {
             let told = endings_told(alloc, &beginning, ask, out);
             drop(beginning);

@@ -1,11 +1,11 @@
 //! The rehearsal, from the bytes of an image to the bytes of the listing.
-ghost use Rattle.std.specs.Prelude.{◌≡◌, IfOk, IfErr};
+ghost use Rattle.std.specs.Prelude.{◌≡◌, map, IfOk, IfErr};
 ghost use Rattle.std.specs.Option.{option_copied};
 ghost use Rattle.rehearse_terms.specs.Asking.{page_of};
 ghost use Rattle.rehearse_terms.specs.Asking.{HasRoom};
 ghost use Rattle.rehearse_terms.specs.WantedShown.{wanted_slices};
 ghost use Rattle.rehearse_runs.specs.RehearsedEnvironment as below;
-ghost use Rattle.rehearse_runs.specs.AskShown.{asking_of, text_given};
+ghost use Rattle.rehearse_runs.specs.AskShown.{asking_by, asking_of, text_given};
 ghost use Rattle.text.specs.TextsShown.{option_items};
 ghost use Rattle.ubtool.specs.ListsShown.{list_shown};
 ghost use Rattle.ubtool.specs.Beginning.{StartsWith};
@@ -13,7 +13,7 @@ ghost use Rattle.ubtool.specs.Given.{Given, given};
 ghost use Rattle.ubtool.specs.Headline.{Rehearses};
 ghost use Rattle.ubtool.specs.Refusing.{Refuses};
 
-use crate::beginning::{Beginning, DeviceText, begin};
+use crate::beginning::{Beginning, DeviceText, begin, slices_of};
 use crate::rehearsal_error::RehearsalError;
 use bootstore_trail::Trail;
 use envimage::ByteOrder;
@@ -75,29 +75,34 @@ fn wanted_of<'x>(ask: &Ask<'x>) -> Wanted<&'x [u8]>
     }
 }
 
-/// Writes the listing of what a rehearsal begins with. Errors: `NoSuchVariable`, `NotARun`; `Write`, `Memory`.
+/// Writes the listing of what a rehearsal begins with, whose records show these names. Errors: `NoSuchVariable`,
+/// `NotARun`; `Write`, `Memory`.
 fn rehearse_begun<'x, O: Out>(
     alloc: Global,
     beginning: &'x Beginning,
     ask: &Ask<'x>,
+    names: &'x [&'x [u8]],
     out: &mut O,
 ) -> Result<Finish, RehearseError>
     requires { HasRoom (page_of (wanted_slices ask.now.wanted)) }
-    ensures ok { IfOk result (λ finish. below.Rehearses (below.task_asked beginning.now.env beginning.now.devices
-        (option_items beginning.now.text) (asking_of ask.now)) (asking_of ask.now) (O.sink out.old) (O.sink out.new) finish) }
-    ensures err { IfErr result (λ e. below.Refuses (below.task_asked beginning.now.env beginning.now.devices
-        (option_items beginning.now.text) (asking_of ask.now)) (asking_of ask.now) (O.sink out.old) (O.sink out.new) e) }
+    ensures ok { let asking = asking_by ask.now.name.now ask.now.wanted (map (λ n. n.now) names.now) in
+        IfOk result (λ finish. below.Rehearses (below.task_asked beginning.now.env beginning.now.devices
+        (option_items beginning.now.text) asking) asking (O.sink out.old) (O.sink out.new) finish) }
+    ensures err { let asking = asking_by ask.now.name.now ask.now.wanted (map (λ n. n.now) names.now) in
+        IfErr result (λ e. below.Refuses (below.task_asked beginning.now.env beginning.now.devices
+        (option_items beginning.now.text) asking) asking (O.sink out.old) (O.sink out.new) e) }
 {
     let ask = Ask {
         name: ask.name,
         text: beginning.text.as_deref(),
         wanted: wanted_of(ask),
-        names: ask.names,
+        names,
     };
     rehearse_env::<Trail, O>(alloc, &beginning.env, &beginning.devices, &ask, out)
 }
 
-/// The same, of all that begins so. Errors: `Rehearsal` with `NoSuchVariable` and `NotARun`; `Write`, `Memory`.
+/// The same, of all that begins so, and with the names that it begins with. Errors: `Rehearsal` with `NoSuchVariable`
+/// and `NotARun`; `Write`, `Memory`.
 fn rehearse_told<O: Out>(
     alloc: Global,
     beginning: &Beginning,
@@ -110,7 +115,10 @@ fn rehearse_told<O: Out>(
     ensures err { (g : Given) → StartsWith g beginning.now (asking_of ask.now)
         → IfErr result (λ e. Refuses g (O.sink out.old) (O.sink out.new) e) }
 {
-    match rehearse_begun(alloc, beginning, ask, out) {
+    let Ok(names) = slices_of(alloc, &beginning.names) else {
+        return Err(RehearsalError::Memory);
+    };
+    match rehearse_begun(alloc, beginning, ask, &names, out) {
         Ok(finish) => Ok(finish),
         Err(error) => Err(error.into()),
     }
@@ -136,7 +144,9 @@ fn rehearse_in<O: Out>(
         (λ e. Refuses (given order first.now (option_copied second.entry) (list_shown list.entry) list.entry.taking
         (text_given ask.now) (asking_of ask.now)) (O.sink out.old) (O.sink out.new) e) }
 {
-    match begin(alloc, first, second, order, shell, list, ask.name, ask.text) {
+    match begin(
+        alloc, first, second, order, shell, list, ask.name, ask.text, ask.names,
+    ) {
         Ok(beginning) => {
             let told = rehearse_told(alloc, &beginning, ask, out);
             drop(beginning);

@@ -1,4 +1,4 @@
-use Rattle.std.proofs.Common.{◌≡◌, ◌∙◌, ap, sym, refl, Ok}
+use Rattle.std.proofs.Common.{◌≡◌, ◌∙◌, ap, map, sym, refl, Ok}
 use Rattle.std.specs.Option.{option_copied}
 use Rattle.board_start.specs.Boards.{board_of}
 use Rattle.rehearse_terms.specs.declared.shell.Shell.{Shell}
@@ -14,7 +14,7 @@ returns-in-Ok-clause-ok g c =
     let image = environment_in c.args.order c.args.first.now (option_copied c.args.second) in
     let given = endings_given c.args.order c.args.first.now (option_copied c.args.second) (list_shown c.args.list) c.args.list.taking c.args.ask.now in
     let found : beginning_of given ≡ Ok (beginning_shown c.in-Ok.beginning) =
-    ap (λ (shell : Shell). with_image image shell (board_of (list_shown c.args.list)) c.args.list.taking c.args.ask.now.name.now (option_bytes c.args.ask.now.text)) (sym c.shell-shell.ensures) ∙ c.in-Ok.ensures in
+    ap (λ (shell : Shell). with_image image shell (board_of (list_shown c.args.list)) c.args.list.taking c.args.ask.now.name.now (option_bytes c.args.ask.now.text) (map (λ n. n.now) c.args.ask.now.names.now)) (sym c.shell-shell.ensures) ∙ c.in-Ok.ensures in
     c.endings_told-told.ensures.ok given (found, refl)
 
 pub returns-in-Ok-clause-err : goal.returns-in-Ok-clause-err
@@ -22,5 +22,5 @@ returns-in-Ok-clause-err g c =
     let image = environment_in c.args.order c.args.first.now (option_copied c.args.second) in
     let given = endings_given c.args.order c.args.first.now (option_copied c.args.second) (list_shown c.args.list) c.args.list.taking c.args.ask.now in
     let found : beginning_of given ≡ Ok (beginning_shown c.in-Ok.beginning) =
-    ap (λ (shell : Shell). with_image image shell (board_of (list_shown c.args.list)) c.args.list.taking c.args.ask.now.name.now (option_bytes c.args.ask.now.text)) (sym c.shell-shell.ensures) ∙ c.in-Ok.ensures in
+    ap (λ (shell : Shell). with_image image shell (board_of (list_shown c.args.list)) c.args.list.taking c.args.ask.now.name.now (option_bytes c.args.ask.now.text) (map (λ n. n.now) c.args.ask.now.names.now)) (sym c.shell-shell.ensures) ∙ c.in-Ok.ensures in
     c.endings_told-told.ensures.err given (found, refl)

@@ -1,4 +1,4 @@
-use Rattle.std.proofs.Common.{◌≡◌, ◌∙◌, ap, sym, refl, Ok}
+use Rattle.std.proofs.Common.{◌≡◌, ◌∙◌, ap, map, sym, refl, Ok}
 use Rattle.std.specs.Option.{option_copied}
 use Rattle.board_start.specs.Boards.{board_of}
 use Rattle.rehearse_runs.specs.AskShown.{asking_of, text_given}
@@ -14,7 +14,7 @@ returns-in-Ok-clause-ok g c =
     let image = environment_in c.args.order c.args.first.now (option_copied c.args.second) in
     let all = given c.args.order c.args.first.now (option_copied c.args.second) (list_shown c.args.list) c.args.list.taking (text_given c.args.ask.now) (asking_of c.args.ask.now) in
     let found : beginning_of all ≡ Ok (beginning_shown c.in-Ok.beginning) =
-    ap (λ (shell : Shell). with_image image shell (board_of (list_shown c.args.list)) c.args.list.taking c.args.ask.now.name.now (text_given c.args.ask.now)) (sym c.requires.shell) ∙ c.in-Ok.ensures in
+    ap (λ (shell : Shell). with_image image shell (board_of (list_shown c.args.list)) c.args.list.taking c.args.ask.now.name.now (text_given c.args.ask.now) (map (λ n. n.now) c.args.ask.now.names.now)) (sym c.requires.shell) ∙ c.in-Ok.ensures in
     c.rehearse_told-told.ensures.ok all (found, refl)
 
 pub returns-in-Ok-clause-err : goal.returns-in-Ok-clause-err
@@ -22,5 +22,5 @@ returns-in-Ok-clause-err g c =
     let image = environment_in c.args.order c.args.first.now (option_copied c.args.second) in
     let all = given c.args.order c.args.first.now (option_copied c.args.second) (list_shown c.args.list) c.args.list.taking (text_given c.args.ask.now) (asking_of c.args.ask.now) in
     let found : beginning_of all ≡ Ok (beginning_shown c.in-Ok.beginning) =
-    ap (λ (shell : Shell). with_image image shell (board_of (list_shown c.args.list)) c.args.list.taking c.args.ask.now.name.now (text_given c.args.ask.now)) (sym c.requires.shell) ∙ c.in-Ok.ensures in
+    ap (λ (shell : Shell). with_image image shell (board_of (list_shown c.args.list)) c.args.list.taking c.args.ask.now.name.now (text_given c.args.ask.now) (map (λ n. n.now) c.args.ask.now.names.now)) (sym c.requires.shell) ∙ c.in-Ok.ensures in
     c.rehearse_told-told.ensures.err all (found, refl)
