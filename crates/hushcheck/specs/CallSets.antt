@@ -6,7 +6,7 @@ use Rattle.std.specs.List.{fold}
 use Rattle.text.specs.Bytes as ascii
 use Rattle.envtools.specs.Environment.{same}
 use Rattle.hushlang.specs.Tree.{Word, Bytes, Mark, Var, Status}
-use Rattle.device_list.specs.DeviceList.{Devices, Effect, LeftSide, Variable, WordAt, LastWord, Imported, RightSide, Literal, ValueAt, LastValue, Deleted, Setting, effect_of}
+use Rattle.device_list.specs.DeviceList.{Devices, Effect, LeftSide, Variable, WordAt, LastWord, Imported, Saving, RightSide, Literal, ValueAt, LastValue, Deleted, CopyOf, Setting, effect_of}
 use Rattle.hushcheck.specs.Names.{Text, written_out}
 use Rattle.hushcheck.specs.Seats.{starts_with}
 
@@ -84,18 +84,20 @@ with_word s None = s
 with_word s (Some word) = with_set s word
 
 -- what the left side of a setting names in a call with these words; a variable of a text that is imported counts in
--- each reading of the text
+-- each reading of the text; what is saved is none
 abbrev pub set_by_side : List (Option Text) → Sets → LeftSide → Sets
 set_by_side words s (Variable name) = with_set s (Some name)
 set_by_side words s (WordAt place) = with_word s (slice_get words place)
 set_by_side words s LastWord = with_word s (slice_get words (length words - 1))
 set_by_side words s (Imported name reading first) = with_set s (Some name)
+set_by_side words s Saving = s
 
 abbrev pub is_deletion : RightSide → Bool
 is_deletion (Literal text) = false
 is_deletion (ValueAt place) = false
 is_deletion LastValue = false
 is_deletion Deleted = true
+is_deletion (CopyOf name) = false
 
 -- a deletion sets nothing
 abbrev pub set_by_setting : List (Option Text) → Sets → Setting → Sets

@@ -249,6 +249,7 @@ impl Sets {
             LeftSide::Variable(name) | LeftSide::Imported { name, .. } => self.add_name(name),
             LeftSide::WordAt(place) => self.add_word(words.get(*place as usize)),
             LeftSide::LastWord => self.add_word(words.last()),
+            LeftSide::Saving => Ok(()),
         }
     }
 

@@ -16,6 +16,7 @@ fn value_of(alloc: Global, value: &RightSide) -> Result<String, AllocError> {
         }
         RightSide::LastValue => String::from_str(alloc, "@last"),
         RightSide::Deleted => String::from_str(alloc, ""),
+        RightSide::CopyOf(name) => shown(alloc, name),
     }
 }
 
@@ -32,6 +33,7 @@ fn setting_of(alloc: Global, setting: &Setting) -> Result<String, AllocError> {
             format!(in alloc; " @{at}={value}")
         }
         LeftSide::LastWord => format!(in alloc; " @last={value}"),
+        LeftSide::Saving => String::from_str(alloc, " saves"),
     }
 }
 
