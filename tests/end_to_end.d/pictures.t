@@ -25,6 +25,12 @@ the picture of a listing, folded
   $ choices --fold listing >dots; counts dots
   2 1 0 2 2
 
+the picture of a listing with what was saved
+  $ echo 'saves load' >saving; ubtool rehearse -c boot.config -d saving x >saved; grep -c '^saved ' saved
+  2
+  $ choices saved >dots; counts dots
+  2 3 0 2 2
+
 the picture of no listing
   $ printf 'e 0 9\n' >config
   $ choices config 2>&1 | cut -c 1-42

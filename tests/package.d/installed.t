@@ -60,6 +60,10 @@ a menu and standard boot go on in the texts of the package
   $ in_root /usr/bin/ubtool endings --script boot.cmd -d lists.txt --files /usr/share/ubtool/handover | grep -c '^ends '
   2
 
+and the boards are there
+  $ ubtool endings --text "$repository/share/boards/warp7.env" -d "$repository/share/devices" >wanted
+  $ in_root /usr/bin/ubtool endings --text /usr/share/ubtool/boards/warp7.env -d /usr/share/ubtool/devices | cmp - wanted
+
 the calls that docs/INSTALL.md ends with
   $ mkdir root/etc; cp env.config root/etc/fw_env.config
   $ sed '1,/^## To see/d' "$repository/docs/INSTALL.md" | sed -n '/^```$/,/^```$/p' | sed '/^```$/d' >calls; cat calls
