@@ -1,1 +1,2 @@
 mod SavedLemmas
+mod OtherLists

@@ -1,10 +1,10 @@
 -- What a call that saves leaves. Ours; `saveenv` stores the environment as it is when it is called (U-Boot documentation,
 -- doc/usage/environment).
-use Rattle.std.specs.Prelude.{◌≡◌, ◌++◌, List, None, Some, true}
+use Rattle.std.specs.Prelude.{◌≡◌, ◌++◌, List, None, Some, true, false}
 use Rattle.std.specs.List.{AllByRecursion}
 use Rattle.device_list.specs.Called.{sets_in}
-use Rattle.device_list.specs.DeviceList.{Setting}
-use Rattle.device_list.specs.Saving.{are_saving, copies_for, copy_of, saved_name, saved_of}
+use Rattle.device_list.specs.DeviceList.{Devices, Setting}
+use Rattle.device_list.specs.Saving.{are_saving, copies_for, copy_of, names_with_saved, saved_name, saved_of, saves, saving}
 use Rattle.rehearse_terms.specs.State.{Text, Variables, get}
 use Rattle.rehearse_rules.specs.Execution.{with_all}
 
@@ -23,3 +23,8 @@ abbrev pub SavesWhatIsThere : Type 0
 SavesWhatIsThere = (names words : List Text) (sets : List Setting) (environment : Variables) →
     AreVariables names → are_saving sets ≡ true →
     CopiesAreRight names (with_all (sets_in words (sets ++ copies_for names sets)) environment)
+
+-- A list that says of no call that it saves is as it was, and nothing else is asked for.
+abbrev pub OtherListsStay : Type 0
+OtherListsStay = (names : List Text) (devices : Devices) → saves devices ≡ false →
+    (saving names devices ≡ devices) × (names_with_saved devices names ≡ names)
