@@ -84,7 +84,7 @@ the endings are told apart by it
   fails saveenv
   all 4 states 3
 
-without a name nothing is said of it, and nothing is told apart
+without a name there are no such lines, and runs are not told apart
   $ ubtool endings --script it.cmd --text it.txt -d list
   ends 4 first 00 fewest 0 00 end 0
   all 4 states 2
@@ -155,7 +155,7 @@ several names, a name with a blank, and values that are escaped
   end 0
   more 0
 
-it asks for the same again if it is begun behind a word, and in one run
+it shows the same if it starts after a word, and in one run
   $ ubtool rehearse --script it.cmd --text it.txt -d list --after 0 c
   run 1
   dev 1 saveenv
@@ -203,7 +203,17 @@ a script cannot read what is saved, nor a variable of the same name
   end 0
   done
 
-the clause stands once, with one name alone
+nor by a name with a byte 0 in it, which no script can have
+  $ printf 'left=3\n' >it.txt; printf 'saveenv; echo "${\0left}"' >it.cmd
+  $ for shell in profile old-2023.01 old-2025.01 modern-2025.01; do
+  >     ubtool rehearse --script it.cmd --text it.txt -d list --shell $shell left | grep -v '^run\|^var\|^done'
+  > done
+  stop syntax it.cmd
+  stop unsupported it.cmd
+  stop unsupported it.cmd
+  end 1
+
+the clause is there once, and the line has one name
   $ echo 'call saveenv : saves saves' >list; ubtool endings --script it.cmd --text it.txt -d list
   ! ubtool: device list line 1: bad line
   [1]
