@@ -25,14 +25,14 @@ count_if false n h =
 count_told : (n : ℕ) → count_text (min n most_runs) ≡ count_text n
 count_told n = count_if (nat_lt n most_runs) n refl
 
-row_told : (r : Row) → row_text (saturated r) ≡ row_text r
+pub row_told : (r : Row) → row_text (saturated r) ≡ row_text r
 row_told r = ap (λ (t : Text). codes "ends " ++ t ++ codes " first " ++ spelled r.word ++ codes " fewest " ++ decimal r.fewest.1 ++ codes " " ++ spelled r.fewest.0 ++ codes " " ++ last_line r.run_end.ending) (count_told r.count)
 
 -- what fails is told of the same word
 lines_told : (names : List Text) (fails other : OutcomeWord → List Answered) → ((w : OutcomeWord) → fails w ≡ other w) → (r : Row) → row_lines names fails (saturated r) ≡ row_lines names other r
 lines_told names fails other same r =
-    ap (λ (t : Text). line t ++ value_lines names r.run_end.values ++ fails_lines (fails r.fewest.0)) (row_told r)
-    ∙ ap (λ (commands : List Answered). line (row_text r) ++ value_lines names r.run_end.values ++ fails_lines commands) (same r.fewest.0)
+    ap (λ (t : Text). line t ++ (value_lines names r.run_end.values ++ fails_lines (fails r.fewest.0))) (row_told r)
+    ∙ ap (λ (commands : List Answered). line (row_text r) ++ (value_lines names r.run_end.values ++ fails_lines commands)) (same r.fewest.0)
 
 rows_told : (names : List Text) (fails other : OutcomeWord → List Answered) → ((w : OutcomeWord) → fails w ≡ other w) → (rows : List Row) → flat_map (row_lines names fails) (map saturated rows) ≡ flat_map (row_lines names other) rows
 rows_told names fails other same [] = refl
@@ -94,12 +94,9 @@ text_told names task nodes rows text states flow e h =
 
 -- ---- the lines of one ending
 
--- lines that are put in three pieces
-pub three_pieces : (old a b c new values fails : Text) → values ≡ old ++ a → fails ≡ values ++ b → new ≡ fails ++ c → new ≡ old ++ (a ++ b ++ c)
-three_pieces old a b c new values fails h k l =
-    l
-    ∙ ap (λ (t : Text). t ++ c) (k ∙ ap (λ (t : Text). t ++ b) h ∙ append_assoc old a b)
-    ∙ append_assoc old (a ++ b) c
+-- lines that are put in two pieces
+pub two_pieces : (old a b values new : Text) → values ≡ old ++ a → new ≡ values ++ b → new ≡ old ++ (a ++ b)
+two_pieces old a b values new h k = k ∙ ap (λ (t : Text). t ++ b) h ∙ append_assoc old a b
 
 -- ---- one more row
 

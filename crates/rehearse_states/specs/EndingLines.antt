@@ -60,9 +60,13 @@ value_lines [] values = []
 value_lines (name ∷ names) [] = []
 value_lines (name ∷ names) (value ∷ values) = flat_map line (value_texts name value) ++ value_lines names values
 
--- the line of an ending, the values that are left, and what it takes: the unexpected answers of the run with the fewest
+-- the values that are left, and what it takes: the unexpected answers of the run with the fewest
+abbrev pub lines_below : (names : List Text) → (fails : OutcomeWord → List Answered) → Row → Text
+lines_below names fails r = value_lines names r.run_end.values ++ fails_lines (fails r.fewest.0)
+
+-- the line of an ending, and the lines below it
 abbrev pub row_lines : (names : List Text) → (fails : OutcomeWord → List Answered) → Row → Text
-row_lines names fails r = line (row_text r) ++ value_lines names r.run_end.values ++ fails_lines (fails r.fewest.0)
+row_lines names fails r = line (row_text r) ++ lines_below names fails r
 
 -- the lines of each ending, and one for all
 abbrev pub endings_text : (names : List Text) → (fails : OutcomeWord → List Answered) → List Row → (runs states : ℕ) → Text

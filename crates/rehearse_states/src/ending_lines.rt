@@ -5,7 +5,7 @@ ghost use Rattle.text.specs.Escapes.{word_escaped, word_form};
 ghost use Rattle.rehearse_rules.specs.Listing.{line, last_line, outcome_digit, spelled};
 ghost use Rattle.rehearse_rules.specs.EndingsShown.{halt_shown};
 ghost use Rattle.rehearse_rules.specs.Execution.{outcome_when};
-ghost use Rattle.rehearse_states.specs.EndingLines.{count_text, row_lines, row_text, endings_text, counted};
+ghost use Rattle.rehearse_states.specs.EndingLines.{count_text, lines_below, row_lines, row_text, endings_text, counted};
 ghost use Rattle.rehearse_states.specs.Drawing.{failing_on, nodes_shown};
 ghost use Rattle.rehearse_states.specs.RowsShown.{most_runs, row_shown, rows_shown};
 
@@ -125,9 +125,9 @@ pub fn put_ending(text: &mut Vec<u8>, halt: &Halt) -> Result<(), StoreError>
     }
 }
 
-/// Adds the line of an ending, without what fails.
-fn put_row(alloc: Global, text: &mut Vec<u8>, row: &Row) -> Result<(), StoreError>
-    ensures { OnOk result (text.new.items ≡ text.old.items ++ line (row_text (row_shown row.now))) }
+/// Adds the line of an ending without its line end.
+pub fn put_row(alloc: Global, text: &mut Vec<u8>, row: &Row) -> Result<(), StoreError>
+    ensures { OnOk result (text.new.items ≡ text.old.items ++ row_text (row_shown row.now)) }
 {
     put(text, b"ends ")?;
     put_count(text, row.count)?;
@@ -138,12 +138,29 @@ fn put_row(alloc: Global, text: &mut Vec<u8>, row: &Row) -> Result<(), StoreErro
     put(text, b" ")?;
     put_run_word(alloc, text, row.fewest_word())?;
     put(text, b" ")?;
-    put_ending(text, &row.run_end.halt)?;
-    put(text, b"\n")
+    put_ending(text, &row.run_end.halt)
 }
 
-/// Adds the lines of an ending: how many runs have it, the values that they leave, and the
-/// unexpected answers of the run with the fewest.
+/// Adds the lines below that of an ending: the values that its runs leave, and the unexpected answers of the run
+/// with the fewest.
+pub fn put_below(
+    alloc: Global,
+    text: &mut Vec<u8>,
+    names: &[&[u8]],
+    devices: &Devices,
+    nodes: &Vec<Node>,
+    row: &Row,
+) -> Result<(), StoreError>
+    ensures { OnOk result (text.new.items ≡ text.old.items ++ lines_below (map (λ n. n.now) names.now)
+        (failing_on devices.now (nodes_shown nodes.now)) (row_shown row.now)) }
+{
+    put_values(text, names, &row.run_end.values)?;
+    let outcomes = row.fewest_word().outcomes(alloc)?;
+    put_fails(text, devices, nodes, &outcomes, 1)?;
+    Ok(())
+}
+
+/// Adds the lines of an ending: how many runs have it, and the lines below it.
 fn put_lines(
     alloc: Global,
     text: &mut Vec<u8>,
@@ -156,10 +173,8 @@ fn put_lines(
         (failing_on devices.now (nodes_shown nodes.now)) (row_shown row.now)) }
 {
     put_row(alloc, text, row)?;
-    put_values(text, names, &row.run_end.values)?;
-    let outcomes = row.fewest_word().outcomes(alloc)?;
-    put_fails(text, devices, nodes, &outcomes, 1)?;
-    Ok(())
+    put(text, b"\n")?;
+    put_below(alloc, text, names, devices, nodes, row)
 }
 
 /// How many runs there are in all, or the greatest number if that is smaller.

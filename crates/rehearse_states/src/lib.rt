@@ -16,7 +16,7 @@ mod summary;
 mod value_lines;
 mod words;
 
-pub use ending_lines::{put_ending, put_number, text_of};
+pub use ending_lines::{put_below, put_ending, put_number, put_row, text_of};
 pub use fail_lines::put_fail;
 pub use flow::{Flow, Node};
 pub use flow_lines::flow_text_of;
@@ -28,4 +28,5 @@ pub use run_word::RunWord;
 pub use sum_nodes::SumNode;
 pub use sum_rows::rows_of;
 pub use summary::{Summary, of_end, of_sides};
+pub use value_lines::put_variable;
 pub use words::words_at;

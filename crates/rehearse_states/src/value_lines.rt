@@ -3,6 +3,7 @@ ghost use Rattle.std.specs.Prelude.{◌≡◌, ◌++◌, OnOk, map};
 ghost use Rattle.std.specs.List.{flat_map};
 ghost use Rattle.rehearse_rules.specs.Listing.{line, saved_line};
 ghost use Rattle.text.specs.Escapes.{escaped, text_form};
+ghost use Rattle.text.specs.TextsShown.{option_bytes};
 ghost use Rattle.rehearse_states.specs.EndingLines.{value_lines, value_text, value_texts};
 ghost use Rattle.rehearse_states.specs.RowsShown.{value_shown};
 
@@ -22,9 +23,9 @@ fn put_text(text: &mut Vec<u8>, bytes: &[u8]) -> Result<(), StoreError>
 }
 
 /// Adds the line of a variable: its value, or that it is not set.
-fn put_variable(text: &mut Vec<u8>, name: &[u8], value: &Option<Vec<u8>>) -> Result<(), StoreError>
+pub fn put_variable(text: &mut Vec<u8>, name: &[u8], value: Option<&[u8]>) -> Result<(), StoreError>
     ensures { OnOk result (text.new.items
-        ≡ text.old.items ++ line (value_text name.now (value_shown value.now))) }
+        ≡ text.old.items ++ line (value_text name.now (option_bytes value.entry))) }
 {
     match value {
         Some(value) => {
@@ -68,7 +69,7 @@ fn put_value(text: &mut Vec<u8>, name: &[u8], value: &Option<Vec<u8>>) -> Result
         ++ flat_map line (value_texts name.now (value_shown value.now))) }
 {
     let Some(variable) = saved_of(name) else {
-        return put_variable(text, name, value);
+        return put_variable(text, name, value.as_deref());
     };
     match value {
         Some(copy) => put_saved(text, variable, copy),
