@@ -1,5 +1,6 @@
 -- A rehearsal of which the text is dropped has the same endings, and the same flow.
-use Rattle.std.proofs.Common.{◌≡◌, List, refl, sym, ap, ◌∙◌, map, length}
+use Rattle.std.proofs.Common.{◌≡◌, List, refl, sym, ap, ◌∙◌, map, length, Result, Ok, Err}
+use Rattle.std.specs.Prelude.{IfOk}
 use Rattle.rehearse_terms.specs.Outcomes.{OutcomeWord, WordKind, runs_within}
 use Rattle.rehearse_terms.specs.State.{Text, LoggedCommand}
 use Rattle.rehearse_rules.specs.Execution.{Answer, Normal, Exit, Ended, Dry}
@@ -43,3 +44,8 @@ module _ (task : Task) where
 
   pub flow_of_unheard : (nodes : List Node) → IsFlow (unheard task) nodes → IsFlow task nodes
   flow_of_unheard nodes flow w = flow w ∙ same_seen w
+
+-- what holds of a result that is Ok
+pub if_ok : {A E : Type 0} (r : Result A E) (P Q : A → Type 0) → ((a : A) → P a → Q a) → IfOk r P → IfOk r Q
+if_ok (Ok a) P Q f h = f a h
+if_ok (Err e) P Q f h = h

@@ -14,4 +14,4 @@ mod telling;
 
 pub use searching::{Endings, sum_endings};
 pub use sum_error::SumError;
-pub use telling::{EndingsAsk, endings_env};
+pub use telling::{EndingsAsk, endings_env, endings_of};

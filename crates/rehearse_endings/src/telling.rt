@@ -1,13 +1,17 @@
 //! How the runs of an environment's variable, or of a given text, end, from its device list to the lines.
-ghost use Rattle.std.specs.Prelude.{ℕ, ◌≡◌, ◌+◌, IfOk, IfErr, Some, map};
+ghost use Rattle.std.specs.Prelude.{ℕ, ◌≡◌, ◌+◌, ◌≤◌, IfOk, IfErr, Some, map};
 ghost use Rattle.rehearse_machine.specs.Tasks.{task_found, task_in};
 ghost use Rattle.rehearse_rules.specs.Runs.{unheard};
+ghost use Rattle.rehearse_states.specs.Drawing.{asks_in, nodes_shown};
+ghost use Rattle.rehearse_states.specs.Endings.{endings};
+ghost use Rattle.rehearse_states.specs.Flow.{IsFlow};
+ghost use Rattle.rehearse_states.specs.RowsShown.{rows_shown, saturated};
 ghost use Rattle.rehearse_endings.specs.declared.sum_error.SumError.TheVariants.{Bytes, States, Steps};
-ghost use Rattle.rehearse_endings.specs.Held.{ComesToBytes};
+ghost use Rattle.rehearse_endings.specs.Held.{ComesToBytes, HoldsStates};
 ghost use Rattle.rehearse_endings.specs.States.{ComesToStates, ComesToSteps};
 ghost use Rattle.rehearse_endings.specs.TellingEndings.{AreLines, IsUntold, names_of, source_of, TellsEndings, RefusesEndings};
 
-use crate::searching::sum_endings;
+use crate::searching::{Endings, sum_endings};
 use crate::sum_error::SumError;
 use bootstore_state::Store;
 use device_list::Devices;
@@ -40,6 +44,40 @@ pub struct EndingsAsk<'a> {
     pub flow: bool,
 }
 
+/// How all runs of a rehearsal end. What the runs write is dropped. Errors: those of `sum_endings`.
+pub fn endings_of<S: Store>(
+    rehearsal: &Rehearsal<'_>,
+    names: &[&[u8]],
+    most_states: u32,
+    most_work: u32,
+    most_bytes: u64,
+) -> Result<Endings, SumError>
+    ensures rows { IfOk result (λ e. rows_shown e.rows ≡ map saturated
+        (endings (map (λ n. n.now) names.now) (task_in rehearsal.now))) }
+    ensures flow { IfOk result (λ e. IsFlow (task_in rehearsal.now) (nodes_shown e.nodes)) }
+    ensures nodes { IfOk result (λ e. asks_in (nodes_shown e.nodes) ≡ e.states) }
+    ensures states { IfOk result (λ e. e.states ≤ most_states) }
+    ensures held { IfOk result (λ e. HoldsStates (map (λ n. n.now) names.now) (unheard (task_in rehearsal.now)) e.states most_bytes) }
+    ensures err { IfErr result
+        (λ e. e ≡ States → ComesToStates (map (λ n. n.now) names.now) (unheard (task_in rehearsal.now)) (most_states + 1)) }
+    ensures costly { (count : ℕ) → IfErr result
+        (λ e. e ≡ Steps count → ComesToSteps (map (λ n. n.now) names.now) (unheard (task_in rehearsal.now)) count most_work) }
+    ensures large { (count : ℕ) → IfErr result
+        (λ e. e ≡ Bytes count → ComesToBytes (map (λ n. n.now) names.now) (unheard (task_in rehearsal.now)) count most_bytes) }
+{
+    let quiet = rehearsal.unheard();
+    let _bound = quiet.bounds.devices();
+    let mut store = S::new(rehearsal.alloc);
+    sum_endings(
+        &quiet,
+        &mut store,
+        names,
+        most_states,
+        most_work,
+        most_bytes,
+    )
+}
+
 /// The lines that say how all runs of a rehearsal end, or the lines of their flow. What the runs write is dropped.
 fn lines_of<S: Store>(
     rehearsal: &Rehearsal<'_>,
@@ -58,17 +96,7 @@ fn lines_of<S: Store>(
     ensures large { (count : ℕ) → IfErr result
         (λ e. e ≡ Bytes count → ComesToBytes (map (λ n. n.now) names.now) (unheard (task_in rehearsal.now)) count most_bytes) }
 {
-    let quiet = rehearsal.unheard();
-    let _bound = quiet.bounds.devices();
-    let mut store = S::new(rehearsal.alloc);
-    let found = sum_endings(
-        &quiet,
-        &mut store,
-        names,
-        most_states,
-        most_work,
-        most_bytes,
-    )?;
+    let found = endings_of::<S>(rehearsal, names, most_states, most_work, most_bytes)?;
     if flow {
         let text = flow_text_of(rehearsal.alloc, &found.nodes)?;
         return Ok(text);
