@@ -283,7 +283,7 @@ module _ (rules : Rules) (env : List Pair) (asked called : List Text) where
     pub files_reached : (m : Text) → Contains q.files m → Reached (File m)
     pub turns_reached : (t : Turn) → Contains turns t → Reached t
 
-  stands_first : Stands (first_queue (once asked) (once called)) []
+  pub stands_first : Stands (first_queue (once asked) (once called)) []
   stands_first = record {
     within = omega arith;
     files_within = omega arith;
@@ -347,7 +347,7 @@ module _ (rules : Rules) (env : List Pair) (asked called : List Text) where
           turns_reached = good-push Reached turns t s.turns_reached there;
         }
 
-    stands_next : has_turn q ≡ true → Stands (after_turn rules env q) (turns ++ next_turn q ∷ [])
+    pub stands_next : has_turn q ≡ true → Stands (after_turn rules env q) (turns ++ next_turn q ∷ [])
     stands_next some =
         elim (cases_Bool (has_variable q)) [
           | inl more ↦ rw more (variable_next (ltb-true q.at (length q.variables) more))
@@ -364,7 +364,7 @@ module _ (rules : Rules) (env : List Pair) (asked called : List Text) where
       reached = s.turns_reached;
     }
 
-    is_order : has_turn q ≡ false → IsOrder rules env asked called turns
+    pub is_order : has_turn q ≡ false → IsOrder rules env asked called turns
     is_order none =
         let both = neither (has_variable q) (has_file q) none in
         record {
@@ -420,7 +420,7 @@ module _ (rules : Rules) (env : List Pair) (asked called : List Text) (q : Queue
       (length q.variables) (length (with_names q.variables more)) (length q.files) (length (with_names q.files more_files)) q.at q.file_at (length more) (length more_files)
       fewer (length-with_names q.variables more) (length-with_names q.files more_files) s.within before)
 
-  stands_less : has_turn q ≡ true → room rules env (after_turn rules env q) < room rules env q
+  pub stands_less : has_turn q ≡ true → room rules env (after_turn rules env q) < room rules env q
   stands_less some =
       elim (cases_Bool (has_variable q)) [
         | inl more ↦ rw more (variable_less (ltb-true q.at (length q.variables) more))

@@ -11,10 +11,12 @@ pub mod AskedLemmas
 pub mod TellingLemmas
 pub mod ByShellLemmas
 pub mod ScriptLemmas
+pub mod ChangedLemmas
 pub mod PlainOrders
 pub mod CheckExamples
 pub mod CallsExamples
 pub mod WarningsExamples
 pub mod UnsetExamples
+pub mod ChangedExamples
 pub mod ByShellExamples
 mod ShownExamples

@@ -1,13 +1,13 @@
 -- Without a device list no text leads to a file, and the order is the one of the names alone.
-use Rattle.std.proofs.Common.{◌≡◌, Bool, true, false, List, [], ◌∷◌, ◌++◌, map, Option, Some, None, Ok, Err, refl, ap, ◌∙◌, if◌then◌else◌}
+use Rattle.std.proofs.Common.{◌≡◌, Bool, true, false, List, [], ◌∷◌, ◌++◌, ◌||◌, map, Option, Some, None, Ok, Err, refl, ap, ◌∙◌, if◌then◌else◌}
 use Rattle.std.specs.Prelude.{Result, is_some}
 use Rattle.std.specs.List.{flat_map, fold}
 use Rattle.envimage.specs.Data.{Pair}
 use Rattle.envtools.specs.Environment.{value_of}
 use Rattle.hushlang.specs.Tree.{Script, Empty, Runs, AndOr, Starts, Joined, Alone, Joins, Command, Simple, Assign, If, Loop, For, Arms, NoElse, Else, Arm, Word}
 use Rattle.hushlang.specs.declared.token.SyntaxError.{SyntaxError}
-use Rattle.hushcheck.specs.Calls.{NotFollowed, Reading, SetsMore, after_arms, after_call, after_command, after_files, after_joined, after_list, after_name, after_operand, after_script, after_sets, after_value, after_word, after_words, begun, files_by_read, files_by_value, find, find_lacking, is_lacking, set_name, skip}
-use Rattle.hushcheck.specs.CallSets.{Sets, behind_options, none, set_by_call, set_by_env, set_by_words, set_to_value, takes_names, with_more, with_set}
+use Rattle.hushcheck.specs.Calls.{Reading, SetsMore, after_arms, after_call, after_command, after_deleted, after_files, after_joined, after_list, after_name, after_operand, after_script, after_set, after_sets, after_value, after_word, after_words, begun, files_by_read, files_by_value, find, find_lacking, find_not_followed, is_lacking, set_name, skip}
+use Rattle.hushcheck.specs.CallSets.{Sets, behind_options, deleted_by_words, none, set_by_call, set_by_env, set_by_words, set_to_value, sets_more, takes_names}
 use Rattle.hushcheck.specs.Names.{Text, is_run, read_by, run_by_value, written_out}
 use Rattle.hushcheck.specs.Order.{IsOrder, Turn, Variable, File, called_by, files_in, once, run_by, text_of, variables_in}
 use Rattle.hushcheck.specs.Rules.{Rules}
@@ -22,20 +22,16 @@ quiet-if : (b : Bool) (x y : Sets) → IsQuiet x → IsQuiet y → IsQuiet (if b
 quiet-if true x y p q = p
 quiet-if false x y p q = q
 
-quiet-set : (s : Sets) (name : Option Text) → IsQuiet s → IsQuiet (with_set s name)
-quiet-set s None p = p
-quiet-set s (Some name) p = p
-
 quiet-value : (s : Sets) (words : List (Option Text)) → IsQuiet s → IsQuiet (set_to_value s words)
 quiet-value s [] p = p
 quiet-value s (name ∷ []) p = p
-quiet-value s (name ∷ value ∷ words) p = quiet-set s name p
+quiet-value s (name ∷ value ∷ words) p = p
 
 quiet-env : (s : Sets) (words : List (Option Text)) → IsQuiet s → IsQuiet (set_by_env s words)
 quiet-env s [] p = p
 quiet-env s (None ∷ words) p = p
 quiet-env s (Some word ∷ words) p =
-    quiet-if (same word _) (set_by_words s words) (if takes_names word then with_more s else s) (quiet-value s (behind_options words) p) (quiet-if (takes_names word) (with_more s) s p p)
+    quiet-if (same word _) (set_by_words s words) _ (quiet-value s (behind_options words) p) (quiet-if (same word _) (deleted_by_words s words) _ p (quiet-if (takes_names word) (sets_more s) s p p))
 
 quiet-call : (command : Option Text) (words : List Word) → IsQuiet (set_by_call None command words)
 quiet-call None words = refl
@@ -60,7 +56,7 @@ plain-word : (r : Reading) (word : Word) → IsPlain r → IsPlain (after_word r
 plain-word r word p = p
 
 plain-operand : (r : Reading) (word : Word) → IsPlain r → IsPlain (after_operand r word)
-plain-operand r word p = plain-if (is_some (written_out word)) r (find NotFollowed r) p p
+plain-operand r word p = plain-if (is_some (written_out word)) r (find_not_followed r) p p
 
 plain-name : (r : Reading) (name : Option Text) → IsPlain r → IsPlain (after_name r name)
 plain-name r None p = p
@@ -71,9 +67,9 @@ plain-files [] r e p = (p.0, ap (λ files. files ++ []) p.1)
 plain-files (name ∷ names) r e p = absurd cc
 
 plain-sets : (s : Sets) (r : Reading) → IsQuiet s → IsPlain r → IsPlain (after_sets s r)
-plain-sets s r quiet p = plain-files s.runs (record (if s.more then find SetsMore r else r) { sets = r.sets ++ s.names }) quiet (sets s.more)
+plain-sets s r quiet p = plain-files s.runs (after_deleted s.deletes (after_set s.sets r)) quiet (sets s.sets.more)
   where
-    sets : (more : Bool) → IsPlain (record (if more then find SetsMore r else r) { sets = r.sets ++ s.names })
+    sets : (more : Bool) → IsPlain (record (if more then find SetsMore r else r) { sets = r.sets ++ s.sets.names; more = r.more || more })
     sets true = p
     sets false = p
 

@@ -13,7 +13,7 @@ map-upto g [] i d h = absurd (omega arith)
 map-upto g (x ∷ xs) zero d h = refl
 map-upto g (x ∷ xs) (suc i) d h = ap (λ t. g x ∷ t) (map-upto g xs i d (omega arith))
 
-map-push : {X A : Type 0} (f : X → A) (items : List X) (new : X) → map f (items ++ new ∷ []) ≡ map f items ++ f new ∷ []
+pub map-push : {X A : Type 0} (f : X → A) (items : List X) (new : X) → map f (items ++ new ∷ []) ≡ map f items ++ f new ∷ []
 map-push f [] new = refl
 map-push f (x ∷ items) new = ap (λ t. f x ∷ t) (map-push f items new)
 

@@ -12,7 +12,7 @@ use Rattle.hushlang.specs.Parsing.{whole, script, command, simple, keyword, next
 use Rattle.device_list.specs.CallLines.{Exactly}
 use Rattle.device_list.specs.DeviceList.{Devices, Effect, Setting, Variable, WordAt, LastWord, Literal}
 use Rattle.device_list.specs.Imports.{imported}
-use Rattle.hushcheck.specs.CallSets.{Sets, set_by_call}
+use Rattle.hushcheck.specs.CallSets.{Sets, none, set_by_call}
 use Rattle.hushcheck.specs.Names.{Text}
 use Rattle.hushcheck.specs.Report.{lacks_set, last_lines}
 use Rattle.hushcheck.specs.Rules.{Rules}
@@ -21,10 +21,18 @@ use Rattle.hushcheck.specs.Unset.{used_by_text}
 -- ---- calls
 
 abbrev known : List Text → Sets
-known names = record { names = names; more = false; runs = [] }
+known names = record none { sets = record { names = names; more = false } }
 
 abbrev unknown : Sets
-unknown = record { names = []; more = true; runs = [] }
+unknown = record none { sets = record { names = []; more = true } }
+
+-- names that are deleted, and these that are set
+abbrev deleting : (deleted names : List Text) → Sets
+deleting deleted names = record (known names) { deletes = record { names = deleted; more = false } }
+
+-- or one that is not known
+abbrev deleting_more : List Text → Sets
+deleting_more names = record none { deletes = record { names = names; more = true } }
 
 abbrev word : Text → Word
 word bytes = Bytes bytes ∷ []
@@ -36,8 +44,21 @@ held = Var (codes "x") true ∷ []
 sets_one : set_by_call None (Some (codes "setenv")) (word (codes "a") ∷ held ∷ []) ≡ known (codes "a" ∷ [])
 sets_one = refl
 
-deletes : set_by_call None (Some (codes "setenv")) (word (codes "a") ∷ []) ≡ known []
+deletes : set_by_call None (Some (codes "setenv")) (word (codes "a") ∷ []) ≡ deleting (codes "a" ∷ []) []
 deletes = refl
+
+deletes_held : set_by_call None (Some (codes "env")) (word (codes "set") ∷ held ∷ []) ≡ deleting_more []
+deletes_held = refl
+
+-- `env delete`, with an option, with a name that holds a variable, and with an option for all
+deletes_named : set_by_call None (Some (codes "env")) (word (codes "delete") ∷ word (codes "-f") ∷ word (codes "a") ∷ []) ≡ deleting (codes "a" ∷ []) []
+deletes_named = refl
+
+deletes_one : set_by_call None (Some (codes "env")) (word (codes "delete") ∷ word (codes "a") ∷ held ∷ []) ≡ deleting_more (codes "a" ∷ [])
+deletes_one = refl
+
+deletes_all : set_by_call None (Some (codes "env")) (word (codes "delete") ∷ word (codes "-a") ∷ []) ≡ deleting_more []
+deletes_all = refl
 
 with_option : set_by_call None (Some (codes "env")) (word (codes "set") ∷ word (codes "-f") ∷ word (codes "a") ∷ word (codes "1") ∷ []) ≡ known (codes "a" ∷ [])
 with_option = refl
@@ -81,7 +102,7 @@ by_words : set_by_call (Some list) (Some (codes "part")) (word (codes "uuid") �
 by_words = refl
 
 -- a word that holds a variable, and a word that is not there
-by_held : set_by_call (Some list) (Some (codes "part")) (word (codes "uuid") ∷ word (codes "a") ∷ held ∷ []) ≡ record { names = codes "a" ∷ []; more = true; runs = [] }
+by_held : set_by_call (Some list) (Some (codes "part")) (word (codes "uuid") ∷ word (codes "a") ∷ held ∷ []) ≡ record none { sets = record { names = codes "a" ∷ []; more = true } }
 by_held = refl
 
 by_none : set_by_call (Some list) (Some (codes "part")) (word (codes "uuid") ∷ []) ≡ known (codes "uuid" ∷ [])
@@ -92,7 +113,7 @@ by_none = refl
 abbrev patterns : Devices
 patterns = record list { calls = (codes "source", (record { words = Exactly (codes "${x}") ∷ []; more = false }, record (effect []) { runs = codes "boot.scr" ∷ [] }) ∷ []) ∷ [] }
 
-runs_held : set_by_call (Some patterns) (Some (codes "source")) (held ∷ []) ≡ record { names = []; more = false; runs = codes "boot.scr" ∷ [] }
+runs_held : set_by_call (Some patterns) (Some (codes "source")) (held ∷ []) ≡ record none { runs = codes "boot.scr" ∷ [] }
 runs_held = refl
 
 runs_none : set_by_call (Some patterns) (Some (codes "source")) ((Bytes (codes "0") ∷ held) ∷ []) ≡ known []
@@ -110,19 +131,19 @@ abbrev by_import : (command text : Text) → Option Sets
 by_import command text =
     option_map (λ sets. set_by_call (Some (importing sets)) (Some command) (word (codes "import") ∷ [])) (imported text)
 
--- its names are set, and one that it deletes is not
-imports_text : by_import (codes "get") (codes "a=1\nb=\nc\nd=2\n") ≡ Some (known (codes "a" ∷ codes "d" ∷ []))
+-- its names are set, and those that it deletes are not
+imports_text : by_import (codes "get") (codes "a=1\nb=\nc\nd=2\n") ≡ Some (deleting (codes "b" ∷ codes "c" ∷ []) (codes "a" ∷ codes "d" ∷ []))
 imports_text = refl
 
 -- a name that is set and deleted counts as set; and each reading sets its names
-deletes_again : by_import (codes "get") (codes "a=1\na=\n") ≡ Some (known (codes "a" ∷ []))
+deletes_again : by_import (codes "get") (codes "a=1\na=\n") ≡ Some (deleting (codes "a" ∷ []) (codes "a" ∷ []))
 deletes_again = refl
 
-in_readings : by_import (codes "get") (codes "a=1\nb=\r\n") ≡ Some (known (codes "a" ∷ codes "b" ∷ codes "a" ∷ codes "a" ∷ []))
+in_readings : by_import (codes "get") (codes "a=1\nb=\r\n") ≡ Some (deleting (codes "b" ∷ codes "b" ∷ []) (codes "a" ∷ codes "b" ∷ codes "a" ∷ codes "a" ∷ []))
 in_readings = refl
 
 -- `env import` may set others
-imports_more : by_import (codes "env") (codes "a=1\n") ≡ Some (record { names = codes "a" ∷ []; more = true; runs = [] })
+imports_more : by_import (codes "env") (codes "a=1\n") ≡ Some (record none { sets = record { names = codes "a" ∷ []; more = true } })
 imports_more = refl
 
 -- ---- whole texts, in an environment that has `a`

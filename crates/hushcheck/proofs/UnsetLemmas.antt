@@ -62,11 +62,11 @@ pub record IsSo (known : List Text) (used : List Used) (told : Text) (any : Bool
 pub so_first : (known : List Text) (used : List Used) → IsSo known used [] false known used
 so_first known used = record { lines = refl; any_is = refl }
 
-or_assoc : (a b c : Bool) → ((a || b) || c) ≡ (a || (b || c))
+pub or_assoc : (a b c : Bool) → ((a || b) || c) ≡ (a || (b || c))
 or_assoc true b c = refl
 or_assoc false b c = refl
 
-or_end : (a : Bool) → (a || false) ≡ a
+pub or_end : (a : Bool) → (a || false) ≡ a
 or_end true = refl
 or_end false = refl
 

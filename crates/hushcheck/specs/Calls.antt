@@ -1,6 +1,6 @@
 -- What is found in the calls of a text: a command that the device list lacks, a name of `run` that is not followed, and a
--- call that may set variables whose names are not known; which variables the text reads and sets; and which files run after
--- its calls. Ours.
+-- call that may set variables whose names are not known; which variables the text reads, sets and deletes; and which files run
+-- after its calls. Ours.
 use Rattle.std.specs.Prelude.{◌||◌, ◌++◌, ℕ, Bool, true, false, not, List, [], ◌∷◌, map, filter, drop, Option, Some, None, Result, Ok, Err, codes, is_some, if◌then◌else◌}
 use Rattle.std.specs.List.{flat_map, fold, list_any}
 use Rattle.std.specs.Str.{bytes_eq}
@@ -12,7 +12,7 @@ use Rattle.hushlang.specs.Tree.{Script, Empty, Runs, AndOr, Starts, Joined, Alon
 use Rattle.builtins.specs.Builtins.{is_built_in}
 use Rattle.device_list.specs.DeviceList.{Devices, is_listed}
 use Rattle.text.specs.Escapes.{word_form}
-use Rattle.hushcheck.specs.CallSets.{Sets, set_by_call}
+use Rattle.hushcheck.specs.CallSets.{Named, Sets, set_by_call}
 use Rattle.hushcheck.specs.Names.{Text, is_run, read_by, written_out}
 use Rattle.hushcheck.specs.Places.{lines_at}
 use Rattle.hushcheck.specs.Rules.{Rules}
@@ -54,7 +54,8 @@ abbrev pub Read : Type 0
 Read = ℕ × Text
 
 -- the device list, the places of the words that are left, what was found at which places, whether a command is lacking,
--- and the variables that are read and those that are set, and the files whose texts run
+-- the variables that are read, those that are set and those that are deleted, and whether others may be set or deleted; and
+-- the files whose texts run
 pub record Reading : Type 0 where
   pub devices : Option Devices
   pub left : List ℕ
@@ -62,6 +63,8 @@ pub record Reading : Type 0 where
   pub lacks : Bool
   pub reads : List Read
   pub sets : List Text
+  pub deletes : List Text
+  pub more : Bool
   pub files : List Text
 
 -- the place of the next word
@@ -96,9 +99,13 @@ set_name name r = record r { sets = r.sets ++ name ∷ [] }
 
 -- ---- the words of a call
 
+-- a text that is not known runs, which may set and delete any variable
+abbrev pub find_not_followed : Reading → Reading
+find_not_followed r = record (find NotFollowed r) { more = true }
+
 -- a name of `run`: it is followed if it is written out
 abbrev pub after_operand : Reading → Word → Reading
-after_operand r word = after_word (if is_some (written_out word) then r else find NotFollowed r) word
+after_operand r word = after_word (if is_some (written_out word) then r else find_not_followed r) word
 
 abbrev pub find_lacking : Text → Reading → Reading
 find_lacking name r = record (find (Lacks name) r) { lacks = true }
@@ -112,9 +119,17 @@ after_name r (Some name) = if is_lacking r.devices name then find_lacking name r
 abbrev pub after_files : List Text → Reading → Reading
 after_files names r = record r { files = r.files ++ names }
 
--- what the call sets, and these files
+-- what the call sets
+abbrev pub after_set : Named → Reading → Reading
+after_set n r = record (if n.more then find SetsMore r else r) { sets = r.sets ++ n.names; more = r.more || n.more }
+
+-- what it deletes: of others nothing is reported
+abbrev pub after_deleted : Named → Reading → Reading
+after_deleted n r = record r { deletes = r.deletes ++ n.names; more = r.more || n.more }
+
+-- what the call sets and deletes, and these files
 abbrev pub after_sets : Sets → Reading → Reading
-after_sets s r = after_files s.runs (record (if s.more then find SetsMore r else r) { sets = r.sets ++ s.names })
+after_sets s r = after_files s.runs (after_deleted s.deletes (after_set s.sets r))
 
 -- a call that is not of `run`
 abbrev pub after_call : Reading → Word → List Word → Reading
@@ -175,6 +190,8 @@ begun devices text = record {
   lacks = false;
   reads = [];
   sets = [];
+  deletes = [];
+  more = false;
   files = [];
 }
 

@@ -18,3 +18,4 @@ pub mod Unset
 pub mod UsedShown
 pub mod Report
 pub mod Telling
+pub mod Changed

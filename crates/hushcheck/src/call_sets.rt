@@ -1,4 +1,4 @@
-//! What a call sets, and of which files the text may run after it, as far as its words say it.
+//! What a call sets and deletes, and of which files the text may run after it, as far as its words say it.
 ghost use Rattle.std.specs.Prelude.{◌≡◌, ◌++◌, map, option_map, Some, IfOk, OnOk};
 ghost use Rattle.std.specs.List.{fold};
 ghost use Rattle.std.specs.Option.{option_copied};
@@ -102,45 +102,48 @@ fn is_deletion(side: &RightSide) -> bool
     matches!(side, RightSide::Deleted)
 }
 
-/// What is set.
+/// Whether a word of `env delete` stands for all names.
+fn stands_for_all(word: &Option<Vec<u8>>) -> bool
+    ensures { result ≡ spec.stands_for_all (shown.written word.now) }
+{
+    match word {
+        Some(word) => word.as_slice() == b"-a".as_slice(),
+        None => false,
+    }
+}
+
+/// Variables.
 #[derive(Drop)]
-pub(crate) struct Sets {
+pub(crate) struct Named {
     alloc: Global,
     /// The names that are known.
     pub(crate) names: Vec<Vec<u8>>,
     /// Whether there are others, which are not known.
     pub(crate) more: bool,
-    /// The files of which the text of one runs after the call.
-    pub(crate) runs: Vec<Vec<u8>>,
 }
 
-impl Model for Sets {
+impl Model for Named {
     ghost use Rattle.hushcheck.specs.CallSets as spec;
     ghost use Rattle.hushcheck.specs.CallSetsShown as shown;
 
-    ghost Value = { spec.Sets };
+    ghost Value = { spec.Named };
 
-    ghost view = { λ s. record {
-      names = shown.names_shown s.names.items;
-      more = s.more;
-      runs = shown.names_shown s.runs.items;
-    } };
+    ghost view = { λ n. record { names = shown.names_shown n.names.items; more = n.more } };
 }
 
-impl Sets {
-    /// Nothing.
-    fn new(alloc: Global) -> Sets
-        ensures { result ≡ spec.none }
+impl Named {
+    /// None.
+    fn new(alloc: Global) -> Named
+        ensures { result ≡ spec.no_names }
     {
-        Sets {
+        Named {
             alloc,
             names: Vec::new(alloc),
             more: false,
-            runs: Vec::new(alloc),
         }
     }
 
-    /// Others are set, too.
+    /// There are others, too.
     fn add_more(&mut self)
         ensures { self.new ≡ spec.with_more self.old }
     {
@@ -149,7 +152,7 @@ impl Sets {
 
     /// Adds a name, if it is written out. Errors: memory ran out.
     fn add(&mut self, name: &Option<Vec<u8>>) -> Result<(), AllocError>
-        ensures { OnOk result (self.new ≡ spec.with_set self.old (shown.written name.now)) }
+        ensures { OnOk result (self.new ≡ spec.with_name self.old (shown.written name.now)) }
     {
         match name {
             Some(name) => self.add_name(name),
@@ -162,69 +165,34 @@ impl Sets {
 
     /// Adds a name. Errors: memory ran out.
     fn add_name(&mut self, name: &[u8]) -> Result<(), AllocError>
-        ensures { OnOk result (self.new ≡ spec.with_set self.old (Some name.now)) }
+        ensures { OnOk result (self.new ≡ spec.with_name self.old (Some name.now)) }
     {
         let name = Vec::from_slice(self.alloc, name)?;
         self.names.push(name)?;
         Ok(())
     }
 
-    /// Adds a name that has a value after it. Errors: memory ran out.
-    fn add_valued(&mut self, words: &[Option<Vec<u8>>]) -> Result<(), AllocError>
+    /// Adds what a word of `env delete` names. Errors: memory ran out.
+    fn add_deleted(&mut self, word: &Option<Vec<u8>>) -> Result<(), AllocError>
         ensures { OnOk result (self.new
-            ≡ spec.set_to_value self.old (shown.all_written words.now)) }
+            ≡ spec.with_deleted self.old (shown.written word.now)) }
     {
-        match words {
-            [name, _, ..] => self.add(name),
-            [] | [_] => Ok(()),
+        if !is_option(word) {
+            return self.add(word);
         }
-    }
-
-    /// Adds what `env` sets by a subcommand with these words. Errors: memory ran out.
-    fn add_by_subcommand(
-        &mut self,
-        word: &[u8],
-        words: &[Option<Vec<u8>>],
-    ) -> Result<(), AllocError>
-        ensures { OnOk result (self.new
-            ≡ spec.set_by_subcommand self.old word.now (shown.all_written words.now)) }
-    {
-        if word == b"set".as_slice() {
-            return self.add_valued(behind_options(words));
-        }
-        if takes_names(word) {
+        if stands_for_all(word) {
             self.add_more();
         }
         Ok(())
     }
 
-    /// Adds what `env` sets with these words. Errors: memory ran out.
-    fn add_by_env(&mut self, words: &[Option<Vec<u8>>]) -> Result<(), AllocError>
+    /// Adds what the words of `env delete` name. Errors: memory ran out.
+    fn add_all_deleted(&mut self, words: &[Option<Vec<u8>>]) -> Result<(), AllocError>
         ensures { OnOk result (self.new
-            ≡ spec.set_by_env self.old (shown.all_written words.now)) }
+            ≡ fold spec.with_deleted self.old (shown.all_written words.now)) }
     {
-        let Some((first, rest)) = words.split_first() else {
-            return Ok(());
-        };
-        match first {
-            Some(word) => self.add_by_subcommand(word, rest),
-            None => {
-                self.add_more();
-                Ok(())
-            }
-        }
-    }
-
-    /// Adds what `setenv`, `setexpr` or `env` sets with these words. Errors: memory ran out.
-    fn add_by_name(&mut self, command: &[u8], words: &[Option<Vec<u8>>]) -> Result<(), AllocError>
-        ensures { OnOk result (self.new
-            ≡ spec.set_by_name self.old command.now (shown.all_written words.now)) }
-    {
-        if command == b"setenv".as_slice() || command == b"setexpr".as_slice() {
-            return self.add_valued(behind_options(words));
-        }
-        if command == b"env".as_slice() {
-            return self.add_by_env(words);
+        for word in words {
+            self.add_deleted(word)?;
         }
         Ok(())
     }
@@ -243,7 +211,7 @@ impl Sets {
     /// Adds what the left side of a setting names in a call with these words. Errors: memory ran out.
     fn add_side(&mut self, words: &[Option<Vec<u8>>], side: &LeftSide) -> Result<(), AllocError>
         ensures { OnOk result (self.new
-            ≡ spec.set_by_side (shown.all_written words.now) self.old (left_shown side.now)) }
+            ≡ spec.with_side (shown.all_written words.now) self.old (left_shown side.now)) }
     {
         match side {
             LeftSide::Variable(name) | LeftSide::Imported { name, .. } => self.add_name(name),
@@ -252,8 +220,111 @@ impl Sets {
             LeftSide::Saving => Ok(()),
         }
     }
+}
 
-    /// Adds what a setting sets in a call with these words: a deletion sets nothing. Errors: memory ran out.
+/// What is set and deleted.
+#[derive(Drop)]
+pub(crate) struct Sets {
+    alloc: Global,
+    /// What is set.
+    pub(crate) sets: Named,
+    /// What is deleted.
+    pub(crate) deletes: Named,
+    /// The files of which the text of one runs after the call.
+    pub(crate) runs: Vec<Vec<u8>>,
+}
+
+impl Model for Sets {
+    ghost use Rattle.hushcheck.specs.CallSets as spec;
+    ghost use Rattle.hushcheck.specs.CallSetsShown as shown;
+
+    ghost Value = { spec.Sets };
+
+    ghost view = { λ s. record {
+      sets = s.sets;
+      deletes = s.deletes;
+      runs = shown.names_shown s.runs.items;
+    } };
+}
+
+impl Sets {
+    /// Nothing.
+    fn new(alloc: Global) -> Sets
+        ensures { result ≡ spec.none }
+    {
+        Sets {
+            alloc,
+            sets: Named::new(alloc),
+            deletes: Named::new(alloc),
+            runs: Vec::new(alloc),
+        }
+    }
+
+    /// Adds a name that has a value after it as set, and a name alone as deleted. Errors: memory ran out.
+    fn add_valued(&mut self, words: &[Option<Vec<u8>>]) -> Result<(), AllocError>
+        ensures { OnOk result (self.new
+            ≡ spec.set_to_value self.old (shown.all_written words.now)) }
+    {
+        match words {
+            [name, _, ..] => self.sets.add(name),
+            [name] => self.deletes.add(name),
+            [] => Ok(()),
+        }
+    }
+
+    /// Adds what `env` sets and deletes by a subcommand with these words. Errors: memory ran out.
+    fn add_by_subcommand(
+        &mut self,
+        word: &[u8],
+        words: &[Option<Vec<u8>>],
+    ) -> Result<(), AllocError>
+        ensures { OnOk result (self.new
+            ≡ spec.set_by_subcommand self.old word.now (shown.all_written words.now)) }
+    {
+        if word == b"set".as_slice() {
+            return self.add_valued(behind_options(words));
+        }
+        if word == b"delete".as_slice() {
+            return self.deletes.add_all_deleted(words);
+        }
+        if takes_names(word) {
+            self.sets.add_more();
+        }
+        Ok(())
+    }
+
+    /// Adds what `env` sets and deletes with these words. Errors: memory ran out.
+    fn add_by_env(&mut self, words: &[Option<Vec<u8>>]) -> Result<(), AllocError>
+        ensures { OnOk result (self.new
+            ≡ spec.set_by_env self.old (shown.all_written words.now)) }
+    {
+        let Some((first, rest)) = words.split_first() else {
+            return Ok(());
+        };
+        match first {
+            Some(word) => self.add_by_subcommand(word, rest),
+            None => {
+                self.sets.add_more();
+                Ok(())
+            }
+        }
+    }
+
+    /// Adds what `setenv`, `setexpr` or `env` sets and deletes with these words. Errors: memory ran out.
+    fn add_by_name(&mut self, command: &[u8], words: &[Option<Vec<u8>>]) -> Result<(), AllocError>
+        ensures { OnOk result (self.new
+            ≡ spec.set_by_name self.old command.now (shown.all_written words.now)) }
+    {
+        if command == b"setenv".as_slice() || command == b"setexpr".as_slice() {
+            return self.add_valued(behind_options(words));
+        }
+        if command == b"env".as_slice() {
+            return self.add_by_env(words);
+        }
+        Ok(())
+    }
+
+    /// Adds what a setting sets or deletes in a call with these words. Errors: memory ran out.
     fn add_setting(
         &mut self,
         words: &[Option<Vec<u8>>],
@@ -263,12 +334,12 @@ impl Sets {
             self.old (setting_shown setting.now)) }
     {
         if is_deletion(&setting.value) {
-            return Ok(());
+            return self.deletes.add_side(words, &setting.left);
         }
-        self.add_side(words, &setting.left)
+        self.sets.add_side(words, &setting.left)
     }
 
-    /// Adds what settings set in a call with these words. Errors: memory ran out.
+    /// Adds what settings set and delete in a call with these words. Errors: memory ran out.
     fn add_settings(
         &mut self,
         words: &[Option<Vec<u8>>],
@@ -292,8 +363,8 @@ impl Sets {
         Ok(())
     }
 
-    /// Adds what the device list says that a call sets and of which files the text may run after it, of a call whose
-    /// words are written out as far as they are. Errors: memory ran out.
+    /// Adds what the device list says that a call sets and deletes and of which files the text may run after it, of a
+    /// call whose words are written out as far as they are. Errors: memory ran out.
     fn add_by_list(
         &mut self,
         alloc: Global,
@@ -317,7 +388,7 @@ impl Sets {
     }
 }
 
-/// What a call of a command with these words sets. Errors: memory ran out.
+/// What a call of a command with these words sets and deletes. Errors: memory ran out.
 fn set_by_command(
     alloc: Global,
     devices: Option<&Devices>,
@@ -336,7 +407,7 @@ fn set_by_command(
     Ok(sets)
 }
 
-/// What a call with these words behind its first one sets; nothing is known if the first one is not
+/// What a call with these words behind its first one sets and deletes; nothing is known if the first one is not
 /// written out. Errors: memory ran out.
 pub(crate) fn set_by_call(
     alloc: Global,
@@ -351,7 +422,7 @@ pub(crate) fn set_by_call(
         Some(command) => set_by_command(alloc, devices, command, words),
         None => {
             let mut sets = Sets::new(alloc);
-            sets.add_more();
+            sets.sets.add_more();
             Ok(sets)
         }
     }

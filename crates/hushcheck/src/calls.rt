@@ -9,7 +9,7 @@ ghost use Rattle.hushcheck.specs.Names as names;
 ghost use Rattle.hushcheck.specs.Remarks as shown;
 
 use crate::reading::{Reading, word_places};
-use crate::remark::{Found, Read, Remark};
+use crate::remark::{Found, Read};
 use crate::walk::{is_run, written_out};
 use device_list::Devices;
 use hushlang::{AndOr, Command, Script, Word};
@@ -27,6 +27,10 @@ pub(crate) struct Calls {
     pub(crate) reads: Vec<Read>,
     /// The names of the variables that it sets.
     pub(crate) sets: Vec<Vec<u8>>,
+    /// The names of the variables that it deletes.
+    pub(crate) deletes: Vec<Vec<u8>>,
+    /// Whether it may set or delete others.
+    pub(crate) more: bool,
     /// The files whose texts run after its calls, in its order.
     pub(crate) files: Vec<Vec<u8>>,
 }
@@ -37,7 +41,7 @@ fn read_operand(alloc: Global, word: &Word, reading: &mut Reading<'_>) -> Result
         ≡ spec.after_operand reading.old (view.word word.now)) }
 {
     if written_out(alloc, word)?.is_none() {
-        reading.find(Remark::NotFollowed)?;
+        reading.find_not_followed()?;
     }
     reading.pass(alloc, word)
 }
@@ -234,6 +238,12 @@ pub(crate) fn calls_of(
     ensures sets { IfOk result (λ calls. names_shown calls.sets.items
         ≡ (spec.calls_of (option_map (λ d. d.now) devices.entry) text.now
         (view.script script.now)).sets) }
+    ensures deletes { IfOk result (λ calls. names_shown calls.deletes.items
+        ≡ (spec.calls_of (option_map (λ d. d.now) devices.entry) text.now
+        (view.script script.now)).deletes) }
+    ensures more { IfOk result (λ calls. calls.more
+        ≡ (spec.calls_of (option_map (λ d. d.now) devices.entry) text.now
+        (view.script script.now)).more) }
     ensures files { IfOk result (λ calls. names_shown calls.files.items
         ≡ (spec.calls_of (option_map (λ d. d.now) devices.entry) text.now
         (view.script script.now)).files) }
@@ -246,6 +256,8 @@ pub(crate) fn calls_of(
         lacks,
         reads,
         sets,
+        deletes,
+        more,
         files,
         ..
     } = reading;
@@ -254,6 +266,8 @@ pub(crate) fn calls_of(
         lacks,
         reads,
         sets,
+        deletes,
+        more,
         files,
     })
 }

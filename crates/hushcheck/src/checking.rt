@@ -101,6 +101,7 @@ fn check_text<'a, O: Out>(
                 reads,
                 sets,
                 files,
+                ..
             } = calls;
             add_used(alloc, used, name, text, reads, sets)?;
             write_read(alloc, name, text, &warnings.found, &found, out)?;
@@ -133,7 +134,7 @@ fn file_text<'a>(devices: Option<&'a Devices>, name: &[u8]) -> Option<&'a [u8]>
 }
 
 /// The text of what has its turn: a variable may be not set.
-fn text_of<'a>(rules: &Rules<'a>, env: &'a Env, turn: Turn<'_>) -> Option<&'a [u8]>
+pub(crate) fn text_of<'a>(rules: &Rules<'a>, env: &'a Env, turn: Turn<'_>) -> Option<&'a [u8]>
     ensures { option_bytes result ≡ text_of rules.now env.now (turn_shown turn.entry) }
 {
     match turn {

@@ -5,6 +5,7 @@ mod asked;
 mod by_shell;
 mod call_sets;
 mod calls;
+mod changed;
 mod check_error;
 mod checking;
 mod fault;
@@ -25,7 +26,9 @@ mod warning;
 mod watch;
 
 pub use asked::asked_names;
+pub use changed::{Changed, changed_names};
 pub use check_error::CheckError;
 pub use checking::{check, check_script};
+pub use names::names_once;
 pub use place::{Place, place_of};
 pub use rules::Rules;

@@ -92,6 +92,14 @@ impl Names {
         }
         Ok(())
     }
+
+    /// All names. Errors: memory ran out.
+    pub(crate) fn into_names(self, alloc: Global) -> Result<Vec<Vec<u8>>, AllocError>
+        ensures { IfOk result (λ names. names_shown names.items ≡ self) }
+    {
+        let Names { names } = self;
+        names.into_iter().collect(alloc)
+    }
 }
 
 /// The names of the variables of an environment, found by this hash. Errors: memory ran out.
@@ -125,4 +133,19 @@ pub(crate) fn asked_names(
         }
     }
     Ok(names)
+}
+
+/// Names, and behind them others, each once, found by this hash. Errors: memory ran out.
+pub fn names_once(
+    alloc: Global,
+    names: &[&[u8]],
+    others: &[Vec<u8>],
+    hasher: KeyedHash,
+) -> Result<Vec<Vec<u8>>, AllocError>
+    ensures { IfOk result (λ all. names_shown all.items
+        ≡ with_names (once (map (λ name. name.now) names.now)) (names_shown others.now)) }
+{
+    let mut all = asked_names(alloc, names, hasher)?;
+    all.add_all(alloc, others)?;
+    all.into_names(alloc)
 }

@@ -7,7 +7,7 @@ ghost use Rattle.hushcheck.specs.CallSets.{set_by_call};
 ghost use Rattle.hushcheck.specs.Calls as spec;
 ghost use Rattle.hushcheck.specs.Remarks as shown;
 
-use crate::call_sets::{Sets, set_by_call};
+use crate::call_sets::{Named, Sets, set_by_call};
 use crate::remark::{Found, Read, Remark};
 use builtins::is_built_in;
 use device_list::Devices;
@@ -85,6 +85,10 @@ pub(crate) struct Reading<'a> {
     pub(crate) reads: Vec<Read>,
     /// The names of the variables that are set.
     pub(crate) sets: Vec<Vec<u8>>,
+    /// The names of the variables that are deleted.
+    pub(crate) deletes: Vec<Vec<u8>>,
+    /// Whether others may be set or deleted.
+    pub(crate) more: bool,
     /// The files whose texts run after calls.
     pub(crate) files: Vec<Vec<u8>>,
 }
@@ -104,6 +108,8 @@ impl<'a> Model for Reading<'a> {
       lacks = r.lacks;
       reads = shown.all_read r.reads.items;
       sets = names_shown r.sets.items;
+      deletes = names_shown r.deletes.items;
+      more = r.more;
       files = names_shown r.files.items;
     } };
 }
@@ -118,6 +124,8 @@ impl<'a> Reading<'a> {
           lacks = false;
           reads = [];
           sets = [];
+          deletes = [];
+          more = false;
           files = [];
         } }
     {
@@ -128,6 +136,8 @@ impl<'a> Reading<'a> {
             lacks: false,
             reads: Vec::new(alloc),
             sets: Vec::new(alloc),
+            deletes: Vec::new(alloc),
+            more: false,
             files: Vec::new(alloc),
         }
     }
@@ -162,6 +172,16 @@ impl<'a> Reading<'a> {
         Ok(())
     }
 
+    /// Adds that the name at the next word is not followed: the text that runs may set and delete any variable.
+    /// Errors: memory ran out.
+    pub(crate) fn find_not_followed(&mut self) -> Result<(), AllocError>
+        ensures { OnOk result (self.new ≡ spec.find_not_followed self.old) }
+    {
+        self.find(Remark::NotFollowed)?;
+        self.more = true;
+        Ok(())
+    }
+
     /// Passes over a word, and keeps what it reads. Errors: memory ran out.
     pub(crate) fn pass(&mut self, alloc: Global, word: &Word) -> Result<(), AllocError>
         ensures { OnOk result (self.new ≡ spec.after_word self.old (view.word word.now)) }
@@ -181,27 +201,57 @@ impl<'a> Reading<'a> {
         Ok(())
     }
 
-    /// Keeps what is set, and the files of which the text of one runs, and adds that others are set, if there
-    /// are. Errors: memory ran out.
+    /// Keeps what is set, and adds that others are set, if there are. Errors: memory ran out.
+    fn keep_set(&mut self, set: Named) -> Result<(), AllocError>
+        ensures { OnOk result (self.new ≡ spec.after_set set self.old) }
+    {
+        let Named {
+            mut names,
+            more,
+            ..
+        } = set;
+        self.sets.append(&mut names)?;
+        if more {
+            self.find(Remark::SetsMore)?;
+            self.more = true;
+        }
+        Ok(())
+    }
+
+    /// Keeps what is deleted. Errors: memory ran out.
+    fn keep_deleted(&mut self, deleted: Named) -> Result<(), AllocError>
+        ensures { OnOk result (self.new ≡ spec.after_deleted deleted self.old) }
+    {
+        let Named {
+            mut names,
+            more,
+            ..
+        } = deleted;
+        self.deletes.append(&mut names)?;
+        if more {
+            self.more = true;
+        }
+        Ok(())
+    }
+
+    /// Keeps what is set and deleted, and the files of which the text of one runs. Errors: memory ran out.
     fn keep_sets(&mut self, sets: Sets) -> Result<(), AllocError>
         ensures { OnOk result (self.new ≡ spec.after_sets sets self.old) }
     {
         let Sets {
-            mut names,
-            more,
+            sets,
+            deletes,
             mut runs,
             ..
         } = sets;
-        self.sets.append(&mut names)?;
-        if more {
-            self.find(Remark::SetsMore)?;
-        }
+        self.keep_set(sets)?;
+        self.keep_deleted(deletes)?;
         self.files.append(&mut runs)?;
         Ok(())
     }
 
-    /// Keeps what a call sets with these words behind its first one, and the files of which the text of one runs
-    /// after it. Errors: memory ran out.
+    /// Keeps what a call sets and deletes with these words behind its first one, and the files of which the text of
+    /// one runs after it. Errors: memory ran out.
     pub(crate) fn keep_call(
         &mut self,
         alloc: Global,
