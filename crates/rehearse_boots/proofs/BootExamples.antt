@@ -1,0 +1,129 @@
+-- Worked examples, computed: what is kept from one boot to the next, the numbers of boots, and their lines.
+use Rattle.std.proofs.Common.{◌≡◌, ℕ, Bool, true, false, List, [], ◌∷◌, Option, Some, None, codes, refl}
+use Rattle.std.specs.Fmt.{digits}
+use Rattle.rehearse_boots.specs.Boots.{Asked, Kept, each_once, first_of, found_by, has_room, is_followed, kept_after, next_of, number_of, told_apart}
+use Rattle.rehearse_boots.specs.BootLines.{changed_lines, way_lines}
+use Rattle.rehearse_rules.specs.Execution.{End}
+use Rattle.rehearse_states.specs.Endings.{Row}
+use Rattle.rehearse_terms.specs.Outcomes.{Success, Failure}
+use Rattle.rehearse_terms.specs.State.{Text}
+use Rattle.rehearse_terms.specs.declared.shell.Shell.TheVariants.{Profile}
+
+-- ---- what is saved of a variable
+
+-- nothing was saved; it was saved as not set; a value was saved, also one that begins with the mark
+nothing_saved : kept_after (codes "3" ∷ codes "A" ∷ []) (None ∷ None ∷ []) ≡ codes "3" ∷ codes "A" ∷ []
+nothing_saved = refl
+
+saved : kept_after (codes "3" ∷ [] ∷ codes "A" ∷ []) (Some (codes "=2") ∷ Some (codes "==") ∷ Some [] ∷ []) ≡ codes "2" ∷ codes "=" ∷ [] ∷ []
+saved = refl
+
+-- a value that is empty is as one that is not set
+saved_empty : kept_after (codes "3" ∷ []) (Some (codes "=") ∷ []) ≡ [] ∷ []
+saved_empty = refl
+
+-- of a variable without a copy nothing was saved
+no_copy : kept_after (codes "3" ∷ codes "A" ∷ []) (Some (codes "=2") ∷ []) ≡ codes "2" ∷ codes "A" ∷ []
+no_copy = refl
+
+-- ---- boots of a board whose image has `left=2`
+
+abbrev asked : Option ℕ → (failures : Option ℕ) → Asked
+asked room failures = record {
+  environment = (codes "left", codes "2") ∷ [];
+  name = codes "bootcmd";
+  bounds = record { devices = 3; steps = 20; failures = None; shell = Profile };
+  failures = failures;
+  names = codes "x" ∷ [];
+  kept = codes "left" ∷ codes "note" ∷ [];
+  room = room;
+}
+
+first : first_of (asked None None) ≡ codes "2" ∷ [] ∷ []
+first = refl
+
+-- a variable that gets an empty value is not set, and one that is new goes last
+found_later : found_by (asked None None) ([] ∷ codes "ab" ∷ []) ≡ (codes "note", codes "ab") ∷ []
+found_later = refl
+
+found_first : found_by (asked None None) (codes "2" ∷ [] ∷ []) ≡ (codes "left", codes "2") ∷ []
+found_first = refl
+
+apart : told_apart (asked None None) ≡ codes "x" ∷ (0 ∷ codes "left") ∷ (0 ∷ codes "note") ∷ []
+apart = refl
+
+-- `left=2` and the byte behind it take 7 bytes, and one more ends them
+just_room : has_room (Some 8) (found_by (asked None None) (codes "2" ∷ [] ∷ [])) ≡ true
+just_room = refl
+
+no_room : has_room (Some 7) (found_by (asked None None) (codes "2" ∷ [] ∷ [])) ≡ false
+no_room = refl
+
+-- an ending of one run, which leaves x and has saved this, with so many failures
+abbrev ending : (copies : List (Option Text)) → (failures : ℕ) → Row
+ending copies failures = record {
+  run_end = record { ending = End 0; values = Some (codes "9") ∷ copies };
+  count = 1;
+  word = Failure ∷ [];
+  fewest = (Failure ∷ [], failures);
+}
+
+abbrev noted : Row
+noted = ending (Some (codes "=1") ∷ Some (codes "=abc") ∷ []) 1
+
+-- the boot behind it, by what was saved; by what was saved before, if nothing was, or if that has no room
+behind : next_of (asked None None) (codes "2" ∷ [] ∷ []) noted ≡ codes "1" ∷ codes "abc" ∷ []
+behind = refl
+
+behind_nothing : next_of (asked None None) (codes "2" ∷ [] ∷ []) (ending (None ∷ None ∷ []) 1) ≡ codes "2" ∷ [] ∷ []
+behind_nothing = refl
+
+behind_in_room : next_of (asked (Some 17) None) (codes "2" ∷ [] ∷ []) noted ≡ codes "1" ∷ codes "abc" ∷ []
+behind_in_room = refl
+
+behind_without_room : next_of (asked (Some 16) None) (codes "2" ∷ [] ∷ []) noted ≡ codes "2" ∷ [] ∷ []
+behind_without_room = refl
+
+-- which endings are followed
+followed_by_any : is_followed (asked None None) (ending [] 7) ≡ true
+followed_by_any = refl
+
+followed_by_as_many : is_followed (asked None (Some 1)) (ending [] 1) ≡ true
+followed_by_as_many = refl
+
+not_followed : is_followed (asked None (Some 1)) (ending [] 2) ≡ false
+not_followed = refl
+
+-- ---- numbers
+
+abbrev a : Kept
+a = codes "2" ∷ [] ∷ []
+
+abbrev b : Kept
+b = codes "1" ∷ [] ∷ []
+
+abbrev c : Kept
+c = [] ∷ codes "1" ∷ []
+
+-- each once, where it was found first
+once : each_once (a ∷ b ∷ a ∷ c ∷ b ∷ []) ≡ a ∷ b ∷ c ∷ []
+once = refl
+
+numbers : number_of (a ∷ b ∷ c ∷ []) c ≡ 3
+numbers = refl
+
+number_of_first : number_of (a ∷ b ∷ c ∷ []) a ≡ 1
+number_of_first = refl
+
+-- ---- lines
+
+unchanged : changed_lines (codes "left" ∷ codes "note" ∷ []) a a ≡ []
+unchanged = refl
+
+changed : changed_lines (codes "left" ∷ codes "note" ∷ []) a c ≡ codes "unset left\nvar note=1\n"
+changed = refl
+
+way : way_lines (asked None None) (a ∷ (codes "1" ∷ codes "abc" ∷ []) ∷ []) a (λ w. (false, codes "load" ∷ []) ∷ []) noted
+    ≡ codes "ends 1 first 1 fewest 1 1 end 0 next 2\nvar x=9\nfails load\n"
+unfolding digits
+way = refl

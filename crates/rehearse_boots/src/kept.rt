@@ -1,0 +1,120 @@
+//! What is kept from one boot to the next: the values of variables, an empty one of a variable that is not set.
+ghost use Rattle.std.specs.Prelude.{◌≡◌, ◌++◌, [], map, unwrap_or, IfOk, OnOk};
+ghost use Rattle.std.specs.List.{zip};
+ghost use Rattle.envtools.specs.Environment.{value_of};
+ghost use Rattle.envimage.specs.Entries.{pair_at};
+ghost use Rattle.rehearse_boots.specs.Boots as spec;
+ghost use Rattle.rehearse_states.specs.RowsShown.{value_shown};
+ghost use Rattle.text.specs.TextsShown.{bytes_of_words};
+
+use envtools::Env;
+use std::alloc::{AllocError, Global};
+
+/// The value of a variable, or nothing if it is not set. Errors: memory ran out.
+fn value_of(alloc: Global, env: &Env, name: &[u8]) -> Result<Vec<u8>, AllocError>
+    ensures { IfOk result (λ value. value.items ≡ unwrap_or (value_of env.now name.now) []) }
+{
+    match env.get(name) {
+        Some(value) => Vec::from_slice(alloc, value),
+        None => Ok(Vec::new(alloc)),
+    }
+}
+
+/// The values that variables have in an environment. Errors: memory ran out.
+pub(crate) fn values_kept(
+    alloc: Global,
+    env: &Env,
+    names: &[&[u8]],
+) -> Result<Vec<Vec<u8>>, AllocError>
+    ensures { IfOk result (λ kept. bytes_of_words kept.items
+        ≡ spec.values_kept (map (λ n. n.now) names.now) env.now) }
+{
+    let mut kept = Vec::new(alloc);
+    for name in names {
+        let value = value_of(alloc, env, name)?;
+        kept.push(value)?;
+    }
+    Ok(kept)
+}
+
+/// Adds a change of each of these variables to its value. Errors: memory ran out.
+fn add_changes<'a>(
+    changes: &mut Vec<(&'a [u8], &'a [u8])>,
+    names: &[&'a [u8]],
+    kept: &'a [Vec<u8>],
+) -> Result<(), AllocError>
+    ensures { OnOk result (map pair_at changes.new.items
+        ≡ map pair_at changes.old.items ++ zip (map (λ n. n.now) names.now) (bytes_of_words kept.now)) }
+{
+    match (names.split_first(), kept.split_first()) {
+        (Some((name, names)), Some((value, kept))) => {
+            changes.push((*name, value.as_slice()))?;
+            add_changes(changes, names, kept)
+        }
+        _ => Ok(()),
+    }
+}
+
+/// An environment in which these variables have these values. Errors: memory ran out.
+pub(crate) fn with_kept(
+    alloc: Global,
+    env: &Env,
+    names: &[&[u8]],
+    kept: &[Vec<u8>],
+) -> Result<Env, AllocError>
+    ensures { IfOk result (λ found. found
+        ≡ spec.with_kept env.now (map (λ n. n.now) names.now) (bytes_of_words kept.now)) }
+{
+    let mut changes = Vec::new(alloc);
+    add_changes(&mut changes, names, kept)?;
+    env.changed_by(&changes)
+}
+
+/// The value that is saved behind a run, by the one that was saved before it and the copy that the run leaves.
+fn kept_by<'a>(before: &'a [u8], copy: &'a Option<Vec<u8>>) -> &'a [u8]
+    ensures { result.now ≡ spec.kept_by before.now (value_shown copy.now) }
+{
+    match copy {
+        None => before,
+        Some(copy) => {
+            match copy.as_slice() {
+                [_, value @ ..] => value,
+                [] => &[],
+            }
+        }
+    }
+}
+
+/// Adds the values that are saved behind a run, by those that were saved before it and the copies that the run
+/// leaves. Errors: memory ran out.
+pub(crate) fn add_kept(
+    alloc: Global,
+    after: &mut Vec<Vec<u8>>,
+    before: &[Vec<u8>],
+    copies: &[Option<Vec<u8>>],
+) -> Result<(), AllocError>
+    ensures { OnOk result (bytes_of_words after.new.items ≡ bytes_of_words after.old.items
+        ++ spec.kept_after (bytes_of_words before.now) (map value_shown copies.now)) }
+{
+    match (before.split_first(), copies.split_first()) {
+        (Some((value, before)), Some((copy, copies))) => {
+            after.push(Vec::from_slice(alloc, kept_by(value, copy))?)?;
+            add_kept(alloc, after, before, copies)
+        }
+        (Some((value, before)), None) => {
+            after.push(Vec::from_slice(alloc, value)?)?;
+            add_kept(alloc, after, before, copies)
+        }
+        _ => Ok(()),
+    }
+}
+
+/// Whether an image has room for an environment; without a number, it has room for any.
+pub(crate) fn has_room(room: Option<usize>, env: &Env) -> bool
+    ensures { result ≡ spec.has_room room env.now }
+{
+    match room {
+        None => true,
+        Some(room) => env.entries_len() < room,
+    }
+}

@@ -1,0 +1,99 @@
+//! The lines of boots.
+ghost use Rattle.std.specs.Prelude.{◌≡◌, ◌++◌, codes, decimal, map, OnOk};
+ghost use Rattle.rehearse_boots.specs.BootLines as spec;
+ghost use Rattle.rehearse_rules.specs.Listing.{line};
+ghost use Rattle.rehearse_states.specs.Drawing.{failing_on, nodes_shown};
+ghost use Rattle.rehearse_states.specs.EndingLines.{lines_below};
+ghost use Rattle.rehearse_states.specs.RowsShown.{row_shown};
+ghost use Rattle.text.specs.TextsShown.{bytes_of_words, option_bytes};
+
+use bootstore_state::StoreError;
+use device_list::Devices;
+use rehearse_states::{Node, Row, put_below, put_number, put_row, put_variable};
+use std::alloc::Global;
+
+/// Adds bytes at the end of a text.
+fn put(text: &mut Vec<u8>, bytes: &[u8]) -> Result<(), StoreError>
+    ensures { OnOk result (text.new.items ≡ text.old.items ++ bytes.now) }
+{
+    text.extend_from_slice(bytes)?;
+    Ok(())
+}
+
+/// Adds the line of a boot.
+pub(crate) fn put_boot(text: &mut Vec<u8>, number: usize) -> Result<(), StoreError>
+    ensures { OnOk result (text.new.items ≡ text.old.items ++ line (codes "boot " ++ decimal number)) }
+{
+    put(text, b"boot ")?;
+    put_number(text, number as u128)?;
+    put(text, b"\n")
+}
+
+/// Adds the line that says how many boots there are.
+pub(crate) fn put_all(text: &mut Vec<u8>, count: usize) -> Result<(), StoreError>
+    ensures { OnOk result (text.new.items ≡ text.old.items ++ line (codes "all " ++ decimal count)) }
+{
+    put(text, b"all ")?;
+    put_number(text, count as u128)?;
+    put(text, b"\n")
+}
+
+/// The value of a variable, if it is set: an empty one is not.
+fn value_if_set(value: &[u8]) -> Option<&[u8]>
+    ensures { option_bytes result ≡ spec.value_if_set value.now }
+{
+    match value {
+        [] => None,
+        value => Some(value),
+    }
+}
+
+/// Adds the line of a variable, if it is not as in the first boot.
+fn put_changed(text: &mut Vec<u8>, name: &[u8], first: &[u8], kept: &[u8]) -> Result<(), StoreError>
+    ensures { OnOk result (text.new.items ≡ text.old.items ++ spec.changed_line name.now first.now kept.now) }
+{
+    if first == kept {
+        return Ok(());
+    }
+    put_variable(text, name, value_if_set(kept))
+}
+
+/// Adds a line for each variable that is not as in the first boot.
+pub(crate) fn put_all_changed(
+    text: &mut Vec<u8>,
+    names: &[&[u8]],
+    first: &[Vec<u8>],
+    kept: &[Vec<u8>],
+) -> Result<(), StoreError>
+    ensures { OnOk result (text.new.items ≡ text.old.items
+        ++ spec.changed_lines (map (λ n. n.now) names.now) (bytes_of_words first.now) (bytes_of_words kept.now)) }
+{
+    match (names.split_first(), first.split_first(), kept.split_first()) {
+        (Some((name, names)), Some((value, first)), Some((other, kept))) => {
+            put_changed(text, name, value, other)?;
+            put_all_changed(text, names, first, kept)
+        }
+        _ => Ok(()),
+    }
+}
+
+/// Adds the line of an ending with the number of the boot that follows, and the lines below it.
+pub(crate) fn put_way(
+    alloc: Global,
+    text: &mut Vec<u8>,
+    names: &[&[u8]],
+    devices: &Devices,
+    nodes: &Vec<Node>,
+    row: &Row,
+    number: usize,
+) -> Result<(), StoreError>
+    ensures { OnOk result (text.new.items ≡ text.old.items
+        ++ (line (spec.way_text (row_shown row.now) number)
+        ++ lines_below (map (λ n. n.now) names.now) (failing_on devices.now (nodes_shown nodes.now)) (row_shown row.now))) }
+{
+    put_row(alloc, text, row)?;
+    put(text, b" next ")?;
+    put_number(text, number as u128)?;
+    put(text, b"\n")?;
+    put_below(alloc, text, names, devices, nodes, row)
+}
