@@ -30,6 +30,7 @@ accepted_answer called words a (Ok (ask.Print origin what order one_copy)) fine 
 accepted_answer called words a (Ok (ask.Setenv origin change order one_copy)) fine is says = (fine, says ∙ is)
 accepted_answer called words a (Ok (ask.Rehearse inputs what order)) fine is says = (fine, says ∙ is)
 accepted_answer called words a (Ok (ask.Endings inputs what order)) fine is says = (fine, says ∙ is)
+accepted_answer called words a (Ok (ask.Boots inputs what order)) fine is says = (fine, says ∙ is)
 accepted_answer called words a (Ok (ask.Causes inputs what order)) fine is says = (fine, says ∙ is)
 accepted_answer called words a (Ok (ask.Image text output what)) fine is says = (fine, says ∙ is)
 accepted_answer called words a (Ok (ask.Inspect origin order)) fine is says = (fine, says ∙ is)

@@ -8,6 +8,7 @@ mod PrintExamples
 mod SetExamples
 mod RehearseExamples
 mod EndingsExamples
+mod BootsExamples
 mod CausesExamples
 mod TextExamples
 mod ScriptExamples

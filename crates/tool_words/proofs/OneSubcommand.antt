@@ -13,7 +13,7 @@ use Rattle.clap.specs.Faults.{built_fault, check_fault, defaults_fault, entered_
 use Rattle.clap.proofs.OnLiterals.{clap_on_literals}
 use Rattle.clap.proofs.FaultLemmas.{stopped_fault}
 use Rattle.clap.proofs.WalkLemmas.{walk_stopped}
-use Rattle.tool_words.specs.CommandLine.{causes, endings, inspect, making, named, printenv, rehearse, setenv, subcommands, ubtool, ubtool_for, with_one}
+use Rattle.tool_words.specs.CommandLine.{boots, causes, endings, inspect, making, named, printenv, rehearse, setenv, subcommands, ubtool, ubtool_for, with_one}
 
 -- where the walk stands after a first word that names a subcommand, and these words behind it
 abbrev stopped_at : Text → List Text → Walk
@@ -121,6 +121,22 @@ endings_alone rest =
           ∙ sym (ap (λ (w : Walk). entered big w.stopped) (walk_at big name rest same));
     }
 
+boots_alone : IsEnough boots
+unfolding clap_on_literals ubtool
+boots_alone rest =
+    let name = boots.top.name in
+    let small = built (with_one boots) in
+    let big = built ubtool in
+    let first : Stops small name = record { step = refl; fault = refl } in
+    let same : Stops big name = record { step = refl; fault = refl } in
+    record {
+      simple = refl;
+      free = refl;
+      faults = built_fault_at small name rest first ∙ sym (built_fault_at big name rest same);
+      enters = ap (λ (w : Walk). entered small w.stopped) (walk_at small name rest first)
+          ∙ sym (ap (λ (w : Walk). entered big w.stopped) (walk_at big name rest same));
+    }
+
 causes_alone : IsEnough causes
 unfolding clap_on_literals ubtool
 causes_alone rest =
@@ -171,7 +187,7 @@ inspect_alone rest =
 
 each_alone : AllByRecursion IsEnough subcommands
 each_alone =
-    (printenv_alone, (setenv_alone, (rehearse_alone, (endings_alone, (causes_alone, (making_alone, (inspect_alone, tt)))))))
+    (printenv_alone, (setenv_alone, (rehearse_alone, (endings_alone, (boots_alone, (causes_alone, (making_alone, (inspect_alone, tt))))))))
 
 -- what holds of each subcommand of a list holds of the one that a name finds, and it has the name
 found_among : (P : App → Type 0) (word : Text) (subs : List App) (sub : App) → AllByRecursion P subs → find (λ (s : App). bytes_eq s.top.name word) subs ≡ Some sub

@@ -21,8 +21,9 @@ use Rattle.rehearse_terms.specs.declared.shell.Shell.{Shell}
 use Rattle.rehearse_terms.specs.declared.shell.Shell.TheVariants.{Modern2025, Old2023, Old2025, Profile}
 use Rattle.tool_words.specs.Numbers.{any_number, byte_of}
 use Rattle.tool_words.specs.declared.ask.ImageAsk.{ImageAsk}
+use Rattle.tool_words.specs.declared.ask.Limits.{Limits}
 use Rattle.tool_words.specs.declared.ask.Taking.{Taking}
-use Rattle.tool_words.specs.CommandLine.{most_alternatives, most_cause_failures, most_failures, most_memory, most_records, most_states, most_work}
+use Rattle.tool_words.specs.CommandLine.{most_alternatives, most_boots, most_cause_failures, most_failures, most_memory, most_records, most_states, most_work}
 
 -- what names the images: a configuration; or files, of which each is one whole copy: a single image, or the two copies
 -- of a pair; or a text of variables, of which an image is made, whose CRC is stored so; or nothing, and the environment
@@ -55,6 +56,22 @@ pub record Endings : Type 0 where
   pub names : List Text
   pub flow : Bool
 
+-- what `boots` is asked for
+pub record Boots : Type 0 where
+  pub variable : Text
+  pub bounds : BoundsShown
+  pub states : ℕ
+  -- the steps that all stretches of the search begin together
+  pub work : ℕ
+  -- the MiB that the states count together which are kept
+  pub memory : ℕ
+  -- the boots that are rehearsed
+  pub boots : ℕ
+  -- the failures of the endings that are followed; nothing for any number
+  pub failures : Option ℕ
+  -- the variables by whose values runs are told apart
+  pub names : List Text
+
 -- what `causes` is asked for
 pub record Causes : Type 0 where
   pub variable : Text
@@ -69,6 +86,7 @@ pub data Asked : Type 0 where
   input_scripted : (origin : OriginShown) (order : ByteOrder) (one_copy : Bool) → Asked
   rehearsing : (inputs : InputsShown) (what : Asking) (order : ByteOrder) → Asked
   ending : (inputs : InputsShown) (what : Endings) (order : ByteOrder) → Asked
+  booting : (inputs : InputsShown) (what : Boots) (order : ByteOrder) → Asked
   causing : (inputs : InputsShown) (what : Causes) (order : ByteOrder) → Asked
   making : (text output : Text) (what : ImageAsk) → Asked
   inspecting : (origin : OriginShown) (order : ByteOrder) → Asked
@@ -179,7 +197,7 @@ abbrev pub of_named : {T : Type 0} → Result T OriginError → (T → Asked) �
 of_named (Ok it) asked = asked it
 of_named (Err error) asked = misnamed error
 
--- ---- the seven subcommands
+-- ---- the eight subcommands
 
 -- how a variable is printed
 abbrev pub print_form : List Row → PrintForm
@@ -357,26 +375,66 @@ usual_work = 1000000000
 abbrev pub usual_memory : ℕ
 usual_memory = 512
 
--- with a device list, bounds, a number of states, one of steps in all and one of MiB that can be read
-abbrev pub endings_with : Option (Text × Taking) → Option BoundsShown → (states work memory : Option (Option ℕ)) → Shell →
-    List Row → Option Asked
-endings_with (Some list) (Some bounds) (Some states) (Some work) (Some memory) shell rows =
+-- the numbers that are given, or the usual ones
+abbrev pub limits_with : (states work memory : Option ℕ) → Limits
+limits_with states work memory = record {
+  states = unwrap_or states usual_states;
+  work = unwrap_or work usual_work;
+  memory = unwrap_or memory usual_memory;
+}
+
+-- how many states, steps in all and MiB a search may take
+abbrev pub limits_asked : List Row → Option Limits
+limits_asked rows =
+    option_and_then (λ states. option_and_then (λ work. option_map (limits_with states work)
+    (number_within 0 most_memory (codes "memory") rows))
+    (number_within 0 most_work (codes "work") rows))
+    (number_within 0 most_states (codes "states") rows)
+
+-- with a device list, bounds and limits that can be read
+abbrev pub endings_with : Option (Text × Taking) → Option BoundsShown → Option Limits → Shell → List Row → Option Asked
+endings_with (Some list) (Some bounds) (Some limits) shell rows =
     Some (of_named (inputs_asked list.0 list.1 rows) (λ inputs. ending inputs (record {
       variable = variable_of rows;
       bounds = in_shell shell bounds;
-      states = unwrap_or states usual_states;
-      work = unwrap_or work usual_work;
-      memory = unwrap_or memory usual_memory;
+      states = limits.states;
+      work = limits.work;
+      memory = limits.memory;
       names = values_of (codes "names") rows;
       flow = is_set (codes "flow") rows;
     }) (order_of rows)))
-endings_with _ _ _ _ _ shell rows = None
+endings_with _ _ _ shell rows = None
 
 abbrev pub endings_asked : List Row → Option Asked
 endings_asked rows =
-    option_and_then (λ shell. endings_with (list_asked rows) (run_bounds_asked rows)
-    (number_within 0 most_states (codes "states") rows) (number_within 0 most_work (codes "work") rows)
-    (number_within 0 most_memory (codes "memory") rows) shell rows)
+    option_and_then (λ shell. endings_with (list_asked rows) (run_bounds_asked rows) (limits_asked rows) shell rows)
+    (shell_of rows)
+
+-- the boots if none are given
+abbrev pub usual_boots : ℕ
+usual_boots = 1000
+
+-- with a device list, bounds, limits, a number of boots and one of failures that can be read
+abbrev pub boots_with : Option (Text × Taking) → Option BoundsShown → Option Limits → (boots failures : Option (Option ℕ)) →
+    Shell → List Row → Option Asked
+boots_with (Some list) (Some bounds) (Some limits) (Some boots) (Some failures) shell rows =
+    Some (of_named (inputs_asked list.0 list.1 rows) (λ inputs. booting inputs (record {
+      variable = variable_of rows;
+      bounds = in_shell shell bounds;
+      states = limits.states;
+      work = limits.work;
+      memory = limits.memory;
+      boots = unwrap_or boots usual_boots;
+      failures = failures;
+      names = values_of (codes "names") rows;
+    }) (order_of rows)))
+boots_with _ _ _ _ _ shell rows = None
+
+-- the failures are at most 32
+abbrev pub boots_asked : List Row → Option Asked
+boots_asked rows =
+    option_and_then (λ shell. boots_with (list_asked rows) (run_bounds_asked rows) (limits_asked rows)
+    (number_within 0 most_boots (codes "boots") rows) (number_within 0 most_failures (codes "failures") rows) shell rows)
     (shell_of rows)
 
 -- how many device commands may fail if no number is given
@@ -447,6 +505,7 @@ asked_of called name rows =
     else (if bytes_eq name (codes "setenv") then Some (set_asked called rows)
     else (if bytes_eq name (codes "rehearse") then rehearse_asked rows
     else (if bytes_eq name (codes "endings") then endings_asked rows
+    else (if bytes_eq name (codes "boots") then boots_asked rows
     else (if bytes_eq name (codes "causes") then causes_asked rows
     else (if bytes_eq name (codes "image") then image_asked rows
-    else (if bytes_eq name (codes "inspect") then Some (inspect_asked rows) else None))))))
+    else (if bytes_eq name (codes "inspect") then Some (inspect_asked rows) else None)))))))

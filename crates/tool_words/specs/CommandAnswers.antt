@@ -6,7 +6,8 @@ use Rattle.clap.specs.declared.error.kind.ErrorKind.{ErrorKind}
 use Rattle.clap.specs.declared.error.kind.ErrorKind.TheVariants.{DisplayHelp, DisplayVersion}
 use Rattle.envimage.specs.declared.image.ByteOrder.{ByteOrder}
 use Rattle.tool_words.specs.declared.ask.Ask.{Ask}
-use Rattle.tool_words.specs.declared.ask.Ask.TheVariants.{Print, Setenv, Rehearse, Endings, Causes, Image, Inspect, Help, Version}
+use Rattle.tool_words.specs.declared.ask.Ask.TheVariants.{Print, Setenv, Rehearse, Endings, Boots, Causes, Image, Inspect, Help, Version}
+use Rattle.tool_words.specs.declared.ask.BootsAsk.{BootsAsk}
 use Rattle.tool_words.specs.declared.ask.CausesAsk.{CausesAsk}
 use Rattle.tool_words.specs.declared.ask.Change.{Change}
 use Rattle.tool_words.specs.declared.ask.Change.TheVariants.{Input, One, Script}
@@ -22,7 +23,7 @@ use Rattle.rehearse_terms.specs.declared.wanted.Wanted.{Wanted}
 use Rattle.tool_words.specs.declared.ask.UseError.TheVariants.{BadFill, BadSize, Line, LockNeedsFolder, NeedName, ScriptAndName, HeaderNeedsOne, Memory, Misnamed, TooManyDevices, WordAlone}
 use Rattle.tool_words.specs.Answered.{IsAccepted, IsMistaken}
 use Rattle.tool_words.specs.Asked as what
-use Rattle.tool_words.specs.Asked.{Asked, InputsShown, WantedAsked, OriginShown, asked_of, bad_fill, bad_size, causing, configured, ending, input_scripted, inspecting, lock_of, making, no_images, printing, setting, scripted, rehearsing, lock_needs_folder, needs_name, script_and_name, header_needs_one, misnamed, texts, too_many_devices, whole, word_alone}
+use Rattle.tool_words.specs.Asked.{Asked, InputsShown, WantedAsked, OriginShown, asked_of, bad_fill, bad_size, booting, causing, configured, ending, input_scripted, inspecting, lock_of, making, no_images, printing, setting, scripted, rehearsing, lock_needs_folder, needs_name, script_and_name, header_needs_one, misnamed, texts, too_many_devices, whole, word_alone}
 use Rattle.tool_words.specs.CommandLine.{ubtool}
 use Rattle.rehearse_terms.specs.WantedShown.{wanted_bounds, wanted_strings}
 use Rattle.rehearse_terms.specs.Asking.{Asking}
@@ -44,6 +45,18 @@ endings_of e = record {
   memory = e.memory;
   names = map string_bytes e.names.items;
   flow = e.flow;
+}
+
+abbrev pub boots_of : BootsAsk → what.Boots
+boots_of b = record {
+  variable = string_bytes b.name;
+  bounds = b.bounds;
+  states = b.states;
+  work = b.work;
+  memory = b.memory;
+  boots = b.boots;
+  failures = b.failures;
+  names = map string_bytes b.names.items;
 }
 
 abbrev pub causes_of : CausesAsk → what.Causes
@@ -82,6 +95,7 @@ meaning_of (Setenv origin change order one_copy) =
     Some (change_of (origin_shown origin) change order one_copy)
 meaning_of (Rehearse inputs what order) = Some (rehearsing (inputs_shown inputs) (asking_of what) order)
 meaning_of (Endings inputs what order) = Some (ending (inputs_shown inputs) (endings_of what) order)
+meaning_of (Boots inputs what order) = Some (booting (inputs_shown inputs) (boots_of what) order)
 meaning_of (Causes inputs what order) = Some (causing (inputs_shown inputs) (causes_of what) order)
 meaning_of (Image text output what) = Some (making (string_bytes text) (string_bytes output) what)
 meaning_of (Inspect origin order) = Some (inspecting (origin_shown origin) order)
@@ -93,8 +107,8 @@ abbrev pub asked : CalledAs → List Text → Option Asked
 asked called words = option_and_then (λ s. asked_of called s.0 s.1) (subcommand_of ubtool words)
 
 -- The answer to words. A line without a mistake is that of a number with a sign, or of a name that no shell has, which
--- `clap` accepts. It accepts no `rehearse`, `endings` or `causes` without a device list, no `image` without a size, an output
--- and a text, and no number out of its range.
+-- `clap` accepts. It accepts no `rehearse`, `endings`, `boots` or `causes` without a device list, no `image` without a size, an
+-- output and a text, and no number out of its range.
 abbrev pub Answers : CalledAs → List Text → Result Ask UseError → Type 0
 Answers called words (Ok (Help text)) = IsAmong DisplayHelp (fault_of ubtool words)
 Answers called words (Ok Version) = IsAmong DisplayVersion (fault_of ubtool words)

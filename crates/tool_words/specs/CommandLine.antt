@@ -1,4 +1,4 @@
--- The command line that `clap` is given: seven subcommands with their options and names. It is ours, but `-c`, `-l`,
+-- The command line that `clap` is given: eight subcommands with their options and names. It is ours, but `-c`, `-l`,
 -- `-n` and `-s` and their long forms are those of fw_printenv and fw_setenv (U-Boot, tools/env README), and
 -- `--no-header` is libubootenv's.
 use Rattle.std.specs.Prelude.{ℕ, List, [], ◌∷◌, Option, None, true, codes, find}
@@ -166,6 +166,17 @@ abbrev pub endings : App
 endings = command (codes "endings")
     (config ∷ image ∷ second ∷ text_file ∷ big_endian ∷ device_list ∷ files ∷ steady ∷ given ∷ variable ∷ script_file ∷ devices ∷ steps ∷ shell ∷ states ∷ work ∷ memory ∷ flow ∷ names ∷ [])
 
+-- how many boots may be rehearsed, and the greatest number of them that can be allowed
+abbrev pub most_boots : ℕ
+most_boots = 4294967295
+
+abbrev pub boot_bound : Rule
+boot_bound = number_option (codes "boots") 0 most_boots
+
+abbrev pub boots : App
+boots = command (codes "boots")
+    (config ∷ image ∷ second ∷ text_file ∷ big_endian ∷ device_list ∷ files ∷ steady ∷ given ∷ variable ∷ script_file ∷ devices ∷ steps ∷ shell ∷ states ∷ work ∷ memory ∷ boot_bound ∷ failures ∷ names ∷ [])
+
 -- how many device commands may fail in a run that `causes` looks at, and the greatest number of them that can be allowed
 abbrev pub most_cause_failures : ℕ
 most_cause_failures = 3
@@ -215,7 +226,7 @@ base = on_top (λ (s : Shape). record s {
 
 -- the subcommands, in the order of the help
 abbrev pub subcommands : List App
-subcommands = printenv ∷ setenv ∷ rehearse ∷ endings ∷ causes ∷ making ∷ inspect ∷ []
+subcommands = printenv ∷ setenv ∷ rehearse ∷ endings ∷ boots ∷ causes ∷ making ∷ inspect ∷ []
 
 unfoldable pub ubtool : App
 ubtool = with_subcommands base subcommands

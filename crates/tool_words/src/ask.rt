@@ -21,20 +21,23 @@ pub const DEFAULT_DEVICES: u32 = 16;
 pub const DEFAULT_STEPS: u32 = 10_000;
 
 /// The device commands that a run which is not listed may have if a call sets no bound: for
-/// `endings` and `causes`, and for `rehearse --word`.
+/// `endings`, `boots` and `causes`, and for `rehearse --word`.
 pub const DEFAULT_RUN_DEVICES: u32 = 1_000;
 
 /// The steps that a run which is not listed may begin if a call sets no bound.
 pub const DEFAULT_RUN_STEPS: u32 = 1_000_000;
 
-/// The states that `endings` may search if a call sets no bound.
+/// The states that `endings` and `boots` may search if a call sets no bound.
 pub const DEFAULT_STATES: u32 = 1_000_000;
 
-/// The steps that `endings` may begin in all if a call sets no bound.
+/// The steps that `endings` and `boots` may begin in all if a call sets no bound.
 pub const DEFAULT_WORK: u32 = 1_000_000_000;
 
-/// The MiB that `endings` may count for the states that it keeps if a call sets no bound.
+/// The MiB that `endings` and `boots` may count for the states that they keep if a call sets no bound.
 pub const DEFAULT_MEMORY: u32 = 512;
+
+/// The boots that `boots` may rehearse if a call sets no bound.
+pub const DEFAULT_BOOTS: u32 = 1_000;
 
 /// The device commands that may fail in a run that `causes` looks at if a call sets no bound.
 pub const DEFAULT_CAUSE_FAILURES: u32 = 2;
@@ -79,6 +82,15 @@ pub enum Ask {
         inputs: Inputs,
         /// What to write.
         what: EndingsAsk,
+        /// How the image's CRC is stored.
+        order: ByteOrder,
+    },
+    /// To tell which boots follow one another.
+    Boots {
+        /// The files to read.
+        inputs: Inputs,
+        /// What to write.
+        what: BootsAsk,
         /// How the image's CRC is stored.
         order: ByteOrder,
     },
@@ -228,6 +240,17 @@ pub struct RehearseAsk {
     pub ghost page_has_room: { HasRoom (page_of (wanted_strings wanted)) },
 }
 
+/// How much a search of all runs may take.
+#[derive(Clone, Copy, Debug)]
+pub(crate) struct Limits {
+    /// The most states to search.
+    pub(crate) states: u32,
+    /// The most steps to begin in all.
+    pub(crate) work: u32,
+    /// The most MiB to count for the states that are kept.
+    pub(crate) memory: u32,
+}
+
 /// What `endings` is to write.
 #[derive(Debug, Drop)]
 pub struct EndingsAsk {
@@ -245,6 +268,27 @@ pub struct EndingsAsk {
     pub names: Vec<String>,
     /// Whether to write the flow, not the endings.
     pub flow: bool,
+}
+
+/// What `boots` is to write.
+#[derive(Debug, Drop)]
+pub struct BootsAsk {
+    /// The variable whose text is run, or the path of the script that runs in its place.
+    pub name: String,
+    /// How far each run may go.
+    pub bounds: RunBounds,
+    /// The most states to search.
+    pub states: u32,
+    /// The most steps to begin in all.
+    pub work: u32,
+    /// The most MiB to count for the states that are kept.
+    pub memory: u32,
+    /// The most boots to rehearse.
+    pub boots: u32,
+    /// The most failures of the endings that are followed; none for any number.
+    pub failures: Option<u32>,
+    /// The variables by whose values runs are told apart, in this order.
+    pub names: Vec<String>,
 }
 
 /// What `causes` is to write.

@@ -21,10 +21,10 @@ mod version;
 pub use answer::{Answer, parse};
 pub use argument::{Argument, Form, with_arguments};
 pub use ask::{
-    Ask, CausesAsk, Change, DEFAULT_CAUSE_FAILURES, DEFAULT_CONFIG, DEFAULT_DEVICES,
-    DEFAULT_MEMORY, DEFAULT_RUN_DEVICES, DEFAULT_RUN_STEPS, DEFAULT_STATES, DEFAULT_STEPS,
-    DEFAULT_VARIABLE, DEFAULT_WORK, EndingsAsk, ImageAsk, Inputs, Origin, OriginError, PrintAsk,
-    RehearseAsk, Taking, UseError,
+    Ask, BootsAsk, CausesAsk, Change, DEFAULT_BOOTS, DEFAULT_CAUSE_FAILURES, DEFAULT_CONFIG,
+    DEFAULT_DEVICES, DEFAULT_MEMORY, DEFAULT_RUN_DEVICES, DEFAULT_RUN_STEPS, DEFAULT_STATES,
+    DEFAULT_STEPS, DEFAULT_VARIABLE, DEFAULT_WORK, EndingsAsk, ImageAsk, Inputs, Origin,
+    OriginError, PrintAsk, RehearseAsk, Taking, UseError,
 };
 pub use called::{CalledAs, called_as, words_called};
 pub use origin::{images_of, origin_beside, origin_of};

@@ -85,6 +85,24 @@ Example:
   ubtool endings -d devices.txt bootargs
 ";
 
+pub(crate) const BOOTS_NOTES: &str = "\
+Boot 1 starts with the environment of the image. However a run ends, the boot
+that follows it starts with what the run has saved, by a call that 'saves' in
+the device list; if it has saved nothing, its own boot follows again. NAMEs and
+variables that scripts set are kept from boot to boot. The lines of the report:
+
+  boot NUMBER
+  var NAME=VALUE
+  ends COUNT first WORD fewest FAILURES WORD ENDING next NUMBER
+  fails WORDS
+  all BOOTS
+
+Lines var and unset tell what differs from boot 1. The image is never written.
+
+Example:
+  ubtool boots -d devices.txt BOOT_ORDER
+";
+
 pub(crate) const CAUSES_NOTES: &str = "\
 Of the runs in which at most N answers are failures, the report says for each
 ending what has to fail: a line 'cause FAILURES ENDING', and then 'fails WORDS'

@@ -4,16 +4,17 @@ ghost use Rattle.rehearse_terms.specs.Asking.{page_of};
 ghost use Rattle.rehearse_terms.specs.Asking.{HasRoom};
 ghost use Rattle.clap.specs.Words.{Text, first_of, found_of, rows_of, subcommand_rows_of};
 ghost use Rattle.envimage.specs.declared.image.ByteOrder.{ByteOrder as Order};
-ghost use Rattle.tool_words.specs.Asked.{OriginShown, asked_of, bounds_or, cause_bounds_asked, causes_asked, config_of, endings_asked, fill_of, has_no_folder, image_asked, inspect_asked, is_set, list_asked, lock_of, number_given, number_of, number_within, order_of, page_asked, print_asked, rehearse_asked, script_asked, set_asked, size_of, values_of, variable_named, variable_of, wanted_asked, wanted_by};
+ghost use Rattle.tool_words.specs.Asked.{OriginShown, asked_of, boots_asked, bounds_or, cause_bounds_asked, causes_asked, config_of, endings_asked, fill_of, has_no_folder, image_asked, inspect_asked, is_set, limits_asked, list_asked, lock_of, number_given, number_of, number_within, order_of, page_asked, print_asked, rehearse_asked, script_asked, set_asked, size_of, values_of, variable_named, variable_of, wanted_asked, wanted_by};
 ghost use Rattle.rehearse_terms.specs.WantedShown.{wanted_strings};
 ghost use Rattle.tool_words.specs.declared.ask.UseError.TheVariants.{Memory};
 ghost use Rattle.tool_words.specs.CommandAnswers.{Answers, IsUnread, NamesLock, Says, SaysWanted, change_of};
 
 use crate::answer::{Answer, parse};
 use crate::ask::{
-    Ask, CausesAsk, Change, DEFAULT_CAUSE_FAILURES, DEFAULT_CONFIG, DEFAULT_DEVICES,
-    DEFAULT_MEMORY, DEFAULT_RUN_DEVICES, DEFAULT_RUN_STEPS, DEFAULT_STATES, DEFAULT_STEPS,
-    DEFAULT_VARIABLE, DEFAULT_WORK, EndingsAsk, ImageAsk, PrintAsk, RehearseAsk, Taking, UseError,
+    Ask, BootsAsk, CausesAsk, Change, DEFAULT_BOOTS, DEFAULT_CAUSE_FAILURES, DEFAULT_CONFIG,
+    DEFAULT_DEVICES, DEFAULT_MEMORY, DEFAULT_RUN_DEVICES, DEFAULT_RUN_STEPS, DEFAULT_STATES,
+    DEFAULT_STEPS, DEFAULT_VARIABLE, DEFAULT_WORK, EndingsAsk, ImageAsk, Limits, PrintAsk,
+    RehearseAsk, Taking, UseError,
 };
 use crate::called::CalledAs;
 use crate::command::ubtool_for;
@@ -146,7 +147,7 @@ fn has_no_folder(matches: &ArgMatches<'_>) -> bool
     }
 }
 
-// ---- the seven subcommands
+// ---- the eight subcommands
 
 fn print_ask(alloc: Global, matches: &ArgMatches<'_>) -> Result<Ask, UseError>
     ensures { Says (Some (print_asked (rows_of (found_of matches.now)))) result }
@@ -390,6 +391,20 @@ fn rehearse_ask(alloc: Global, matches: &ArgMatches<'_>) -> Result<Ask, UseError
     })
 }
 
+/// How much a search of all runs may take, by default if no number is given; `None` if one is out of its range.
+fn limits_asked(matches: &ArgMatches<'_>) -> Option<Limits>
+    ensures { result ≡ limits_asked (rows_of (found_of matches.now)) }
+{
+    let states = number_within(matches, "states", 0, u32::MAX)?;
+    let work = number_within(matches, "work", 0, u32::MAX)?;
+    let memory = number_within(matches, "memory", 0, u32::MAX)?;
+    Some(Limits {
+        states: states.unwrap_or(DEFAULT_STATES),
+        work: work.unwrap_or(DEFAULT_WORK),
+        memory: memory.unwrap_or(DEFAULT_MEMORY),
+    })
+}
+
 fn endings_ask(alloc: Global, matches: &ArgMatches<'_>) -> Result<Ask, UseError>
     ensures { Says (endings_asked (rows_of (found_of matches.now))) result }
 {
@@ -398,12 +413,8 @@ fn endings_ask(alloc: Global, matches: &ArgMatches<'_>) -> Result<Ask, UseError>
     };
     let list = list_asked(alloc, matches)?;
     let bounds = bounds_or(matches, DEFAULT_RUN_DEVICES, DEFAULT_RUN_STEPS);
-    let states = number_within(matches, "states", 0, u32::MAX);
-    let work = number_within(matches, "work", 0, u32::MAX);
-    let memory = number_within(matches, "memory", 0, u32::MAX);
-    let (Some((path, taking)), Some(bounds), Some(states), Some(work), Some(memory)) = (
-        list, bounds, states, work, memory,
-    ) else {
+    let limits = limits_asked(matches);
+    let (Some((path, taking)), Some(bounds), Some(limits)) = (list, bounds, limits) else {
         return Err(unread(alloc));
     };
     Ok(Ask::Endings {
@@ -411,11 +422,43 @@ fn endings_ask(alloc: Global, matches: &ArgMatches<'_>) -> Result<Ask, UseError>
         what: EndingsAsk {
             name: variable_of(alloc, matches)?,
             bounds: bounds.in_shell(shell),
-            states: states.unwrap_or(DEFAULT_STATES),
-            work: work.unwrap_or(DEFAULT_WORK),
-            memory: memory.unwrap_or(DEFAULT_MEMORY),
+            states: limits.states,
+            work: limits.work,
+            memory: limits.memory,
             names: texts_of(alloc, matches, "names")?,
             flow: is_set(matches, "flow"),
+        },
+        order: order_of(matches),
+    })
+}
+
+fn boots_ask(alloc: Global, matches: &ArgMatches<'_>) -> Result<Ask, UseError>
+    ensures { Says (boots_asked (rows_of (found_of matches.now))) result }
+{
+    let Some(shell) = shell_of(matches) else {
+        return Err(unnamed(alloc, matches));
+    };
+    let list = list_asked(alloc, matches)?;
+    let bounds = bounds_or(matches, DEFAULT_RUN_DEVICES, DEFAULT_RUN_STEPS);
+    let limits = limits_asked(matches);
+    let boots = number_within(matches, "boots", 0, u32::MAX);
+    let failures = number_within(matches, "failures", 0, FAILURES_MAX);
+    let (Some((path, taking)), Some(bounds), Some(limits), Some(boots), Some(failures)) = (
+        list, bounds, limits, boots, failures,
+    ) else {
+        return Err(unread(alloc));
+    };
+    Ok(Ask::Boots {
+        inputs: inputs_of(alloc, matches, path, taking)?,
+        what: BootsAsk {
+            name: variable_of(alloc, matches)?,
+            bounds: bounds.in_shell(shell),
+            states: limits.states,
+            work: limits.work,
+            memory: limits.memory,
+            boots: boots.unwrap_or(DEFAULT_BOOTS),
+            failures,
+            names: texts_of(alloc, matches, "names")?,
         },
         order: order_of(matches),
     })
@@ -516,6 +559,7 @@ fn ask_of(alloc: Global, called: CalledAs, matches: &ArgMatches<'_>) -> Result<A
         "setenv" => set_ask(alloc, called, entries),
         "rehearse" => rehearse_ask(alloc, entries),
         "endings" => endings_ask(alloc, entries),
+        "boots" => boots_ask(alloc, entries),
         "causes" => causes_ask(alloc, entries),
         "image" => image_ask(alloc, entries),
         "inspect" => inspect_ask(alloc, entries),

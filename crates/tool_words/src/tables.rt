@@ -2,8 +2,8 @@
 
 use crate::argument::{Argument, Form};
 use crate::notes::{
-    CAUSES_NOTES, ENDINGS_NOTES, FW_PRINTENV_NOTES, FW_SETENV_NOTES, IMAGE_NOTES, INSPECT_NOTES,
-    PRINTENV_NOTES, REHEARSE_NOTES, SETENV_NOTES,
+    BOOTS_NOTES, CAUSES_NOTES, ENDINGS_NOTES, FW_PRINTENV_NOTES, FW_SETENV_NOTES, IMAGE_NOTES,
+    INSPECT_NOTES, PRINTENV_NOTES, REHEARSE_NOTES, SETENV_NOTES,
 };
 use crate::shared::{
     BIG_ENDIAN, CONFIG, DEVICE_LIST, FILES, IMAGE, NAMES, SCRIPT_FILE, SECOND, TEXT,
@@ -337,6 +337,51 @@ const ENDINGS: [Argument<'static>; 19] = [
     },
 ];
 
+const BOOT_BOUND: Argument<'static> = Argument {
+    id: "boots",
+    form: Form::Number(0, u32::MAX),
+    letter: None,
+    alias: None,
+    required: false,
+    value: "N",
+    help: "At most N boots [default: 1000]",
+};
+
+const BOOTS: [Argument<'static>; 20] = [
+    CONFIG,
+    IMAGE,
+    SECOND,
+    TEXT,
+    BIG_ENDIAN,
+    DEVICE_LIST,
+    FILES,
+    STEADY,
+    GIVEN,
+    VARIABLE,
+    SCRIPT_FILE,
+    Argument {
+        help: "At most N device commands a run, 0 to 1000 [default: 1000]",
+        ..DEVICES
+    },
+    Argument {
+        help: "At most N steps (commands begun) a run, 0 to 1000000 [default: 1000000]",
+        ..STEPS
+    },
+    SHELL,
+    STATES,
+    WORK,
+    MEMORY,
+    BOOT_BOUND,
+    Argument {
+        help: "Only endings that N failures or fewer lead to, 0 to 32 [default: all]",
+        ..FAILURES
+    },
+    Argument {
+        help: "Variables whose values to tell apart and write, in this order",
+        ..NAMES
+    },
+];
+
 const CHECK: Argument<'static> = Argument {
     id: "check",
     form: Form::Flag,
@@ -431,7 +476,7 @@ const MAKING: [Argument<'static>; 6] = [SIZE, REDUNDANT, BIG_ENDIAN, FILL, OUTPU
 const INSPECT: [Argument<'static>; 4] = [CONFIG, IMAGE, SECOND, BIG_ENDIAN];
 
 /// The subcommands, in the order of the help.
-pub(crate) const SUBCOMMANDS: [Subcommand<'static>; 7] = [
+pub(crate) const SUBCOMMANDS: [Subcommand<'static>; 8] = [
     Subcommand {
         name: "printenv",
         about: "Print variables of the environment",
@@ -464,6 +509,13 @@ pub(crate) const SUBCOMMANDS: [Subcommand<'static>; 7] = [
         about: "Tell how all runs of a boot script end",
         notes: ENDINGS_NOTES,
         arguments: &ENDINGS,
+        tool: None,
+    },
+    Subcommand {
+        name: "boots",
+        about: "Tell which boots follow one another",
+        notes: BOOTS_NOTES,
+        arguments: &BOOTS,
         tool: None,
     },
     Subcommand {
