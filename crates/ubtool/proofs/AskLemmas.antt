@@ -12,12 +12,12 @@ use Rattle.rehearse_terms.specs.declared.shell.Shell.{Shell}
 use Rattle.tool_words.specs.CommandAnswers.{Answers, asked, meaning_of}
 use Rattle.tool_words.specs.Called.{is_tool}
 use Rattle.tool_words.specs.declared.ask.Taking.{Taking}
-use Rattle.tool_words.specs.Asked.{Asked, asked_of, bounds_asked, cause_bounds_asked, causes_asked, causes_with, causing, change_asked, ending, endings_asked, endings_with, fill_of, has_no_folder, header_needs_one, image_asked, image_with, images_asked, input_scripted, inputs_asked, inspect_asked, inspecting, is_set, list_asked, listing_asked, lock_needs_folder, making_asked, number_within, of_named, one_copy, order_of, origin_asked, page_asked, print_asked, print_form, printing, printing_asked, rehearsal_of, rehearsal_with, rehearse_asked, rehearsing, run_bounds_asked, script_asked, scripted, set_asked, setting, shell_of, size_of, too_many_devices, usual_memory, usual_states, usual_work, values_of, variable_of, wanted_by, word_alone, word_asked}
-use Rattle.tool_words.specs.CommandLine.{most_failures, most_memory, most_states, most_work, ubtool}
+use Rattle.tool_words.specs.Asked.{Asked, asked_of, booting, boots_asked, boots_with, bounds_asked, cause_bounds_asked, causes_asked, causes_with, causing, change_asked, ending, endings_asked, endings_with, fill_of, has_no_folder, header_needs_one, image_asked, image_with, images_asked, input_scripted, inputs_asked, inspect_asked, inspecting, is_set, limits_asked, list_asked, listing_asked, lock_needs_folder, making_asked, number_within, of_named, one_copy, order_of, origin_asked, page_asked, print_asked, print_form, printing, printing_asked, rehearsal_of, rehearsal_with, rehearse_asked, rehearsing, run_bounds_asked, script_asked, scripted, set_asked, setting, shell_of, size_of, too_many_devices, usual_boots, values_of, variable_of, wanted_by, word_alone, word_asked}
+use Rattle.tool_words.specs.CommandLine.{most_boots, most_failures, ubtool}
 use Rattle.tool_words.specs.declared.ask.OriginError.{OriginError}
 use Rattle.tool_words.specs.declared.called.CalledAs.{CalledAs}
 use Rattle.tool_words.specs.declared.ask.Ask.{Ask}
-use Rattle.tool_words.specs.declared.ask.Ask.TheVariants.{Causes, Endings, Help, Image, Inspect, Print, Rehearse, Setenv, Version}
+use Rattle.tool_words.specs.declared.ask.Ask.TheVariants.{Boots, Causes, Endings, Help, Image, Inspect, Print, Rehearse, Setenv, Version}
 use Rattle.ubtool.specs.Performing.{IsComplete}
 
 -- a value without its name is asked for only with one name
@@ -92,21 +92,36 @@ rehearse-fit None page failures shell rows = tt
 rehearse-fit (Some list) None failures shell rows = tt
 rehearse-fit (Some list) (Some page) None shell rows = tt
 
-endings-fit : (list : Option (Text × Taking)) (bounds : Option BoundsShown) (states work memory : Option (Option ℕ)) (shell : Shell) (rows : List Row) → IsFit (endings_with list bounds states work memory shell rows)
-endings-fit (Some list) (Some bounds) (Some states) (Some work) (Some memory) shell rows = named-fit (inputs_asked list.0 list.1 rows) (λ inputs. ending inputs (record {
+endings-fit : (list : Option (Text × Taking)) (bounds : Option BoundsShown) (limits : _) (shell : Shell) (rows : List Row) → IsFit (endings_with list bounds limits shell rows)
+endings-fit (Some list) (Some bounds) (Some limits) shell rows = named-fit (inputs_asked list.0 list.1 rows) (λ inputs. ending inputs (record {
   variable = variable_of rows;
   bounds = in_shell shell bounds;
-  states = unwrap_or states usual_states;
-  work = unwrap_or work usual_work;
-  memory = unwrap_or memory usual_memory;
+  states = limits.states;
+  work = limits.work;
+  memory = limits.memory;
   names = values_of (codes "names") rows;
   flow = is_set (codes "flow") rows;
 }) (order_of rows)) (λ inputs. tt)
-endings-fit None bounds states work memory shell rows = tt
-endings-fit (Some list) None states work memory shell rows = tt
-endings-fit (Some list) (Some bounds) None work memory shell rows = tt
-endings-fit (Some list) (Some bounds) (Some states) None memory shell rows = tt
-endings-fit (Some list) (Some bounds) (Some states) (Some work) None shell rows = tt
+endings-fit None bounds limits shell rows = tt
+endings-fit (Some list) None limits shell rows = tt
+endings-fit (Some list) (Some bounds) None shell rows = tt
+
+boots-fit : (list : Option (Text × Taking)) (bounds : Option BoundsShown) (limits : _) (boots failures : Option (Option ℕ)) (shell : Shell) (rows : List Row) → IsFit (boots_with list bounds limits boots failures shell rows)
+boots-fit (Some list) (Some bounds) (Some limits) (Some boots) (Some failures) shell rows = named-fit (inputs_asked list.0 list.1 rows) (λ inputs. booting inputs (record {
+  variable = variable_of rows;
+  bounds = in_shell shell bounds;
+  states = limits.states;
+  work = limits.work;
+  memory = limits.memory;
+  boots = unwrap_or boots usual_boots;
+  failures = failures;
+  names = values_of (codes "names") rows;
+}) (order_of rows)) (λ inputs. tt)
+boots-fit None bounds limits boots failures shell rows = tt
+boots-fit (Some list) None limits boots failures shell rows = tt
+boots-fit (Some list) (Some bounds) None boots failures shell rows = tt
+boots-fit (Some list) (Some bounds) (Some limits) None failures shell rows = tt
+boots-fit (Some list) (Some bounds) (Some limits) (Some boots) None shell rows = tt
 
 causes-fit : (list : Option (Text × Taking)) (bounds : Option BoundsShown) (shell : Shell) (rows : List Row) → IsFit (causes_with list bounds shell rows)
 causes-fit (Some list) (Some bounds) shell rows = named-fit (inputs_asked list.0 list.1 rows) (λ inputs. causing inputs (record {
@@ -142,13 +157,14 @@ asked-fit called words = found-fit (subcommand_of ubtool words) (λ s. asked_of 
         (set-fit called (first_of (codes "script") rows) (first_of (codes "name") rows) rows) in
         let list = list_asked rows in
         let failures = number_within 0 most_failures (codes "failures") rows in
-        let states = number_within 0 most_states (codes "states") rows in
-        let work = number_within 0 most_work (codes "work") rows in
-        let memory = number_within 0 most_memory (codes "memory") rows in
+        let limits = limits_asked rows in
+        let boots = number_within 0 most_boots (codes "boots") rows in
         let rehearsed = found-fit (shell_of rows) (λ shell. rehearsal_with list (page_asked rows) failures shell rows)
         (λ shell. rehearse-fit list (page_asked rows) failures shell rows) in
-        let ended = found-fit (shell_of rows) (λ shell. endings_with list (run_bounds_asked rows) states work memory shell rows)
-        (λ shell. endings-fit list (run_bounds_asked rows) states work memory shell rows) in
+        let ended = found-fit (shell_of rows) (λ shell. endings_with list (run_bounds_asked rows) limits shell rows)
+        (λ shell. endings-fit list (run_bounds_asked rows) limits shell rows) in
+        let booted = found-fit (shell_of rows) (λ shell. boots_with list (run_bounds_asked rows) limits boots failures shell rows)
+        (λ shell. boots-fit list (run_bounds_asked rows) limits boots failures shell rows) in
         let caused = found-fit (shell_of rows) (λ shell. causes_with list (cause_bounds_asked rows) shell rows)
         (λ shell. causes-fit list (cause_bounds_asked rows) shell rows) in
         let made = image-fit (first_of (codes "text") rows) (first_of (codes "output") rows) (size_of rows) rows in
@@ -156,16 +172,18 @@ asked-fit called words = found-fit (subcommand_of ubtool words) (λ s. asked_of 
         let final : Option Asked = if bytes_eq name (codes "inspect") then Some (inspect_asked rows) else None in
         let last : Option Asked = if bytes_eq name (codes "image") then image_asked rows else final in
         let one : Option Asked = if bytes_eq name (codes "causes") then causes_asked rows else last in
-        let two : Option Asked = if bytes_eq name (codes "endings") then endings_asked rows else one in
-        let three : Option Asked = if bytes_eq name (codes "rehearse") then rehearse_asked rows else two in
-        let four : Option Asked = if bytes_eq name (codes "setenv") then Some (set_asked called rows) else three in
+        let two : Option Asked = if bytes_eq name (codes "boots") then boots_asked rows else one in
+        let three : Option Asked = if bytes_eq name (codes "endings") then endings_asked rows else two in
+        let four : Option Asked = if bytes_eq name (codes "rehearse") then rehearse_asked rows else three in
+        let five : Option Asked = if bytes_eq name (codes "setenv") then Some (set_asked called rows) else four in
         let final-fit = either (bytes_eq name (codes "inspect")) (Some (inspect_asked rows)) None inspected tt in
         let last-fit = either (bytes_eq name (codes "image")) (image_asked rows) final made final-fit in
         let one-fit = either (bytes_eq name (codes "causes")) (causes_asked rows) last caused last-fit in
-        let two-fit = either (bytes_eq name (codes "endings")) (endings_asked rows) one ended one-fit in
-        let three-fit = either (bytes_eq name (codes "rehearse")) (rehearse_asked rows) two rehearsed two-fit in
-        let four-fit = either (bytes_eq name (codes "setenv")) (Some (set_asked called rows)) three set three-fit in
-        either (bytes_eq name (codes "printenv")) (Some (print_asked rows)) four printed four-fit
+        let two-fit = either (bytes_eq name (codes "boots")) (boots_asked rows) one booted one-fit in
+        let three-fit = either (bytes_eq name (codes "endings")) (endings_asked rows) two ended two-fit in
+        let four-fit = either (bytes_eq name (codes "rehearse")) (rehearse_asked rows) three rehearsed three-fit in
+        let five-fit = either (bytes_eq name (codes "setenv")) (Some (set_asked called rows)) four set four-fit in
+        either (bytes_eq name (codes "printenv")) (Some (print_asked rows)) five printed five-fit
 
 -- what was asked for is complete
 pub answer-complete : (called : CalledAs) (words : List Text) (ask : Ask) → Answers called words (Ok ask) → IsComplete ask
@@ -175,6 +193,7 @@ answer-complete called words (Print origin what order one_copy) h =
 answer-complete called words (Setenv origin change order one_copy) h = tt
 answer-complete called words (Rehearse inputs what order) h = tt
 answer-complete called words (Endings inputs what order) h = tt
+answer-complete called words (Boots inputs what order) h = tt
 answer-complete called words (Causes inputs what order) h = tt
 answer-complete called words (Image text output what) h = tt
 answer-complete called words (Inspect origin order) h = tt

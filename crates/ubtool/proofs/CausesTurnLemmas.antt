@@ -50,6 +50,8 @@ module _ (g : Given) (check : Bool) (old new : Sink) where
   one-refused (refused.Start (Alternatives count)) e h = absurd (let f : ◌≡◌ {A = Option ℕ} (Some count) None = e in cc)
   one-refused (refused.Start (NoAlternative number count)) e h = refuses-none (refused.Start (NoAlternative number count)) (turns_of (beginning_of g)) (ap turns_of h.0) h
   one-refused (refused.Start Name) e h = refuses-none (refused.Start Name) (turns_of (beginning_of g)) (ap turns_of h.0) h
+  one-refused refused.Boots e h = absurd h.0
+  one-refused refused.Unnamed e h = absurd h.0
   one-refused refused.Write e h = refuses-none refused.Write (turns_of (beginning_of g)) (ap turns_of h.1.found) h
   one-refused refused.Memory e h = memory-told (turns_of (beginning_of g)) h
 
@@ -67,6 +69,8 @@ has-turns g check old new (refused.Start (NoAlternative number n)) count e h = a
 has-turns g check old new (refused.Start Name) count e h = absurd (let f : ◌≡◌ {A = Option ℕ} None (Some count) = e in cc)
 has-turns g check old new (refused.Image fault) count e h = absurd (let f : ◌≡◌ {A = Option ℕ} None (Some count) = e in cc)
 has-turns g check old new (refused.Rehearsal error) count e h = absurd (let f : ◌≡◌ {A = Option ℕ} None (Some count) = e in cc)
+has-turns g check old new refused.Boots count e h = absurd (let f : ◌≡◌ {A = Option ℕ} None (Some count) = e in cc)
+has-turns g check old new refused.Unnamed count e h = absurd (let f : ◌≡◌ {A = Option ℕ} None (Some count) = e in cc)
 has-turns g check old new refused.Write count e h = absurd (let f : ◌≡◌ {A = Option ℕ} None (Some count) = e in cc)
 has-turns g check old new refused.Memory count e h = absurd (let f : ◌≡◌ {A = Option ℕ} None (Some count) = e in cc)
 
@@ -90,6 +94,8 @@ module _ (g : Given) (check : Bool) (count : ℕ) (old new : Sink) (found : begi
   turns-refused (refused.Image fault) h same = refuses-some (refused.Image fault) (turns_of (beginning_of g)) (ap turns_of found) (h, same)
   turns-refused (refused.Rehearsal error) h same = refuses-some (refused.Rehearsal error) (turns_of (beginning_of g)) (ap turns_of found) (h, same)
   turns-refused (refused.Start fault) h same = refuses-some (refused.Start fault) (turns_of (beginning_of g)) (ap turns_of found) (h, same)
+  turns-refused refused.Boots h same = absurd h.lacks
+  turns-refused refused.Unnamed h same = absurd h.lacks
   turns-refused refused.Write h same = absurd h.lacks
   turns-refused refused.Memory h same = refuses-some refused.Memory (turns_of (beginning_of g)) (ap turns_of found) (image-of-start g (Alternatives count) found, same)
 
@@ -101,6 +107,20 @@ never g check old new error none h = by (turns_of (beginning_of g)) h
     by : (t : Option ℕ) → RefusesBy g check t old new (refused.Rehearsal error) → ⊥
     by None h = none g h.0
     by (Some count) h = none (named g (length h.0.parts + 1)) h.0.lacks
+
+pub never-boots : (g : Given) (check : Bool) (old new : Sink) → RefusesCauses g check old new refused.Boots → ⊥
+never-boots g check old new h = by (turns_of (beginning_of g)) h
+  where
+    by : (t : Option ℕ) → RefusesBy g check t old new refused.Boots → ⊥
+    by None h = h.0
+    by (Some count) h = h.0.lacks
+
+pub never-unnamed : (g : Given) (check : Bool) (old new : Sink) → RefusesCauses g check old new refused.Unnamed → ⊥
+never-unnamed g check old new h = by (turns_of (beginning_of g)) h
+  where
+    by : (t : Option ℕ) → RefusesBy g check t old new refused.Unnamed → ⊥
+    by None h = h.0
+    by (Some count) h = h.0.lacks
 
 pub untouched : (g : Given) (check : Bool) (old new : Sink) → RefusesCauses g check old new refused.Memory → new ≡ old
 untouched g check old new h = by (turns_of (beginning_of g)) h
@@ -130,6 +150,8 @@ turn-refused g check count place parts text so_far within error h = by error h
     by (refused.Image fault) h = lacking (refused.Image fault) h
     by (refused.Rehearsal fault) h = lacking (refused.Rehearsal fault) h
     by (refused.Start fault) h = lacking (refused.Start fault) h
+    by refused.Boots h = absurd h
+    by refused.Unnamed h = absurd h
     by refused.Write h = absurd h
     by refused.Memory h = tt
 

@@ -7,10 +7,13 @@ pub mod EndingsTurnLemmas
 pub mod CausesTurnLemmas
 pub mod ImageEndingsLemmas
 pub mod ImageCausesLemmas
+pub mod ImageBootsLemmas
 pub mod AskLemmas
 pub mod RehearseLemmas
 pub mod EndingsLemmas
 pub mod CausesLemmas
+pub mod BootsLemmas
 mod BeginningExamples
+mod BootsExamples
 mod LockExamples
 mod TurnExamples

@@ -12,7 +12,7 @@ use Rattle.tool_words.specs.declared.ask.Taking.{Taking}
 use Rattle.ubtool.specs.Beginning.{Beginning, OfBoard, OfImage}
 use Rattle.ubtool.specs.Given.{Given, given}
 use Rattle.ubtool.specs.Turns.{AreInTurn, IsStart, headed, named, taken_by, turns_of, turns_told}
-use Rattle.ubtool.specs.declared.rehearsal_error.RehearsalError.TheVariants.{Image, Memory, Start as CannotStart, Write}
+use Rattle.ubtool.specs.declared.rehearsal_error.RehearsalError.TheVariants.{Boots, Image, Memory, Start as CannotStart, Unnamed, Write}
 
 -- ---- which lists are gone through
 
@@ -53,6 +53,12 @@ odd_name_told = refl
 
 image_told : (fault : ImageError) → turns_told (Image fault) ≡ None
 image_told fault = refl
+
+boots_told : turns_told Boots ≡ None
+boots_told = refl
+
+unnamed_told : turns_told Unnamed ≡ None
+unnamed_told = refl
 
 memory_told : turns_told Memory ≡ None
 memory_told = refl

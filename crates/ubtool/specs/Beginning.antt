@@ -5,6 +5,10 @@ use Rattle.envimage.specs.Data.{Pair}
 use Rattle.envimage.specs.declared.image.ImageError.{ImageError}
 use Rattle.board_start.specs.Boards.{Board, Fault, OfDevices, OfStart, board_of}
 use Rattle.board_start.specs.Start.{Begun, begun}
+use Rattle.board_start.specs.BoardShown.{begun_shown}
+use Rattle.board_start.specs.StartAnswers as start
+use Rattle.board_start.specs.declared.board_error.BoardError.{BoardError}
+use Rattle.board_start.specs.declared.start.Begun.{Begun as BegunRead}
 use Rattle.board_start.specs.declared.start_error.StartError.{StartError}
 use Rattle.device_list.specs.DeviceList.{Devices, filled, steady_if}
 use Rattle.device_list.specs.Saving.{names_with_saved, saving}
@@ -74,6 +78,11 @@ beginning_shown b =
 -- all that is given begins with this, and these runs are asked for
 abbrev pub StartsWith : Given → BeginningRead → Asking → Type 0
 StartsWith g beginning asking = (beginning_of g ≡ Ok (beginning_shown beginning)) × (g.asking ≡ asking)
+
+-- how a board begins, with its list as it is taken, or why it does not; memory may run out before that is known
+abbrev pub BeginsTaken : Result Begun StartError → Devices → Result (BegunRead × Devices) BoardError → Type 0
+BeginsTaken begun devices (Ok taken) = (begun ≡ Ok (begun_shown taken.0)) × (devices ≡ taken.1)
+BeginsTaken begun devices (Err error) = start.Begins begun (Err error)
 
 -- what is found, or why there is nothing; memory may run out if the image is right
 abbrev pub Begins : (image : Result (List Pair) ImageError) → Result Beginning NoBeginning →

@@ -58,6 +58,8 @@ TellsCausesFrom order inputs what out out' old new (Err (NoSuchVariable name)) =
     (name ≡ path_form what.name) × FromFiles order inputs (runs_asked what) old new (λ g.
     RefusesCauses g what.check out out' (refused.Rehearsal rehearsal.NoSuchVariable))
 TellsCausesFrom order inputs what out out' old new (Err (program.NotARun word)) = ⊥
+TellsCausesFrom order inputs what out out' old new (Err program.Boots) = ⊥
+TellsCausesFrom order inputs what out out' old new (Err program.Unnamed) = ⊥
 TellsCausesFrom order inputs what out out' old new (Err (program.Start error)) =
     FromFiles order inputs (runs_asked what) old new (λ g. RefusesCauses g what.check out out' (refused.Start error))
 TellsCausesFrom order inputs what out out' old new (Err (program.Rehearsal error)) =

@@ -61,6 +61,8 @@ TellsFrom order inputs what out out' old new (Err (NoSuchVariable name)) =
     (name ≡ path_form what.name) × FromFiles order inputs (all_asked what) old new (λ g.
     RefusesEndings g what.flow what.states what.work (bytes_allowed what) out out' (refused.Rehearsal rehearsal.NoSuchVariable))
 TellsFrom order inputs what out out' old new (Err (program.NotARun word)) = ⊥
+TellsFrom order inputs what out out' old new (Err program.Boots) = ⊥
+TellsFrom order inputs what out out' old new (Err program.Unnamed) = ⊥
 TellsFrom order inputs what out out' old new (Err (program.Start error)) =
     FromFiles order inputs (all_asked what) old new (λ g. RefusesEndings g what.flow what.states what.work (bytes_allowed what) out out' (refused.Start error))
 TellsFrom order inputs what out out' old new (Err (program.Rehearsal error)) =

@@ -5,6 +5,8 @@ use Rattle.board_start.specs.declared.board_error.BoardError.{BoardError}
 use Rattle.board_start.specs.declared.board_error.BoardError.TheVariants as board
 use Rattle.envimage.specs.declared.image.ImageError.{ImageError}
 use Rattle.envimage.specs.declared.image.ImageError.TheVariants as image
+use Rattle.rehearse_boots.specs.declared.boots_error.BootsError.{BootsError}
+use Rattle.rehearse_boots.specs.declared.boots_error.BootsError.TheVariants as boots
 use Rattle.rehearse_rules.specs.declared.rehearse_error.RehearseError.{RehearseError}
 use Rattle.rehearse_rules.specs.declared.rehearse_error.RehearseError.TheVariants as rehearsal
 use Rattle.tool_images.specs.declared.error.ToolError.TheVariants as tool
@@ -15,7 +17,7 @@ use Rattle.ubtool.specs.declared.fault.ProgramFault.{ProgramFault}
 use Rattle.ubtool.specs.declared.fault.ProgramFault.TheVariants as program
 use Rattle.ubtool.specs.declared.fault.ProgramFault.TheVariants.{Shared}
 use Rattle.ubtool.specs.declared.rehearsal_error.RehearsalError.{RehearsalError}
-use Rattle.ubtool.specs.declared.rehearsal_error.RehearsalError.TheVariants.{Image, Memory, Rehearsal, Start, Write}
+use Rattle.ubtool.specs.declared.rehearsal_error.RehearsalError.TheVariants.{Boots, Image, Memory, Rehearsal, Start, Unnamed, Write}
 
 abbrev pub image_error : ImageError → RehearsalError
 image_error image.Memory = Memory
@@ -31,11 +33,23 @@ board_error (board.Start fault) = Start fault
 board_error (board.Devices fault) = Rehearsal (rehearsal.DeviceList fault)
 board_error board.Memory = Memory
 
+abbrev pub boots_error : BootsError → RehearsalError
+boots_error (boots.Board fault) = board_error fault
+boots_error boots.NoSuchVariable = Rehearsal rehearsal.NoSuchVariable
+boots_error boots.Boots = Boots
+boots_error boots.States = Rehearsal rehearsal.States
+boots_error (boots.Steps count) = Rehearsal (rehearsal.Steps count)
+boots_error (boots.Bytes count) = Rehearsal (rehearsal.Bytes count)
+boots_error boots.Write = Write
+boots_error boots.Memory = Memory
+
 -- what the program reports of it, where it names no word of the call
 abbrev pub reported : RehearsalError → ProgramFault
 reported (Image error) = Shared (told.Tool (tool.Image error))
 reported (Rehearsal error) = program.Rehearsal error
 reported (Start error) = program.Start error
+reported Boots = program.Boots
+reported Unnamed = program.Unnamed
 reported Write = Shared (told.Tool tool.Write)
 reported Memory = Shared told.Memory
 

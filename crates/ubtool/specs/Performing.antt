@@ -3,7 +3,7 @@
 use Rattle.std.specs.Prelude.{◌≡◌, ◌⊎◌, ℕ, Bool, true, false, List, codes, length, map, Option, Result, Ok, Err, string_bytes}
 use Rattle.envimage.specs.declared.image.ByteOrder.{ByteOrder}
 use Rattle.tool_words.specs.declared.ask.Ask.{Ask}
-use Rattle.tool_words.specs.declared.ask.Ask.TheVariants.{Causes, Endings, Help, Image, Inspect, Print, Rehearse, Setenv, Version}
+use Rattle.tool_words.specs.declared.ask.Ask.TheVariants.{Boots, Causes, Endings, Help, Image, Inspect, Print, Rehearse, Setenv, Version}
 use Rattle.tool_words.specs.declared.ask.Change.{Change}
 use Rattle.tool_words.specs.declared.ask.ImageAsk.{ImageAsk}
 use Rattle.tool_words.specs.declared.ask.Origin.{Origin}
@@ -19,6 +19,7 @@ use Rattle.ubtool.specs.Locking.{LocksFor}
 use Rattle.tool_steps.specs.Builds.{version_line}
 use Rattle.tool_steps.specs.Showing.{Shows}
 use Rattle.tool_steps.specs.declared.build.Build.{Build}
+use Rattle.ubtool.specs.BootsOfFiles.{TellsBootsFrom}
 use Rattle.ubtool.specs.CausesOfFiles.{TellsCausesFrom}
 use Rattle.ubtool.specs.EndingsOfFiles.{TellsFrom}
 use Rattle.tool_steps.specs.PrintingFiles.{LeavesOutputs, PrintsFrom}
@@ -100,6 +101,11 @@ Does program build input (Rehearse inputs what order) before after outputs resul
 Does program build input (Endings inputs what order) before after outputs result =
     IfTold before after (λ old new.
     TellsFrom order (inputs_shown inputs) what outputs.out outputs.out' old new result)
+    × LeavesOutput result outputs.out outputs.out'
+    × (outputs.err' ≡ outputs.err)
+Does program build input (Boots inputs what order) before after outputs result =
+    IfTold before after (λ old new.
+    TellsBootsFrom order (inputs_shown inputs) what outputs.out outputs.out' old new result)
     × LeavesOutput result outputs.out outputs.out'
     × (outputs.err' ≡ outputs.err)
 Does program build input (Causes inputs what order) before after outputs result =

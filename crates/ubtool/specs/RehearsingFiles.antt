@@ -71,6 +71,8 @@ RehearsesFrom order inputs what out out' old new (Err (NotARun word)) =
     (Some word ≡ option_map path_form (wanted_word what.wanted))
     × FromFiles order inputs (asking_of what) old new (λ g.
     Refuses g out out' (refused.Rehearsal rehearsal.NotARun))
+RehearsesFrom order inputs what out out' old new (Err program.Boots) = ⊥
+RehearsesFrom order inputs what out out' old new (Err program.Unnamed) = ⊥
 RehearsesFrom order inputs what out out' old new (Err (program.Start error)) =
     FromFiles order inputs (asking_of what) old new (λ g. Refuses g out out' (refused.Start error))
 RehearsesFrom order inputs what out out' old new (Err (program.Rehearsal error)) =

@@ -3,12 +3,14 @@ ghost use Rattle.std.specs.Prelude.{◌≡◌, ◌++◌, map, IfOk, OnOk, Ok};
 ghost use Rattle.std.specs.Option.{option_copied};
 ghost use Rattle.board_start.specs.Boards.{board_of};
 ghost use Rattle.board_start.specs.BoardShown.{begun_shown, board_shown};
+ghost use Rattle.board_start.specs.Start.{begun};
 ghost use Rattle.board_start.specs.StartAnswers.{IsBoard};
-ghost use Rattle.device_list.specs.DeviceList.{steady_if};
-ghost use Rattle.device_list.specs.Saving.{names_with_saved, saved_name};
+ghost use Rattle.device_list.specs.DeviceList.{filled, steady_if};
+ghost use Rattle.device_list.specs.Saving.{names_with_saved, saved_name, saving};
+ghost use Rattle.envtools.specs.Environment.{value_of};
 ghost use Rattle.text.specs.TextsShown.{bytes_of_words, option_bytes};
 ghost use Rattle.tool_images.specs.PrintingImages.{environment_in};
-ghost use Rattle.ubtool.specs.Beginning.{Begins, beginning_shown, begun_with, with_board, with_image};
+ghost use Rattle.ubtool.specs.Beginning.{Begins, BeginsTaken, beginning_shown, begun_with, with_board, with_image};
 ghost use Rattle.ubtool.specs.ListsShown.{list_shown};
 
 use crate::board_environment::env_of_board;
@@ -58,7 +60,7 @@ pub(crate) fn slices_of(alloc: Global, names: &[Vec<u8>]) -> Result<Vec<&[u8]>, 
 }
 
 /// Copies of these names. Errors: memory ran out.
-fn owned_names(alloc: Global, names: &[&[u8]]) -> Result<Vec<Vec<u8>>, AllocError>
+pub(crate) fn owned_names(alloc: Global, names: &[&[u8]]) -> Result<Vec<Vec<u8>>, AllocError>
     ensures { IfOk result (λ owned. bytes_of_words owned.items ≡ map (λ n. n.now) names.now) }
 {
     let mut owned = Vec::new(alloc);
@@ -104,8 +106,20 @@ fn taken(devices: Devices, steady: bool) -> Devices
     if steady { devices.steady() } else { devices }
 }
 
-/// What a rehearsal that asks for these names begins with: variables of its environment may stand in a pattern of the
-/// list, and a call that saves sets copies of what is asked for. Errors: memory ran out.
+/// The device list in this environment, of which variables may stand in a pattern of it. A call that saves sets a copy
+/// of each of these variables. Errors: memory ran out.
+pub(crate) fn devices_in(
+    devices: Devices,
+    env: &Env,
+    names: &[&[u8]],
+) -> Result<Devices, AllocError>
+    ensures { IfOk result (λ known. known ≡ saving (map (λ n. n.now) names.now) (filled (value_of env.now) devices)) }
+{
+    let devices = devices.filled(env)?;
+    devices.saving(names)
+}
+
+/// What a rehearsal that asks for these names begins with. Errors: memory ran out.
 fn begin_with(
     alloc: Global,
     devices: Devices,
@@ -117,14 +131,36 @@ fn begin_with(
 {
     let Begun { env, text } = begun;
     let asked = names_asked(alloc, &devices, names)?;
-    let devices = devices.filled(&env)?;
-    let devices = devices.saving(names)?;
+    let devices = devices_in(devices, &env, names)?;
     Ok(Beginning {
         env,
         devices,
         names: asked,
         text,
     })
+}
+
+/// How this board begins in this environment, and its device list as it is taken. Errors: those of `Start::begin`.
+pub(crate) fn begun_on(
+    board: Board,
+    env: Env,
+    taking: Taking,
+    name: &[u8],
+    text: Option<&[u8]>,
+) -> Result<(Begun, Devices), BoardError>
+    ensures { BeginsTaken (begun board.start taking.alternative env name.now (option_bytes text.entry))
+        (steady_if taking.steady board.devices) result }
+{
+    let Board { start, devices } = board;
+    let begun = start.begin(taking.alternative, env, name, text);
+    drop(start);
+    match begun {
+        Ok(begun) => Ok((begun, taken(devices, taking.steady))),
+        Err(error) => {
+            drop(devices);
+            Err(error)
+        }
+    }
 }
 
 /// What a rehearsal that asks for these names begins with on this board, in this environment. Errors: `Start` for
@@ -141,26 +177,19 @@ fn begin_on(
     ensures { Begins (Ok env) (with_board (Ok (board_shown board)) taking env name.now (option_bytes text.entry)
         (map (λ n. n.now) names.now)) result }
 {
-    let Board { start, devices } = board;
-    let begun = start.begin(taking.alternative, env, name, text);
-    drop(start);
-    match begun {
-        Ok(begun) => {
-            let devices = taken(devices, taking.steady);
+    match begun_on(board, env, taking, name, text) {
+        Ok((begun, devices)) => {
             match begin_with(alloc, devices, begun, names) {
                 Ok(beginning) => Ok(beginning),
                 Err(_) => Err(RehearsalError::Memory),
             }
         }
-        Err(error) => {
-            drop(devices);
-            Err(error.into())
-        }
+        Err(error) => Err(error.into()),
     }
 }
 
 /// The board of a device list, whose lines may name its files. Errors: those of `Board::parse`.
-fn board_of(alloc: Global, list: &DeviceText<'_>) -> Result<Board, BoardError>
+pub(crate) fn board_of(alloc: Global, list: &DeviceText<'_>) -> Result<Board, BoardError>
     ensures { IsBoard (board_of (list_shown list.now)) result }
 {
     let Ok(files) = copied_texts(list.files) else {

@@ -25,6 +25,12 @@ pub enum ProgramFault {
     /// The rehearsal cannot start as the device list says.
     #[error("{0}")]
     Start(StartError),
+    /// A board has more boots than may be rehearsed.
+    #[error("more boots than allowed")]
+    Boots,
+    /// Which variables are kept from boot to boot is not known.
+    #[error("which variables the scripts change is not known: name those that are kept")]
+    Unnamed,
 }
 
 impl From<Fault> for ProgramFault {
@@ -63,6 +69,8 @@ impl From<RehearsalError> for ProgramFault {
             }
             RehearsalError::Rehearsal(error) => ProgramFault::Rehearsal(error),
             RehearsalError::Start(error) => ProgramFault::Start(error),
+            RehearsalError::Boots => ProgramFault::Boots,
+            RehearsalError::Unnamed => ProgramFault::Unnamed,
             RehearsalError::Write => ProgramFault::Shared(Fault::Tool(ToolError::Write)),
             RehearsalError::Memory => ProgramFault::Shared(Fault::Memory),
         }

@@ -5,6 +5,7 @@ ghost use Rattle.ubtool.specs.Performing.{Counts, Does, IsComplete, layout_of};
 ghost use Rattle.tool_steps.specs.Running.{files_shown};
 ghost use Rattle.ubtool.specs.Locking.{LocksFor};
 
+use crate::boots::boots;
 use crate::causes::causes;
 use crate::endings::endings;
 use crate::fault::ProgramFault;
@@ -92,6 +93,11 @@ pub fn perform<R: Read, F: Files, O: Out, E: Out>(
             what,
             order,
         } => endings(alloc, files, inputs, what, order, out),
+        Ask::Boots {
+            inputs,
+            what,
+            order,
+        } => boots(alloc, files, inputs, what, order, out),
         Ask::Causes {
             inputs,
             what,

@@ -2,6 +2,7 @@
 
 use board_start::{BoardError, StartError};
 use envimage::ImageError;
+use rehearse_boots::BootsError;
 use rehearse_rules::RehearseError;
 use thiserror::Error;
 
@@ -17,6 +18,12 @@ pub enum RehearsalError {
     /// It cannot start as the device list says.
     #[error("{0}")]
     Start(StartError),
+    /// A board has more boots than may be rehearsed.
+    #[error("more boots than allowed")]
+    Boots,
+    /// Which variables are kept from boot to boot is not known.
+    #[error("which variables the scripts change is not known: name those that are kept")]
+    Unnamed,
     /// The output failed.
     #[error("output failed")]
     Write,
@@ -67,6 +74,26 @@ impl From<BoardError> for RehearsalError {
                 RehearsalError::Rehearsal(RehearseError::DeviceList(fault))
             }
             BoardError::Memory => RehearsalError::Memory,
+        }
+    }
+}
+
+impl From<BootsError> for RehearsalError {
+    ghost use Rattle.std.specs.Prelude.{◌≡◌};
+    ghost use Rattle.ubtool.specs.Faults.{boots_error};
+
+    ghost from_gives = { λ error e. e ≡ boots_error error };
+
+    fn from(error: BootsError) -> RehearsalError {
+        match error {
+            BootsError::Board(fault) => fault.into(),
+            BootsError::NoSuchVariable => RehearsalError::Rehearsal(RehearseError::NoSuchVariable),
+            BootsError::Boots => RehearsalError::Boots,
+            BootsError::States => RehearsalError::Rehearsal(RehearseError::States),
+            BootsError::Steps(entered) => RehearsalError::Rehearsal(RehearseError::Steps(entered)),
+            BootsError::Bytes(entered) => RehearsalError::Rehearsal(RehearseError::Bytes(entered)),
+            BootsError::Write => RehearsalError::Write,
+            BootsError::Memory => RehearsalError::Memory,
         }
     }
 }

@@ -1,0 +1,149 @@
+-- What a boot starts with, and why it does not start; the room of an image; and what boots keep; in worked cases.
+use Rattle.std.proofs.Common.{◌≡◌, ℕ, List, [], ◌∷◌, Bool, true, false, Option, Some, None, Ok, Err, codes, refl}
+use Rattle.std.specs.Prelude.{Result}
+use Rattle.board_start.specs.Boards.{Fault, OfDevices, OfStart, text_alone}
+use Rattle.board_start.specs.declared.start_error.StartError.TheVariants.{Alternatives, Name, NoAlternative}
+use Rattle.device_list.specs.CallLines.{Exactly}
+use Rattle.device_list.specs.DeviceLaws.{quiet}
+use Rattle.device_list.specs.DeviceList.{CopyOf, Deleted, Devices, Saving, Setting, Variable, all_steady, only}
+use Rattle.device_list.specs.declared.devices_error.DevicesError.TheVariants.{BadLine}
+use Rattle.envimage.specs.Data.{Pair}
+use Rattle.envimage.specs.declared.image.ByteOrder.TheVariants.{Big}
+use Rattle.output.specs.Sink.{Sink}
+use Rattle.rehearse_boots.specs.Boots.{Started}
+use Rattle.rehearse_rules.specs.declared.rehearse_error.RehearseError.TheVariants.{NotARun}
+use Rattle.rehearse_terms.specs.State.{Text}
+use Rattle.tool_words.specs.Asked.{configured, no_images, texts, whole}
+use Rattle.tool_words.specs.declared.ask.Taking.{Taking}
+use Rattle.ubtool.specs.BootStarts.{boot_start}
+use Rattle.ubtool.specs.BootsOfImages.{BootLimits, RefusesBoots}
+use Rattle.ubtool.specs.Given.{Given}
+use Rattle.ubtool.specs.Room.{room_of}
+use Rattle.ubtool.specs.declared.rehearsal_error.RehearsalError.TheVariants.{Rehearsal}
+
+abbrev taking : (steady : Bool) → Option ℕ → Taking
+taking steady alternative = record { steady = steady; alternative = alternative }
+
+-- what a boot finds saved
+abbrev found : (p : Text) → List Pair
+found p = (codes "bootcmd", codes "load") ∷ (codes "p", p) ∷ []
+
+-- with this list, of which this alternative is named, keeping a variable p
+abbrev starts : (list : Text) → Option ℕ → (variable : Text) → List Pair → Result Started Fault
+starts list alternative variable environment =
+    boot_start (text_alone list) (taking false alternative) variable None (codes "p" ∷ []) environment
+
+-- ---- refusals
+
+abbrev two : Text
+two = codes "given a=1\nload\ngiven a=2\nbefore p"
+
+-- no alternative is gone through if none is named
+no_alternative_named : starts two None (codes "odd name") (found (codes "probe")) ≡ Err (OfStart (Alternatives 2))
+no_alternative_named = refl
+
+none_with_this_number : starts two (Some 3) (codes "odd name") (found (codes "probe")) ≡ Err (OfStart (NoAlternative 3 2))
+none_with_this_number = refl
+
+odd_name : starts two (Some 2) (codes "odd name") ((codes "odd name", codes "load") ∷ found (codes "probe")) ≡ Err (OfStart Name)
+odd_name = refl
+
+-- the first fault of the list comes first
+bad_line : starts (codes "given a=1\ngiven a=2\nload x\nbefore p") None (codes "bootcmd") (found (codes "probe")) ≡ Err (OfDevices (BadLine 3))
+bad_line = refl
+
+-- ---- boots that start
+
+abbrev loads : Devices
+loads = only ((codes "load", quiet) ∷ [])
+
+abbrev with_a : (p value : Text) → List Pair
+with_a p value = (codes "bootcmd", codes "load") ∷ (codes "p", p) ∷ (codes "a", value) ∷ []
+
+-- a list that saves nothing: what is found is what it starts with
+none_saved : starts (codes "load") None (codes "bootcmd") (found (codes "probe")) ≡ Ok (record { environment = found (codes "probe"); devices = loads; text = None })
+none_saved = refl
+
+-- what the list gives, the alternative that is named, and what runs first, by what is found
+first_alternative : starts two (Some 1) (codes "bootcmd") (found (codes "probe")) ≡ Ok (record { environment = with_a (codes "probe") (codes "1"); devices = loads; text = Some (codes "run p\nrun bootcmd\n") })
+first_alternative = refl
+
+second_alternative : starts two (Some 2) (codes "bootcmd") (found (codes "probe")) ≡ Ok (record { environment = with_a (codes "probe") (codes "2"); devices = loads; text = Some (codes "run p\nrun bootcmd\n") })
+second_alternative = refl
+
+-- what was deleted before does not run first
+none_first : starts two (Some 1) (codes "bootcmd") ((codes "bootcmd", codes "load") ∷ []) ≡ Ok (record { environment = (codes "bootcmd", codes "load") ∷ (codes "a", codes "1") ∷ []; devices = loads; text = None })
+none_first = refl
+
+-- what the list gives goes before what was saved
+given_anew : starts two (Some 1) (codes "bootcmd") (with_a (codes "probe") (codes "7")) ≡ Ok (record { environment = with_a (codes "probe") (codes "1"); devices = loads; text = Some (codes "run p\nrun bootcmd\n") })
+given_anew = refl
+
+-- a text that is given goes behind those that run first
+given_text : boot_start (text_alone (codes "load\nbefore p")) (taking false None) (codes "boot.scr") (Some (codes "load")) [] (found (codes "probe")) ≡ Ok (record { environment = found (codes "probe"); devices = loads; text = Some (codes "run p\nload") })
+given_text = refl
+
+-- ---- calls that save
+
+-- what `saveenv` sets after it saves
+abbrev setting_copies : List Setting → Devices
+setting_copies sets =
+    record loads { calls = (codes "saveenv", (record { words = []; more = true }, record quiet { sets = (Saving, Deleted) ∷ sets }) ∷ []) ∷ [] }
+
+abbrev copy_of_p : List Setting
+copy_of_p = (Variable (0 ∷ codes "p"), CopyOf (codes "p")) ∷ []
+
+-- each variable that is kept has a copy
+one_copied : starts (codes "load\nsaves saveenv") None (codes "bootcmd") (found (codes "probe")) ≡ Ok (record { environment = found (codes "probe"); devices = setting_copies copy_of_p; text = None })
+one_copied = refl
+
+one_copied_steadily : boot_start (text_alone (codes "load\nsaves saveenv")) (taking true None) (codes "bootcmd") None (codes "p" ∷ []) (found (codes "probe")) ≡ Ok (record { environment = found (codes "probe"); devices = all_steady (setting_copies copy_of_p); text = None })
+one_copied_steadily = refl
+
+none_copied : boot_start (text_alone (codes "load\nsaves saveenv")) (taking false None) (codes "bootcmd") None [] (found (codes "probe")) ≡ Ok (record { environment = found (codes "probe"); devices = setting_copies []; text = None })
+none_copied = refl
+
+-- a pattern has the value that a boot finds
+abbrev saving_call : (word : Text) → Devices
+saving_call word =
+    record loads { calls = (codes "load", (record { words = Exactly word ∷ []; more = true }, record quiet { sets = (Saving, Deleted) ∷ copy_of_p }) ∷ []) ∷ [] }
+
+pattern_filled : starts (codes "load\ncall load ${p} ** : saves") None (codes "bootcmd") (found (codes "40")) ≡ Ok (record { environment = found (codes "40"); devices = saving_call (codes "40"); text = None })
+pattern_filled = refl
+
+pattern_filled_later : starts (codes "load\ncall load ${p} ** : saves") None (codes "bootcmd") (found (codes "41")) ≡ Ok (record { environment = found (codes "41"); devices = saving_call (codes "41"); text = None })
+pattern_filled_later = refl
+
+-- ---- the room of an image
+
+abbrev eight : List ℕ
+eight = codes "12345678"
+
+of_one_image : room_of (whole (codes "a") None) eight None ≡ Some 4
+of_one_image = refl
+
+of_a_pair : room_of (whole (codes "a") (Some (codes "b"))) eight (Some eight) ≡ Some 3
+of_a_pair = refl
+
+of_a_configured_image : room_of (configured (codes "a")) eight None ≡ Some 4
+of_a_configured_image = refl
+
+of_a_configured_pair : room_of (configured (codes "a")) eight (Some eight) ≡ Some 3
+of_a_configured_pair = refl
+
+of_no_data : room_of (whole (codes "a") None) (codes "1234") None ≡ Some 0
+of_no_data = refl
+
+of_less_than_a_checksum : room_of (whole (codes "a") (Some (codes "b"))) (codes "123") (Some (codes "123")) ≡ Some 0
+of_less_than_a_checksum = refl
+
+of_a_text : room_of (texts (codes "a") Big) eight None ≡ None
+of_a_text = refl
+
+of_nothing : room_of (no_images Big) eight None ≡ None
+of_nothing = refl
+
+-- ---- what refuses no boots
+
+no_word : (g : Given) (limits : BootLimits) (old new : Sink) → RefusesBoots g limits old new (Rehearsal NotARun) → ⊥
+no_word g limits old new h = h
