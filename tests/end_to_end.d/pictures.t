@@ -80,3 +80,34 @@ a page in which that cannot be seen
   $ ubtool rehearse -c twice.config -d steady.list --limit 1 | choices
   ! choices: run 0000: it cannot be seen which of its answers are choices
   [1]
+
+the picture of boots: a box a boot, and a line for each ending; folded, one line to each boot that follows
+  $ printf 'left=1\n' >left.txt; printf 'load\nknown setexpr\nsaves saveenv\n' >counting
+  $ printf 'test ${left} = 0 || setexpr left ${left} - 1; saveenv; load' >left.cmd
+  $ ubtool boots --script left.cmd --text left.txt -d counting >followed
+  $ grep -c '^boot ' followed; grep -c ' next ' followed
+  2
+  8
+  $ choices followed | grep -o '^  n[0-9]* .*label="[^"]*"' | sed 's/^  //; s/ \[label=/ /' | sort | uniq -c | sed 's/^ *//'
+  1 n1 "boot 1"
+  1 n1 -> n1 "fails saveenv"
+  1 n1 -> n1 "fails saveenv\nfails load"
+  1 n1 -> n2 "end 0"
+  1 n1 -> n2 "fails load"
+  1 n2 "boot 2\nleft=0"
+  1 n2 -> n2 "end 0"
+  1 n2 -> n2 "fails load"
+  1 n2 -> n2 "fails saveenv"
+  1 n2 -> n2 "fails saveenv\nfails load"
+  $ choices --fold followed | grep -o '^  n[0-9]* .*label="[^"]*"' | sed 's/^  //; s/ \[label=/ /'
+  n1 "boot 1"
+  n1 -> n2 "end 0"
+  n1 -> n1 "fails saveenv"
+  n2 "boot 2\nleft=0"
+  n2 -> n2 "end 0"
+  $ choices --toward 'end 0' followed
+  ! choices: boots take no --toward
+  [1]
+  $ { cat followed; echo load; } | choices
+  ! choices: line 21 is none of boots: load
+  [1]
