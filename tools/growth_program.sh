@@ -70,7 +70,7 @@ each_growth() {
         [ ! -e new.img ] || fail 'a new image'
         [[ $ample == "$output"* ]] || fail 'no front of the output'
         [ "${words[0]-}" != rehearse ] || goes_on
-        [[ ${words[0]-} != @(endings|causes) ]] || [ -z "$output" ] || fail 'an output'
+        [[ ${words[0]-} != @(endings|boots|causes) ]] || [ -z "$output" ] || fail 'an output'
         before=$status
     done
     [ "$status" -eq 0 ] || fail "status $status without a refusal"
@@ -101,6 +101,7 @@ begin rehearse -c fw_env.config -d devices.txt a v
 begin endings -c fw_env.config -d devices.txt
 begin endings -c fw_env.config -d devices.txt --devices 5 --steps 40
 begin endings -c fw_env.config -d devices.txt --flow
+begin boots -c fw_env.config -d devices.txt bootdelay
 begin causes -c fw_env.config -d devices.txt
 begin rehearse --script boot.cmd -c fw_env.config -d devices.txt
 begin endings --script boot.cmd -d lists

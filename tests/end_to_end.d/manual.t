@@ -35,6 +35,12 @@ the example of endings is in the manual and in the README
   $ grep -qF -- "$(cat example)" manual
   $ in_readme
 
+the example of boots is in the manual and in the README
+  $ example boots
+  ubtool boots -d devices.txt BOOT_ORDER
+  $ grep -qF -- "$(cat example)" manual
+  $ in_readme
+
 the example of causes is in the manual and in the README
   $ example causes
   ubtool causes -d devices.txt

@@ -55,6 +55,13 @@ the help of endings --help: an example, no line that is too long, and one screen
   $ long_lines <help
   $ screen <help
 
+the help of boots --help: an example, no line that is too long, and one screen
+  $ ubtool boots --help >help
+  $ grep -c '^Example:$' help
+  1
+  $ long_lines <help
+  $ screen <help
+
 the help of causes --help: an example, no line that is too long, and one screen
   $ ubtool causes --help >help
   $ grep -c '^Example:$' help
@@ -202,6 +209,9 @@ the version, by rehearse --version
 the version, by endings -V
   $ [ "$(ubtool endings -V)" = "$version" ]
 
+the version, by boots -V
+  $ [ "$(ubtool boots -V)" = "$version" ]
+
 the version, by causes -V
   $ [ "$(ubtool causes -V)" = "$version" ]
 
@@ -227,6 +237,10 @@ the help of rehearse, by a word
 the help of endings, by a word
   $ ubtool endings --help >wanted
   $ ubtool help endings | cmp wanted
+
+the help of boots, by a word
+  $ ubtool boots --help >wanted
+  $ ubtool help boots | cmp wanted
 
 the help of causes, by a word
   $ ubtool causes --help >wanted
@@ -285,6 +299,13 @@ a number with a sign, endings -d d --devices
 
 a number with a sign, endings -d d --steps
   $ ubtool endings -d d --steps +1
+  ! error: a number is written in digits alone, without a sign
+  !
+  ! For more information, try '--help'.
+  [2]
+
+a number with a sign, boots -d d --boots
+  $ ubtool boots -d d --boots +1
   ! error: a number is written in digits alone, without a sign
   !
   ! For more information, try '--help'.

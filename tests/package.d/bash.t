@@ -15,6 +15,7 @@ subcommands
 
 subcommands, of nothing
   $ by_bash 'ubtool ' | grep -v '^-'
+  boots
   causes
   endings
   help
@@ -25,6 +26,7 @@ subcommands, of nothing
   setenv
   version
   $ by_bash 'ubtool help ' | grep -v '^-'
+  boots
   causes
   endings
   image
@@ -59,6 +61,9 @@ ubtool rehearse: its options, as its help has them, and a configuration
   env.config
   $ by_bash 'ubtool rehearse --config=env.c'
   env.config
+
+ubtool boots: its options, as its help has them
+  $ by_bash 'ubtool boots -' | cmp - <(options ubtool boots)
 
 ubtool endings: its options, as its help has them, and a configuration
   $ by_bash 'ubtool endings -' | cmp - <(options ubtool endings)

@@ -15,6 +15,7 @@ subcommands
 
 subcommands, of nothing
   $ by_fish 'ubtool ' | grep -v '^-'
+  boots
   causes
   endings
   help
@@ -25,6 +26,7 @@ subcommands, of nothing
   setenv
   version
   $ by_fish 'ubtool help ' | grep -v '^-'
+  boots
   causes
   endings
   image
@@ -56,6 +58,9 @@ ubtool rehearse: its options, as its help has them, and a configuration
   env.config
   $ by_fish 'ubtool rehearse --config env.c'
   env.config
+
+ubtool boots: its options, as its help has them
+  $ by_fish 'ubtool boots -' | cmp - <(options ubtool boots)
 
 ubtool endings: its options, as its help has them, and a configuration
   $ by_fish 'ubtool endings -' | cmp - <(options ubtool endings)
