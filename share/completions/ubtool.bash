@@ -37,6 +37,7 @@ _ubtool_options() {
         setenv) options='-c --config -i --image --second --big-endian -l --lock --one-copy -s --script -h --help -V --version' ;;
         rehearse) options='-c --config -i --image --second --text --big-endian -d --device-list --files --steady --given -b --variable --script --devices --steps --shell --word --failures --after --limit -h --help -V --version' ;;
         endings) options='-c --config -i --image --second --text --big-endian -d --device-list --files --steady --given -b --variable --script --devices --steps --shell --states --work --memory --flow -h --help -V --version' ;;
+        boots) options='-c --config -i --image --second --text --big-endian -d --device-list --files --steady --given -b --variable --script --devices --steps --shell --states --work --memory --boots --failures -h --help -V --version' ;;
         causes) options='-c --config -i --image --second --text --big-endian -d --device-list --files --steady --given -b --variable --script --devices --steps --shell --failures --check -h --help -V --version' ;;
         image) options='--size --redundant --big-endian --fill -o --output -h --help -V --version' ;;
         inspect) options='-c --config -i --image --second --big-endian -h --help -V --version' ;;
@@ -50,7 +51,7 @@ _ubtool_value() {
         -c | --config | -i | --image | --second | --text | -s | --script | -d | --device-list | -o | --output) value='file' ;;
         -l | --lock) value='folder' ;;
         -b | --variable) value='name' ;;
-        --files | --given | --devices | --steps | --word | --failures | --after | --limit | --states | --work | --memory | --size | --fill) value='other' ;;
+        --files | --given | --devices | --steps | --word | --failures | --after | --limit | --states | --work | --memory | --boots | --size | --fill) value='other' ;;
         --shell) value='listed profile old old-2023.01 old-2025.01 modern modern-2025.01' ;;
         *) value='' ;;
     esac
@@ -77,11 +78,11 @@ _ubtool() {
     COMPREPLY=()
     case $last-${line[1]} in
         1-*)
-            mapfile -t COMPREPLY < <(compgen -W 'printenv setenv rehearse endings causes image inspect help version -h --help -V --version' -- "$word")
+            mapfile -t COMPREPLY < <(compgen -W 'printenv setenv rehearse endings boots causes image inspect help version -h --help -V --version' -- "$word")
             return
             ;;
         2-help)
-            mapfile -t COMPREPLY < <(compgen -W 'printenv setenv rehearse endings causes image inspect' -- "$word")
+            mapfile -t COMPREPLY < <(compgen -W 'printenv setenv rehearse endings boots causes image inspect' -- "$word")
             return
             ;;
         *) _ubtool_options "${line[1]}" ;;
@@ -115,7 +116,7 @@ _ubtool() {
         words=$(_ubtool_names "$1")
     else
         case ${line[1]} in
-            printenv | rehearse | endings) words=$(_ubtool_names "$1") ;;
+            printenv | rehearse | endings | boots) words=$(_ubtool_names "$1") ;;
             setenv) ! _ubtool_first || words=$(_ubtool_names "$1") ;;
         esac
     fi

@@ -94,6 +94,31 @@ _ubtool_options() {
                 '(- *)'{-V,--version}'[Print version]'
             )
             ;;
+        boots)
+            specs=(
+                '(-c --config)'{-c,--config}'[Configuration, at most 1048576 bytes]:file:_files'
+                '(-i --image)'{-i,--image}'[Image, at most 1048576 bytes\: the whole FILE, in place of -c]:file:_files'
+                '--second[Second copy of a redundant pair, beside -i\: the whole FILE]:file:_files'
+                '--text[Text for mkenvimage, at most 1048576 bytes, in place of -c]:file:_files'
+                '--big-endian[The CRC is stored big-endian]'
+                '(-d --device-list)'{-d,--device-list}'[Device list, or a folder of them, at most 1048576 bytes\: a command that may fail a line]:file:_files'
+                '--files[Folder of the files that the list names, at most 1048576 bytes each]:folder: '
+                '--steady[Each question has one answer in a run]'
+                '--given[The Kth alternative of the lines given, 1 to 64]:k: '
+                '(-b --variable)'{-b,--variable}'[Variable whose text is run]:name:_ubtool_names'
+                '--script[Script or script image, at most 1048576 bytes, in place of NAME]:file:_files'
+                '--devices[At most N device commands a run, 0 to 1000]:n: '
+                '--steps[At most N steps (commands begun) a run, 0 to 1000000]:n: '
+                '--shell[Run the scripts as this shell does\: profile, old, old-2023.01, old-2025.01, modern or modern-2025.01]:name:(profile old old-2023.01 old-2025.01 modern modern-2025.01)'
+                '--states[At most N states in all, 0 to 4294967295]:n: '
+                '--work[At most N steps (commands begun) in all, 0 to 4294967295]:n: '
+                '--memory[At most N MiB of states in all, 0 to 4294967295]:n: '
+                '--boots[At most N boots]:n: '
+                '--failures[Only endings that N failures or fewer lead to, 0 to 32]:n: '
+                '(- *)'{-h,--help}'[Print help]'
+                '(- *)'{-V,--version}'[Print version]'
+            )
+            ;;
         causes)
             specs=(
                 '(-c --config)'{-c,--config}'[Configuration, at most 1048576 bytes]:file:_files'
@@ -150,6 +175,7 @@ _ubtool() {
         'setenv:set or delete variables of the environment'
         'rehearse:list every run of a boot script'
         'endings:tell how all runs of a boot script end'
+        'boots:tell which boots follow one another'
         'causes:tell what has to fail for each ending of a boot script'
         'image:make an image of a text of variables'
         'inspect:tell what a configuration or an image is'
@@ -164,7 +190,7 @@ _ubtool() {
             _ubtool_options $words[1]
             case $words[1] in
                 help) (( CURRENT != 2 )) || _describe -t commands command commands ;;
-                printenv|rehearse|endings) _arguments -S $specs '*: :_ubtool_names' ;;
+                printenv|rehearse|endings|boots) _arguments -S $specs '*: :_ubtool_names' ;;
                 causes|inspect) _arguments -S $specs ;;
                 image) _arguments -S $specs '1:file:_files' ;;
                 setenv) _arguments -S $specs '1: :_ubtool_names' '*:value: ' ;;
