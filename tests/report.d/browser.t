@@ -12,6 +12,9 @@ Pages in Chromium, at the widths of a telephone and of a desk, light and dark. W
   $ mkdir fleet; cp "$share/boards/warp7.env" "$share/boards/sheevaplug.env" fleet; echo x >fleet/none.env
   $ printf 'bootcmd=load %0300d || reset; %0300d\n' 7 8 >fleet/long.env
   $ marked report --text fleet -d "$share/devices" --shell old-2023.01 -o fleet.html
+  $ printf '%s\n' 'final bootm' 'saves saveenv' 'known setexpr' >slots.list
+  $ printf '%s\n' 'left=2' 'bootcmd=if test ${left} -gt 0; then setexpr left ${left} - 1; saveenv; bootm B; else bootm A; fi' >slots.env
+  $ marked report --text slots.env -d slots.list --boots left -o slots.html
 
   $ by_browser() {
   >     "$browser" --no-sandbox --disable-gpu --hide-scrollbars --blink-settings=preferredColorScheme=$2 --window-size=$1,900 \
@@ -25,11 +28,11 @@ Pages in Chromium, at the widths of a telephone and of a desk, light and dark. W
   > }
 
 nothing reaches out of a page, and all of it can be read
-  $ for it in rpi_4 warp7 fleet fleet_long.env fleet_sheevaplug.env; do by_measure $it.html; done | sort | uniq -c
-        5 dark 1280, texts: nothing too wide, nothing faint
-        5 dark 390, texts: nothing too wide, nothing faint
-        5 light 1280, texts: nothing too wide, nothing faint
-        5 light 390, texts: nothing too wide, nothing faint
+  $ for it in rpi_4 warp7 fleet fleet_long.env fleet_sheevaplug.env slots; do by_measure $it.html; done | sort | uniq -c
+        6 dark 1280, texts: nothing too wide, nothing faint
+        6 dark 390, texts: nothing too wide, nothing faint
+        6 light 1280, texts: nothing too wide, nothing faint
+        6 light 390, texts: nothing too wide, nothing faint
 
 a page whose colours are faint where it is light, and one that is too wide for a telephone
   $ sed 's/--soft: #57606a/--soft: #b0b6bd/' fleet_sheevaplug.env.html >faint.html; by_measure faint.html | grep 'nothing faint'

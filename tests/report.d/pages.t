@@ -349,3 +349,22 @@ a board whose script is on the card
   ubtool causes --text card.env -d card.list --files card --failures 2
   ubtool endings --text card.env -d card.list --files card
   ubtool rehearse --text card.env -d card.list --files card --word WORD
+
+the boots that follow one another
+  $ printf '%s\n' 'final bootm' 'saves saveenv' 'known setexpr' >slots.list
+  $ printf '%s\n' 'left=2' 'bootcmd=if test ${left} -gt 0; then setexpr left ${left} - 1; saveenv; bootm B; else bootm A; fi' >slots.env
+  $ marked report --text slots.env -d slots.list --boots left --failures 1 -o slots.html
+  $ by_part slots.html boots | tee drawn | head -2
+  From boot to boot
+  A box is a boot, with what it finds saved otherwise than the first one. A line leads to the boot that follows: green where the board boots, red where it does not, dashed where something fails. Of several ways to it, the one with the fewest failures.
+  $ for it in left=1 left=0 'boot 3' 'fails saveenv'; do printf '%s: ' "$it"; grep -c "$it" drawn; done
+  left=1: 1
+  left=0: 1
+  boot 3: 1
+  fails saveenv: 2
+  $ marked report --text slots.env -d slots.list --failures 1 -o no_slots.html; by_part no_slots.html boots | wc -l
+  0
+  $ report --text slots.env -d slots.list --boots '' --failures 1 -o all_slots.html; by_part all_slots.html boots | cmp - drawn
+  $ printf 'saveenv\nsetenv ${left} 1\n' >any.cmd; report --script any.cmd --text slots.env -d slots.list --boots '' -o any.html
+  report: ubtool: which variables the scripts change is not known: name those that are kept
+  [1]

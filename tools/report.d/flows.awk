@@ -22,19 +22,41 @@ function put_flow(it) {
     else if (!boxes) soft("Whatever a command answers, the run ends so.")
     else {
         print "<div class=\"flow\" tabindex=\"0\">"
-        put_picture(fact["work"] "/picture")
+        put_picture(fact["work"] "/picture", "The choices that lead to this ending")
         print "</div>"
     }
     print "</figure>"
 }
 
-# choose(ENDING): the lines that Graphviz draws of the way there, without a legend and in letters of one width.
-function choose(it,    call, line, inside) {
+# put_boots: the boots that follow one another, if they are asked for.
+function put_boots() {
+    if (fact["boots"] == "-") return
+    print "<h2 id=\"boots\">From boot to boot</h2>"
+    if (fact["choices"] == "" || system("command -v dot >/dev/null && command -v python3 >/dev/null")) {
+        soft("There is no picture, since Graphviz or python3 is not installed where this page was made.")
+        return
+    }
+    para("A box is a boot, with what it finds saved otherwise than the first one. A line leads to the boot that follows: green where the" \
+        " board boots, red where it does not, dashed where something fails. Of several ways to it, the one with the fewest failures.")
+    draw("--fold " quoted(fact["work"] "/boots"), "^  n[0-9]+ \\[")
+    if (boxes > 150) soft("The picture would have " boxes " boxes, too many to read.")
+    else {
+        print "<figure>\n<div class=\"flow\" tabindex=\"0\">"
+        put_picture(fact["work"] "/picture", "The boots that follow one another")
+        print "</div>\n</figure>"
+    }
+}
+
+# choose(ENDING): the lines that Graphviz draws of the way there.
+function choose(it) { draw("--fold --toward " quoted(it) " " quoted(fact["work"] "/flow"), "shape=box\\]") }
+
+# draw(WORDS, BOX): the lines that Graphviz draws for these words, without a legend and in letters of one width.
+function draw(words, box,    call, line, inside) {
     boxes = dots = 0
-    call = "python3 " quoted(fact["choices"]) " --fold --toward " quoted(it) " " quoted(fact["work"] "/flow")
+    call = "python3 " quoted(fact["choices"]) " " words
     while ((call | getline line) > 0) {
         if (line ~ /subgraph cluster_legend/) inside = 1
-        boxes += line ~ /shape=box\]/
+        boxes += !inside && line ~ box
         gsub(/fontname="Helvetica"/, "fontname=\"DejaVu Sans Mono\"", line)
         if (!inside) dot[++dots] = line
         if (line ~ /^  }$/) inside = 0
@@ -42,13 +64,13 @@ function choose(it,    call, line, inside) {
     close(call)
 }
 
-# put_picture(FILE): the picture, by this file, as it can be part of a page: without the names of its boxes.
-function put_picture(file,    i, call, line, inside) {
+# put_picture(FILE, LABEL): the picture, by this file, as it can be part of a page: without the names of its boxes.
+function put_picture(file, label,    i, call, line, inside) {
     call = "dot -Tsvg >" quoted(file)
     for (i = 1; i <= dots; i++) print dot[i] | call
     close(call)
     while ((getline line < file) > 0) {
-        if (sub(/^<svg/, "<svg role=\"img\" aria-label=\"The choices that lead to this ending\"", line)) inside = 1
+        if (sub(/^<svg/, "<svg role=\"img\" aria-label=\"" label "\"", line)) inside = 1
         if (!inside || line ~ /^<!--.*-->$/ || line ~ /^<title>/) continue
         gsub(/ (id|font-family|xmlns|xmlns:xlink)="[^"]*"/, "", line)
         line = in_pixels(line)

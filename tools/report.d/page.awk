@@ -9,6 +9,7 @@ END {
     put_endings()
     put_causes()
     put_flows()
+    put_boots()
     put_check()
     put_limits()
     put_calls()
