@@ -56,7 +56,7 @@ what is saved last counts, and a variable may be saved as one that is not set
   end 0
   done
 
-the endings are told apart by it
+it distinguishes the endings
   $ ubtool endings --script it.cmd --text it.txt -d list left
   ends 2 first 00 fewest 0 00 end 0
   var left=1
@@ -84,7 +84,7 @@ the endings are told apart by it
   fails saveenv
   all 4 states 3
 
-without a name there are no such lines, and runs are not told apart
+without a name there are no such lines, and it distinguishes no runs
   $ ubtool endings --script it.cmd --text it.txt -d list
   ends 4 first 00 fewest 0 00 end 0
   all 4 states 2

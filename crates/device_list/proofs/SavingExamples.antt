@@ -33,7 +33,7 @@ among_others : map listed (codes "call keep : steady saves needs load a=1" ∷ c
     ∷ Ok (calls_of (codes "keep") (record { words = []; more = false }) (record quiet { stays = true; needs = codes "load" ∷ []; sets = (Variable (codes "a"), Literal (codes "1")) ∷ (Saving, Deleted) ∷ [] })) ∷ []
 among_others = refl
 
--- it stands once; `saves` has one word behind it, which is no built-in command; and a command may have this name
+-- it is there once; `saves` has one word after it, which is no built-in command; and a command may have this name
 bad_lines : map listed (codes "call keep : saves saves" ∷ codes "saves" ∷ codes "saves a b" ∷ codes "saves test" ∷ codes "saves a=1" ∷ codes "saves 'a'" ∷ [])
     ≡ Err (BadLine 1) ∷ Ok (only ((codes "saves", quiet) ∷ [])) ∷ Err (BadLine 1) ∷ Err (BuiltIn 1) ∷ Ok (only ((codes "saves", record quiet { sets = (Variable (codes "a"), Literal (codes "1")) ∷ [] }) ∷ [])) ∷ Err (BadLine 1) ∷ []
 bad_lines = refl

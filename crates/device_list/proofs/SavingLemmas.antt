@@ -32,7 +32,7 @@ save_next es at lines there none =
 pub saves_here : (es : Entries) (at : ℕ) (lines : Vec CallLine Global) → at_place es (Some at) ≡ Some lines → lines_save (lines_shown lines) ≡ true → save_from es at ≡ true
 saves_here es at lines there some = from_here es at lines there ∙ (λ i. some i || save_from es (suc at))
 
--- a place that is not there is behind the last name
+-- a place that is not there is after the last name
 pub within : (es : Entries) (at : ℕ) → at_place es (Some at) ≡ None → length es ≤ at
 within [] at none = omega arith
 within (e ∷ es) zero none = absurd (let f = none in cc)

@@ -141,7 +141,7 @@ with_setting clauses None = None
 with_setting clauses (Some set) =
     Some (record clauses { effect = record clauses.effect { sets = clauses.effect.sets ++ set ∷ [] } })
 
--- whether a setting stands for all that is saved
+-- whether a setting is the mark that all is saved
 abbrev pub saves_side : LeftSide → Bool
 saves_side (Variable name) = false
 saves_side (WordAt place) = false

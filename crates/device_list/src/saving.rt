@@ -34,7 +34,7 @@ pub fn saved_of(name: &[u8]) -> Option<&[u8]>
     }
 }
 
-/// Whether a setting stands for all that is saved.
+/// Whether a setting is the mark that all is saved.
 fn is_saving(set: &Setting) -> bool
     ensures { result ≡ is_saving (setting_shown set.now) }
 {

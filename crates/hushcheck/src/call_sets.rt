@@ -407,7 +407,7 @@ fn set_by_command(
     Ok(sets)
 }
 
-/// What a call with these words behind its first one sets and deletes; nothing is known if the first one is not
+/// What a call with these words after its first one sets and deletes; nothing is known if the first one is not
 /// written out. Errors: memory ran out.
 pub(crate) fn set_by_call(
     alloc: Global,

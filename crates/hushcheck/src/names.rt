@@ -135,7 +135,7 @@ pub(crate) fn asked_names(
     Ok(names)
 }
 
-/// Names, and behind them others, each once, found by this hash. Errors: memory ran out.
+/// Names, followed by others, each once, found by this hash. Errors: memory ran out.
 pub fn names_once(
     alloc: Global,
     names: &[&[u8]],

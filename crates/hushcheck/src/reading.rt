@@ -250,7 +250,7 @@ impl<'a> Reading<'a> {
         Ok(())
     }
 
-    /// Keeps what a call sets and deletes with these words behind its first one, and the files of which the text of
+    /// Keeps what a call sets and deletes with these words after its first one, and the files of which the text of
     /// one runs after it. Errors: memory ran out.
     pub(crate) fn keep_call(
         &mut self,

@@ -94,7 +94,7 @@ all_right (name ∷ names) environment plain =
       all_right names next plain.1,
     )
 
--- ---- behind other settings
+-- ---- after other settings
 
 sets_joined : (words : List Text) (one other : List Setting) → sets_in words (one ++ other) ≡ sets_in words one ++ sets_in words other
 sets_joined words [] other = refl

@@ -11,7 +11,7 @@ use Rattle.rehearse_terms.specs.declared.shell.Shell.TheVariants.{Profile}
 
 -- ---- what is saved of a variable
 
--- nothing was saved; it was saved as not set; a value was saved, also one that begins with the mark
+-- nothing was saved; it was saved as not set; a value was saved, also one that starts with the mark
 nothing_saved : kept_after (codes "3" ∷ codes "A" ∷ []) (None ∷ None ∷ []) ≡ codes "3" ∷ codes "A" ∷ []
 nothing_saved = refl
 
@@ -52,7 +52,7 @@ found_first = refl
 apart : told_apart (asked None None) ≡ codes "x" ∷ (0 ∷ codes "left") ∷ (0 ∷ codes "note") ∷ []
 apart = refl
 
--- `left=2` and the byte behind it take 7 bytes, and one more ends them
+-- `left=2` and the byte after it take 7 bytes, and one more ends them
 just_room : has_room (Some 8) (found_by (asked None None) (codes "2" ∷ [] ∷ [])) ≡ true
 just_room = refl
 
@@ -71,7 +71,7 @@ ending copies failures = record {
 abbrev noted : Row
 noted = ending (Some (codes "=1") ∷ Some (codes "=abc") ∷ []) 1
 
--- the boot behind it, by what was saved; by what was saved before, if nothing was, or if that has no room
+-- the boot after it, by what was saved; by what was saved before, if nothing was, or if that has no room
 behind : next_of (asked None None) (codes "2" ∷ [] ∷ []) noted ≡ codes "1" ∷ codes "abc" ∷ []
 behind = refl
 

@@ -57,7 +57,7 @@ in_last (b ∷ boots) kept = or_true (same_kept kept b) (list_any (same_kept kep
 
 -- ---- one more boot
 
--- it goes behind the others, if it is new
+-- it is added after the others, if it is new
 abbrev pub More : (old new : List Kept) → Type 0
 More old new = (more : List Kept) × (new ≡ old ++ more)
 
@@ -158,7 +158,7 @@ module _ (asked : Asked) (kept : Kept) (fails : OutcomeWord → List Answered) (
     text = text_on xs ys now next so_far later before.boots after.boots before.text after.text;
   })
 
-  -- more boots than allowed, behind some endings
+  -- more boots than allowed, after some endings
   pub breaks_on : (most : ℕ) (xs ys zs all : List Row) (now next : List Kept) → all ≡ xs ++ (ys ++ zs) → now ≡ with_boots start (next_of_all asked kept xs) → BreaksAt (next_of_all asked kept ys) most now next → BreaksAt (next_of_all asked kept all) most start next
   breaks_on most xs ys zs all now next e h breaks =
       let first : List Kept = next_of_all asked kept xs in
@@ -172,7 +172,7 @@ module _ (asked : Asked) (kept : Kept) (fails : OutcomeWord → List Answered) (
         many = breaks.many;
       }
 
--- the boot behind one ending is one too many
+-- the boot after one ending is one too many
 pub breaks_one : (asked : Asked) (kept : Kept) (r : Row) (next : Kept) (most : ℕ) (old new : List Kept) → is_followed asked r ≡ true → next ≡ next_of asked kept r → new ≡ with_boot old next → most < length new → BreaksAt (next_of_all asked kept (r ∷ [])) most old new
 breaks_one asked kept r next most old new followed is boots many = record {
   front = next ∷ [];
@@ -182,7 +182,7 @@ breaks_one asked kept r next most old new followed is boots many = record {
   many = many;
 }
 
--- a list, before, at and behind a place
+-- a list, before, at and after a place
 pub around : {X : Type 0} (xs : List X) (i : ℕ) (x : X) → i < length xs → x ≡ get_or xs i x → xs ≡ take i xs ++ (x ∷ [] ++ drop (suc i) xs)
 around [] i x within is = absurd (omega (arith, within))
 around (y ∷ xs) zero x within is = ap (λ z. z ∷ xs) (sym is)

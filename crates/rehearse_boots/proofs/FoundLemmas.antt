@@ -1,4 +1,4 @@
--- All boots, from those that were told so far.
+-- All boots, from those that were explored so far.
 use Rattle.std.proofs.Common.{◌≡◌, ℕ, zero, suc, ◌+◌, ◌<◌, ◌≤◌, Bool, true, false, cond, List, [], ◌∷◌, ◌++◌, length, map, fold, take, Option, Some, None, refl, sym, ap, subst, ◌∙◌, add-one, append_assoc, append-nil, arith, codes, decimal}
 use Rattle.std.specs.List.{AllByRecursion, Contains, enumerate_from, flat_map, slice_get}
 use Rattle.std.proofs.lemmas.Grind.{flat_map-append}
@@ -158,7 +158,7 @@ module _ (start_of : StartOf) (asked : Asked) where
       ap (λ t. with_boots (with_boot [] (first_of asked)) t) (flat_map-append (next_boots start_of asked) some (kept ∷ []) ∙ ap (λ t. flat_map (next_boots start_of asked) some ++ t) (append-nil (next_boots start_of asked kept)))
       ∙ fold-append with_boot (with_boot [] (first_of asked)) (flat_map (next_boots start_of asked) some) (next_boots start_of asked kept)
 
-  -- ---- one more boot was told
+  -- ---- one more boot was explored
 
   pub told_on : (place : ℕ) (kept : Kept) (old new : List Kept) (before after : Text) → AreTold start_of asked place old before → slice_get old place ≡ Some kept → AddsBoot start_of asked (place + 1) kept old new before after → AreTold start_of asked (place + 1) new after
   told_on place kept old new before after told at adds =

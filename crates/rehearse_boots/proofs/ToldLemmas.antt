@@ -1,4 +1,4 @@
--- Why boots are not told, and when all are.
+-- Why boots are not reported, and when all are.
 use Rattle.std.proofs.Common.{◌≡◌, ℕ, ◌+◌, ◌<◌, ◌≤◌, Bool, true, false, List, [], ◌∷◌, ◌++◌, length, map, fold, take, Option, Some, None, Result, Ok, Err, codes, decimal, append_assoc, ◌≢◌, refl, sym, ap, subst, ◌∙◌, arith, if◌then◌else◌}
 use Rattle.std.specs.Prelude.{IfErr, OnOk}
 use Rattle.std.specs.List.{AllByRecursion, flat_map, list_any, slice_get}
@@ -43,7 +43,7 @@ module _ (start_of : StartOf) (asked : Asked) where
   told_apart_all count boots text told =
       ap each_once told.found ∙ apart_with [] (first_of asked ∷ flat_map (next_boots start_of asked) (take count boots)) refl ∙ sym told.found
 
-  -- ---- a boot that is not told
+  -- ---- a boot that is not reported
 
   more_boots : (kept : Kept) (task : Task) (most : ℕ) (old new : List Kept) → IsReached start_of asked kept → boot_of start_of asked kept ≡ Some task → AllByRecursion (IsReached start_of asked) old → each_once old ≡ old
       → BreaksAt (map (next_of asked kept) (ways_of asked task)) most old new → HasMoreBoots start_of asked most

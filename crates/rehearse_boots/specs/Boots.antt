@@ -73,7 +73,7 @@ pub record Asked : Type 0 where
   pub bounds : BoundsShown
   -- how many failures an ending may take that is followed; none for any number
   pub failures : Option ℕ
-  -- the variables whose values are told apart, and those that are kept from one boot to the next
+  -- the variables whose values distinguish runs, and those that are kept from one boot to the next
   pub names : List Text
   pub kept : List Text
   -- how many bytes an image has for what is saved
@@ -101,7 +101,7 @@ rehearsed_by asked (Err fault) = None
 abbrev pub boot_of : StartOf → Asked → Kept → Option Task
 boot_of start_of asked kept = rehearsed_by asked (start_of (found_by asked kept))
 
--- what its runs are told apart by, beside their endings: the values of the variables that are asked for, and what was saved of
+-- what distinguishes its runs, beside their endings: the values of the variables that are asked for, and what was saved of
 -- those that are kept
 abbrev pub told_apart : Asked → List Text
 told_apart asked = asked.names ++ map saved_name asked.kept
@@ -114,7 +114,7 @@ is_followed asked r = is_at_most asked.failures r.fewest.1
 abbrev pub ways_of : Asked → Task → List Row
 ways_of asked task = filter (is_followed asked) (endings (told_apart asked) task)
 
--- what the next boot finds saved, behind one of its endings. What has no room in the image is not saved.
+-- what the next boot finds saved, after one of its endings. What has no room in the image is not saved.
 abbrev pub saved_if : (asked : Asked) → (before after : Kept) → Kept
 saved_if asked before after = if has_room asked.room (found_by asked after) then after else before
 

@@ -1,4 +1,4 @@
--- What is known while boots are told. Ours.
+-- What is known while boots are explored. Ours.
 use Rattle.std.specs.Prelude.{◌≡◌, ℕ, ◌+◌, ◌<◌, ◌≤◌, Bool, List, [], ◌∷◌, ◌++◌, length, map, filter, fold, take, Option, Some, None, Result, Ok, Err, Vec}
 use Rattle.std.specs.declared.alloc.Global.{Global}
 use Rattle.std.specs.List.{AllByRecursion, flat_map}
@@ -83,7 +83,7 @@ IsStarted start (Err (Board board.Memory)) = ⊥
 IsStarted start (Err Memory) = Unit {0}
 IsStarted start (Err error) = ⊥
 
--- why a boot that starts so is not told
+-- why a boot that starts so is not reported
 abbrev pub IsUntoldStarted : Asked → Kept → (states work bytes most : ℕ) → Started → (old new : List Kept) → BootsError → Type 0
 IsUntoldStarted asked kept states work bytes most s old new NoSuchVariable = rehearsed asked s ≡ None
 IsUntoldStarted asked kept states work bytes most s old new Boots =
@@ -97,7 +97,7 @@ IsUntoldStarted asked kept states work bytes most s old new (Bytes count) =
 IsUntoldStarted asked kept states work bytes most s old new Memory = Unit {0}
 IsUntoldStarted asked kept states work bytes most s old new _ = ⊥
 
--- why a boot is not told
+-- why a boot is not reported
 abbrev pub IsUntoldBoot : StartOf → Asked → Kept → (states work bytes most : ℕ) → (old new : List Kept) → BootsError → Type 0
 IsUntoldBoot start_of asked kept states work bytes most old new (Board (board.Start fault)) = start_of (found_by asked kept) ≡ Err (OfStart fault)
 IsUntoldBoot start_of asked kept states work bytes most old new (Board (board.Devices fault)) = start_of (found_by asked kept) ≡ Err (OfDevices fault)
@@ -115,7 +115,7 @@ pub record AddsBoot (start_of : StartOf) (asked : Asked) (number : ℕ) (kept : 
 
 -- ---- so many boots
 
--- the first so many were told
+-- the first so many were explored
 pub record AreTold (start_of : StartOf) (asked : Asked) (count : ℕ) (boots : List Kept) (text : Text) : Type 0 where
   pub found : boots ≡ found_from start_of asked (take count boots)
   pub reached : AllByRecursion (IsReached start_of asked) boots

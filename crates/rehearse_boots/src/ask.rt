@@ -49,7 +49,7 @@ pub struct BootsAsk<'a> {
     pub boots: u32,
     /// How many failures an ending may take that is followed; without a number, any may.
     pub failures: Option<u32>,
-    /// The variables by whose values the runs of a boot are told apart, in this order.
+    /// The variables whose values distinguish the runs of a boot, in this order.
     pub names: &'a [&'a [u8]],
     /// The variables that are kept from one boot to the next. Any other is at the start of each boot as at that
     /// of the first.

@@ -18,7 +18,7 @@ use envtools::Env;
 use rehearse_states::{Node, Row};
 use std::alloc::{AllocError, Global};
 
-/// What boots are told by.
+/// What the endings of each boot are found by.
 #[derive(Clone, Copy)]
 pub(crate) struct Telling<'a> {
     pub(crate) alloc: Global,
@@ -26,7 +26,7 @@ pub(crate) struct Telling<'a> {
     pub(crate) env: &'a Env,
     /// What is asked of the boots.
     pub(crate) ask: &'a BootsAsk<'a>,
-    /// What the runs of a boot are told apart by, beside their endings.
+    /// What distinguishes the runs of a boot, beside their endings.
     pub(crate) apart: &'a [&'a [u8]],
     /// What the first boot finds saved.
     pub(crate) first: &'a [Vec<u8>],
@@ -51,7 +51,7 @@ fn is_saved(telling: &Telling<'_>, after: &[Vec<u8>]) -> Result<bool, AllocError
     Ok(has_room(telling.ask.room, &found))
 }
 
-/// The copies that a run leaves: the values behind those of so many names.
+/// The copies that a run leaves: the values after those of so many names.
 fn copies_of(values: &[Option<Vec<u8>>], count: usize) -> &[Option<Vec<u8>>]
     ensures { map value_shown result.now ≡ drop count (map value_shown values.now) }
 {
@@ -61,7 +61,7 @@ fn copies_of(values: &[Option<Vec<u8>>], count: usize) -> &[Option<Vec<u8>>]
     &[]
 }
 
-/// What is saved behind an ending of a boot that finds this saved. Errors: memory ran out.
+/// What is saved after an ending of a boot that finds this saved. Errors: memory ran out.
 fn next_of(telling: &Telling<'_>, kept: &[Vec<u8>], row: &Row) -> Result<Vec<Vec<u8>>, AllocError>
     ensures { IfOk result (λ next. kept_shown next
         ≡ spec.next_of (asked_in telling.now) (bytes_of_words kept.now) (row_shown row.now)) }

@@ -1,4 +1,4 @@
-//! Why the boots of a board are not told.
+//! Why the boots of a board are not reported.
 ghost use Rattle.std.specs.Prelude.{◌≡◌};
 ghost use Rattle.rehearse_boots.specs.declared.boots_error.BootsError.TheVariants.{Memory};
 
@@ -7,7 +7,7 @@ use bootstore_state::StoreError;
 use std::alloc::{AllocError, AllocFailed};
 use thiserror::Error;
 
-/// Why the boots of a board are not told, or why their lines break off.
+/// Why the boots of a board are not reported, or why their lines break off.
 #[derive(Clone, Copy, Debug, Drop, PartialEq, Eq, Error)]
 pub enum BootsError {
     /// A boot does not start, for a reason other than memory.

@@ -179,7 +179,7 @@ fn saved_names(alloc: Global, names: &[&[u8]]) -> Result<Vec<Vec<u8>>, AllocErro
     Ok(copies)
 }
 
-/// These names, and behind them those of copies. Errors: memory ran out.
+/// These names, followed by the names of copies. Errors: memory ran out.
 fn with_copies<'a>(
     alloc: Global,
     names: &[&'a [u8]],

@@ -70,7 +70,7 @@ pub(crate) fn with_kept(
     env.changed_by(&changes)
 }
 
-/// The value that is saved behind a run, by the one that was saved before it and the copy that the run leaves.
+/// The value that is saved after a run, by the one that was saved before it and the copy that the run leaves.
 fn kept_by<'a>(before: &'a [u8], copy: &'a Option<Vec<u8>>) -> &'a [u8]
     ensures { result.now ≡ spec.kept_by before.now (value_shown copy.now) }
 {
@@ -85,7 +85,7 @@ fn kept_by<'a>(before: &'a [u8], copy: &'a Option<Vec<u8>>) -> &'a [u8]
     }
 }
 
-/// Adds the values that are saved behind a run, by those that were saved before it and the copies that the run
+/// Adds the values that are saved after a run, by those that were saved before it and the copies that the run
 /// leaves. Errors: memory ran out.
 pub(crate) fn add_kept(
     alloc: Global,

@@ -11,7 +11,7 @@ use envtools::Env;
 use output::{Out, write_all};
 use std::alloc::Global;
 
-/// Writes how the boots of a board follow one another. The first finds this environment saved. A boot is followed, behind
+/// Writes how the boots of a board follow one another. The first finds this environment saved. A boot is followed, after
 /// each of its endings, by the one that finds saved what the run has saved last, or what was saved before, if it has saved
 /// nothing, or nothing that the image has room for. Boots that find the same saved are one; they are numbered in the
 /// order in which they are found. Writes of each boot a line, what it finds saved otherwise than the first one, and its endings,

@@ -54,7 +54,7 @@ the_last_counts : listed (task board (codes "setenv z 1; saveenv; setenv z 2; sa
 unfolding listed_along ends_along
 the_last_counts = along 3 (task board (codes "setenv z 1; saveenv; setenv z 2; saveenv; setenv z")) names None _ refl refl
 
--- what the call itself sets is saved, wherever the clause stands
+-- what the call itself sets is saved, wherever the clause is
 abbrev with_settings : Devices
 with_settings = saveenv ((Saving, Deleted) ∷ (Variable (codes "z"), Literal (codes "7")) ∷ [])
 

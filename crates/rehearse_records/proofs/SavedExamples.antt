@@ -17,7 +17,7 @@ with_copy copy = (saved_name (codes "v"), copy) ∷ (codes "v", codes "1") ∷ [
 saved_value : variable_lines (with_copy (codes "=2")) asked ≡ codes "var v=1" ∷ codes "saved v=2" ∷ []
 saved_value = refl
 
--- a value that begins with `=` keeps it
+-- a value that starts with `=` keeps it
 saved_sign : variable_lines (with_copy (codes "==")) asked ≡ codes "var v=1" ∷ codes "saved v==" ∷ []
 saved_sign = refl
 

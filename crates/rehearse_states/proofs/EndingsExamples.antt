@@ -126,7 +126,7 @@ saved_unset : with_saved (codes "keep; setenv v 1; true") 1 ≡ codes "ends 1 fi
 unfolding tree_of fields joined atoms digits
 saved_unset = refl
 
--- a value, one that begins with `=`, an empty one, none, and nothing saved
+-- a value, one that starts with `=`, an empty one, none, and nothing saved
 saved_values : value_lines (map saved_name (codes "a" ∷ codes "b" ∷ codes "c" ∷ codes "d" ∷ codes "e" ∷ [])) (Some (codes "=1") ∷ Some (codes "==2") ∷ Some (codes "=") ∷ Some [] ∷ None ∷ []) ≡ codes "saved a=1\nsaved b==2\nsaved c=\nsaved unset d\n"
 saved_values = refl
 

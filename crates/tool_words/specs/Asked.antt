@@ -52,7 +52,7 @@ pub record Endings : Type 0 where
   pub work : ℕ
   -- the MiB that the states count together which are kept
   pub memory : ℕ
-  -- the variables by whose values runs are told apart
+  -- the variables whose values distinguish runs
   pub names : List Text
   pub flow : Bool
 
@@ -69,7 +69,7 @@ pub record Boots : Type 0 where
   pub boots : ℕ
   -- the failures of the endings that are followed; nothing for any number
   pub failures : Option ℕ
-  -- the variables by whose values runs are told apart
+  -- the variables whose values distinguish runs
   pub names : List Text
 
 -- what `causes` is asked for

@@ -264,7 +264,7 @@ pub struct EndingsAsk {
     pub work: u32,
     /// The most MiB to count for the states that are kept.
     pub memory: u32,
-    /// The variables by whose values runs are told apart, in this order.
+    /// The variables whose values distinguish runs, in this order.
     pub names: Vec<String>,
     /// Whether to write the flow, not the endings.
     pub flow: bool,
@@ -287,7 +287,7 @@ pub struct BootsAsk {
     pub boots: u32,
     /// The most failures of the endings that are followed; none for any number.
     pub failures: Option<u32>,
-    /// The variables by whose values runs are told apart, in this order.
+    /// The variables whose values distinguish runs, in this order.
     pub names: Vec<String>,
 }
 

@@ -79,7 +79,7 @@ none_first = refl
 given_anew : starts two (Some 1) (codes "bootcmd") (with_a (codes "probe") (codes "7")) ≡ Ok (record { environment = with_a (codes "probe") (codes "1"); devices = loads; text = Some (codes "run p\nrun bootcmd\n") })
 given_anew = refl
 
--- a text that is given goes behind those that run first
+-- a text that is given follows those that run first
 given_text : boot_start (text_alone (codes "load\nbefore p")) (taking false None) (codes "boot.scr") (Some (codes "load")) [] (found (codes "probe")) ≡ Ok (record { environment = found (codes "probe"); devices = loads; text = Some (codes "run p\nload") })
 given_text = refl
 

@@ -39,7 +39,7 @@ pub data NoBeginning : Type 0 where
   OfImage : ImageError → NoBeginning
   OfBoard : Fault → NoBeginning
 
--- A variable of the environment may stand in a pattern of the list, and a call of the list that saves sets a copy of each
+-- A pattern of the list may name a variable of the environment, and a call of the list that saves sets a copy of each
 -- variable that is asked for.
 abbrev pub begun_with : Devices → (names : List Text) → Result Begun StartError → Result Beginning NoBeginning
 begun_with devices names (Ok begun) = Ok (record {

@@ -12,7 +12,7 @@ use Rattle.rehearse_boots.specs.Boots.{StartOf, Started}
 use Rattle.rehearse_terms.specs.State.{Text}
 use Rattle.tool_words.specs.declared.ask.Taking.{Taking}
 
--- A variable of the environment may stand in a pattern of the list, and a call of the list that saves sets a copy of each
+-- A pattern of the list may name a variable of the environment, and a call of the list that saves sets a copy of each
 -- variable that is kept.
 abbrev pub started_with : Devices → (kept : List Text) → Result Begun StartError → Result Started Fault
 started_with devices kept (Ok begun) = Ok (record {

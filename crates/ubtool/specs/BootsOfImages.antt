@@ -48,7 +48,7 @@ limits_of ask = record {
 }
 
 -- what is given: the text, if there is one, all runs of it or of the variable that is asked for, within the bounds, and
--- the variables whose values are told apart
+-- the variables whose values distinguish runs
 abbrev pub runs_by : BootsAsk → Asking
 runs_by ask = all_runs ask.name.now ask.bounds (map (λ n. n.now) ask.names.now)
 

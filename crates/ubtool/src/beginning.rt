@@ -106,7 +106,7 @@ fn taken(devices: Devices, steady: bool) -> Devices
     if steady { devices.steady() } else { devices }
 }
 
-/// The device list in this environment, of which variables may stand in a pattern of it. A call that saves sets a copy
+/// The device list in this environment, whose variables a pattern of the list may name. A call that saves sets a copy
 /// of each of these variables. Errors: memory ran out.
 pub(crate) fn devices_in(
     devices: Devices,

@@ -45,7 +45,7 @@ fn refusal_of(error: RehearsalError, what: BootsAsk) -> ProgramFault
     }
 }
 
-/// What is asked of the boots, with these names of what is told apart, and this room for what is saved.
+/// What is asked of the boots, with these names of what distinguishes runs, and this room for what is saved.
 fn asked<'a>(
     what: &'a BootsAsk,
     names: &'a [&'a [u8]],

@@ -2,7 +2,7 @@ use Rattle.std.proofs.Common.{◌≤◌, length}
 use Rattle.rehearse_boots.specs.Exploring.{AreTold, asked_in}
 use Rattle.rehearse_boots.proofs.exploring.add_boots.Given as goal
 
--- the boots before the place were told
+-- the boots before the place were explored
 abbrev pub invariant-loop-place : goal.invariant-loop-place
 invariant-loop-place g l =
     AreTold (g.B.Board.start_of l.board) (asked_in l.telling) l.place l.boots l.text.items × (length l.boots ≤ l.telling.ask.now.boots)
