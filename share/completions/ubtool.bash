@@ -37,7 +37,7 @@ _ubtool_options() {
         setenv) options='-c --config -i --image --second --big-endian -l --lock --one-copy -s --script -h --help -V --version' ;;
         rehearse) options='-c --config -i --image --second --text --big-endian -d --device-list --files --steady --given -b --variable --script --devices --steps --shell --word --failures --after --limit -h --help -V --version' ;;
         endings) options='-c --config -i --image --second --text --big-endian -d --device-list --files --steady --given -b --variable --script --devices --steps --shell --states --work --memory --flow -h --help -V --version' ;;
-        boots) options='-c --config -i --image --second --text --big-endian -d --device-list --files --steady --given -b --variable --script --devices --steps --shell --states --work --memory --boots --failures -h --help -V --version' ;;
+        boots) options='-c --config -i --image --second --text --big-endian -d --device-list --files --steady --given -b --variable --script --devices --steps --shell --states --work --memory --boots --failures --then --expect --within --expect-var -h --help -V --version' ;;
         causes) options='-c --config -i --image --second --text --big-endian -d --device-list --files --steady --given -b --variable --script --devices --steps --shell --failures --check -h --help -V --version' ;;
         image) options='--size --redundant --big-endian --fill -o --output -h --help -V --version' ;;
         inspect) options='-c --config -i --image --second --big-endian -h --help -V --version' ;;
@@ -48,10 +48,10 @@ _ubtool_options() {
 # _ubtool_value WORD: if the word is an option with a value, what the value is, in `value`.
 _ubtool_value() {
     case $1 in
-        -c | --config | -i | --image | --second | --text | -s | --script | -d | --device-list | -o | --output) value='file' ;;
+        -c | --config | -i | --image | --second | --text | -s | --script | -d | --device-list | --then | -o | --output) value='file' ;;
         -l | --lock) value='folder' ;;
         -b | --variable) value='name' ;;
-        --files | --given | --devices | --steps | --word | --failures | --after | --limit | --states | --work | --memory | --boots | --size | --fill) value='other' ;;
+        --files | --given | --devices | --steps | --word | --failures | --after | --limit | --states | --work | --memory | --boots | --expect | --within | --expect-var | --size | --fill) value='other' ;;
         --shell) value='listed profile old old-2023.01 old-2025.01 modern modern-2025.01' ;;
         *) value='' ;;
     esac

@@ -57,7 +57,7 @@ complete -c ubtool -n __ubtool_after_help -a 'printenv setenv rehearse endings b
 # options: completions
 # Whether the word is an option whose value comes after it.
 function __ubtool_takes_value
-    contains -- $argv[1] -c --config -i --image --second --text -l --lock -s --script -d --device-list --files --given -b --variable --devices --steps --shell --word --failures --after --limit --states --work --memory --boots --size --fill -o --output
+    contains -- $argv[1] -c --config -i --image --second --text -l --lock -s --script -d --device-list --files --given -b --variable --devices --steps --shell --word --failures --after --limit --states --work --memory --boots --then --expect --within --expect-var --size --fill -o --output
 end
 
 complete -c ubtool -s h -l help -d 'Print help'
@@ -96,6 +96,10 @@ complete -c ubtool -n '__fish_seen_subcommand_from endings boots' -l work -x -d 
 complete -c ubtool -n '__fish_seen_subcommand_from endings boots' -l memory -x -d 'At most N MiB of states in all, 0 to 4294967295'
 complete -c ubtool -n '__fish_seen_subcommand_from endings' -l flow -d 'Write the states as a graph, a line each'
 complete -c ubtool -n '__fish_seen_subcommand_from boots' -l boots -x -d 'At most N boots'
+complete -c ubtool -n '__fish_seen_subcommand_from boots' -l then -r -F -d 'Script of changes, as for setenv -s, that may follow a boot that booted'
+complete -c ubtool -n '__fish_seen_subcommand_from boots' -l expect -x -d 'Whether each boot leads on to ENDING; status 1 if not'
+complete -c ubtool -n '__fish_seen_subcommand_from boots' -l within -x -d 'With --expect: within N boots, 1 to 4294967295'
+complete -c ubtool -n '__fish_seen_subcommand_from boots' -l expect-var -x -d 'With --expect: ENDING leaves NAME with VALUE; may be repeated'
 complete -c ubtool -n '__fish_seen_subcommand_from causes' -l check -d 'Only what does not boot; status 1 if there is any'
 complete -c ubtool -n '__fish_seen_subcommand_from image' -l size -x -d 'Bytes of the image, at most 1048576'
 complete -c ubtool -n '__fish_seen_subcommand_from image' -l redundant -d 'A copy of a redundant pair, with a flag'

@@ -115,6 +115,10 @@ _ubtool_options() {
                 '--memory[At most N MiB of states in all, 0 to 4294967295]:n: '
                 '--boots[At most N boots]:n: '
                 '--failures[Only endings that N failures or fewer lead to, 0 to 32]:n: '
+                '--then[Script of changes, as for setenv -s, that may follow a boot that booted]:file:_files'
+                '--expect[Whether each boot leads on to ENDING; status 1 if not]:ending: '
+                '--within[With --expect\: within N boots, 1 to 4294967295]:n: '
+                '*--expect-var[With --expect\: ENDING leaves NAME with VALUE; may be repeated]:name=value: '
                 '(- *)'{-h,--help}'[Print help]'
                 '(- *)'{-V,--version}'[Print version]'
             )

@@ -311,6 +311,54 @@ a number with a sign, boots -d d --boots
   ! For more information, try '--help'.
   [2]
 
+a number with a sign, boots -d d --expect boot --within
+  $ ubtool boots -d d --expect boot --within +1
+  ! error: a number is written in digits alone, without a sign
+  !
+  ! For more information, try '--help'.
+  [2]
+
+no boots to an ending
+  $ ubtool boots -d d --expect boot --within 0
+  ! error: invalid value '0' for '--within <N>': 0 is not in 1..=4294967295
+  !
+  ! For more information, try '--help'.
+  [2]
+
+a number of boots to no ending
+  $ ubtool boots -d d --within 2
+  ! ubtool: --within and --expect-var need --expect
+  [2]
+
+a value that no ending leaves
+  $ ubtool boots -d d --expect-var a=1
+  ! ubtool: --within and --expect-var need --expect
+  [2]
+
+an ending without a letter
+  $ ubtool boots -d d --expect ''
+  ! ubtool: --expect needs an ending
+  [2]
+
+a value without =
+  $ ubtool boots -d d --expect boot --expect-var a
+  ! ubtool: --expect-var needs NAME=VALUE
+  [2]
+
+a value without a name, after one that has it
+  $ ubtool boots -d d --expect boot --expect-var a=1 --expect-var =1
+  ! ubtool: --expect-var needs NAME=VALUE
+  [2]
+
+two scripts of changes
+  $ ubtool boots -d d --then a --then b
+  ! error: the argument '--then <FILE>' cannot be used multiple times
+  !
+  ! Usage: ubtool boots [OPTIONS] --device-list <FILE> [NAME]...
+  !
+  ! For more information, try '--help'.
+  [2]
+
 a number with a sign, rehearse -d d --devices
   $ ubtool rehearse -d d --devices +1
   ! error: a number is written in digits alone, without a sign

@@ -6,7 +6,7 @@ use Rattle.hushcheck_program.specs.CommandAnswers.{Answers, Says, asked}
 use Rattle.hushcheck_program.specs.CommandLine.{hushcheck}
 use Rattle.tool_words.specs.Answered.{IsAccepted, Refuses}
 use Rattle.tool_words.specs.declared.ask.UseError.{UseError}
-use Rattle.tool_words.specs.declared.ask.UseError.TheVariants.{BadFill, BadSize, HeaderNeedsOne, Line, LockNeedsFolder, Memory, Misnamed, NeedName, ScriptAndName, TooManyDevices, WordAlone}
+use Rattle.tool_words.specs.declared.ask.UseError.TheVariants.{BadFill, BadSize, BadValue, HeaderNeedsOne, Line, LockNeedsFolder, Memory, Misnamed, NeedEnding, NeedExpect, NeedName, ScriptAndName, TooManyDevices, WordAlone}
 
 pub hushcheck_simple : is_simple hushcheck ≡ true
 unfolding clap_on_literals hushcheck
@@ -28,6 +28,9 @@ clap-refused words WordAlone h = absurd h
 clap-refused words TooManyDevices h = absurd h
 clap-refused words BadSize h = absurd h
 clap-refused words BadFill h = absurd h
+clap-refused words NeedExpect h = absurd h
+clap-refused words NeedEnding h = absurd h
+clap-refused words BadValue h = absurd h
 clap-refused words (Misnamed error) h = absurd h
 
 -- a name that no shell has, a variable beside a script, or words that name no images
@@ -42,4 +45,7 @@ entries-refused words WordAlone accepted h = absurd h
 entries-refused words TooManyDevices accepted h = absurd h
 entries-refused words BadSize accepted h = absurd h
 entries-refused words BadFill accepted h = absurd h
+entries-refused words NeedExpect accepted h = absurd h
+entries-refused words NeedEnding accepted h = absurd h
+entries-refused words BadValue accepted h = absurd h
 entries-refused words (Misnamed error) accepted h = (accepted, h)

@@ -15,7 +15,7 @@ use Rattle.tool_words.specs.declared.answer.Answer.{Answer}
 use Rattle.tool_words.specs.declared.answer.Answer.TheVariants.{Asks, Help, Version}
 use Rattle.tool_words.specs.declared.ask.UseError.{UseError}
 use Rattle.tool_words.specs.declared.called.CalledAs.{CalledAs}
-use Rattle.tool_words.specs.declared.ask.UseError.TheVariants.{BadFill, BadSize, Line, LockNeedsFolder, NeedName, ScriptAndName, HeaderNeedsOne, Misnamed, WordAlone, TooManyDevices, Memory}
+use Rattle.tool_words.specs.declared.ask.UseError.TheVariants.{BadFill, BadSize, BadValue, Line, LockNeedsFolder, NeedEnding, NeedExpect, NeedName, ScriptAndName, HeaderNeedsOne, Misnamed, WordAlone, TooManyDevices, Memory}
 use Rattle.tool_words.specs.Asked.{Asked, asked_of, lock_of}
 use Rattle.tool_words.specs.CommandAnswers.{Answers, NamesLock, Says, asked}
 use Rattle.tool_words.specs.Answered.{AnswersBy, IsAccepted, Refuses, Reports}
@@ -43,6 +43,9 @@ accepted_answer called words a (Err BadSize) fine is says = (fine, says ∙ is)
 accepted_answer called words a (Err BadFill) fine is says = (fine, says ∙ is)
 accepted_answer called words a (Err WordAlone) fine is says = (fine, says ∙ is)
 accepted_answer called words a (Err TooManyDevices) fine is says = (fine, says ∙ is)
+accepted_answer called words a (Err NeedExpect) fine is says = (fine, says ∙ is)
+accepted_answer called words a (Err NeedEnding) fine is says = (fine, says ∙ is)
+accepted_answer called words a (Err BadValue) fine is says = (fine, says ∙ is)
 accepted_answer called words a (Err (Line text)) fine is says = inr (fine, says ∙ is)
 accepted_answer called words a (Err Memory) fine is says = tt
 
@@ -59,6 +62,9 @@ refused_answer called app words BadSize alike is = absurd is
 refused_answer called app words BadFill alike is = absurd is
 refused_answer called app words WordAlone alike is = absurd is
 refused_answer called app words TooManyDevices alike is = absurd is
+refused_answer called app words NeedExpect alike is = absurd is
+refused_answer called app words NeedEnding alike is = absurd is
+refused_answer called app words BadValue alike is = absurd is
 
 -- an error of `clap`, for any program
 pub reported : {T : Type 0} (app : App) (words : List Text) (Means : T → Type 0) (k : ErrorKind) (r : Result (Answer T) UseError) → (k ≡ OutOfMemory) ⊎ IsAmong k (fault_of app words) → Reports k r → AnswersBy app words Means r
@@ -89,6 +95,9 @@ reported app words Means k (Err BadSize) among is = absurd is
 reported app words Means k (Err BadFill) among is = absurd is
 reported app words Means k (Err WordAlone) among is = absurd is
 reported app words Means k (Err TooManyDevices) among is = absurd is
+reported app words Means k (Err NeedExpect) among is = absurd is
+reported app words Means k (Err NeedEnding) among is = absurd is
+reported app words Means k (Err BadValue) among is = absurd is
 
 -- the subcommand that a parse entered, from its name and its entries
 pub subcommand_met : (m : ArgMatches) (name : Text) (rows : List Row) → Some name ≡ subcommand_name_of m

@@ -13,7 +13,7 @@ use Rattle.clap.specs.declared.builder.command.Command.{Command}
 use Rattle.clap.specs.declared.builder.command.Command.TheViews.{out-Command}
 use Rattle.tool_words.specs.declared.argument.Argument.{Argument}
 use Rattle.tool_words.specs.declared.argument.Form.{Form}
-use Rattle.tool_words.specs.declared.argument.Form.TheVariants.{Flag, Number, Value, Word, Words}
+use Rattle.tool_words.specs.declared.argument.Form.TheVariants.{Flag, Number, Value, Values, Word, Words}
 use Rattle.std.specs.Option.{option_map}
 use Rattle.std.specs.Str.{bytes_eq}
 use Rattle.tool_words.specs.declared.subcommand.Subcommand.{Subcommand}
@@ -25,6 +25,7 @@ use Rattle.tool_words.specs.Made.{IsMade}
 no_aliases : (form : Form) (id : Text) → (rule_of_form form id).aliases ≡ []
 no_aliases Flag id = refl
 no_aliases Value id = refl
+no_aliases Values id = refl
 no_aliases (Number least most) id = refl
 no_aliases Word id = refl
 no_aliases Words id = refl

@@ -9,7 +9,7 @@ use Rattle.tool_words.specs.CommandLine.{ubtool}
 use Rattle.tool_words.proofs.CommandLineExamples.{AsksFor, IsRefused, IsUnread, read_from, usual_list}
 
 -- what is asked for if no option says otherwise
-abbrev usual : Boots
+abbrev pub usual : Boots
 usual = record {
   variable = codes "bootcmd";
   bounds = record { devices = 1000; steps = 1000000; failures = None; shell = Profile };
@@ -19,6 +19,8 @@ usual = record {
   boots = 1000;
   failures = None;
   names = [];
+  changes = None;
+  expected = None;
 }
 
 -- boots -d d
@@ -27,9 +29,9 @@ all_boots : AsksFor (codes "boots" ∷ codes "-d" ∷ codes "d" ∷ [])
 unfolding clap_on_literals ubtool
 all_boots = (refl, refl)
 
--- boots -i f --second g --big-endian -d d --files s --steady --given 2 -b q --devices 3 --steps 4 --shell modern --states 5 --work 6 --memory 7 --boots 8 --failures 9 x y
+-- boots -i f --second g --big-endian -d d --files s --steady --given 2 -b q --devices 3 --steps 4 --shell modern --states 5 --work 6 --memory 7 --boots 8 --failures 9 --then t --expect boot --within 10 --expect-var y=1 --expect-var z=2 x y
 all_options : AsksFor
-    (codes "boots" ∷ codes "-i" ∷ codes "f" ∷ codes "--second" ∷ codes "g" ∷ codes "--big-endian" ∷ codes "-d" ∷ codes "d" ∷ codes "--files" ∷ codes "s" ∷ codes "--steady" ∷ codes "--given" ∷ codes "2" ∷ codes "-b" ∷ codes "q" ∷ codes "--devices" ∷ codes "3" ∷ codes "--steps" ∷ codes "4" ∷ codes "--shell" ∷ codes "modern" ∷ codes "--states" ∷ codes "5" ∷ codes "--work" ∷ codes "6" ∷ codes "--memory" ∷ codes "7" ∷ codes "--boots" ∷ codes "8" ∷ codes "--failures" ∷ codes "9" ∷ codes "x" ∷ codes "y" ∷ [])
+    (codes "boots" ∷ codes "-i" ∷ codes "f" ∷ codes "--second" ∷ codes "g" ∷ codes "--big-endian" ∷ codes "-d" ∷ codes "d" ∷ codes "--files" ∷ codes "s" ∷ codes "--steady" ∷ codes "--given" ∷ codes "2" ∷ codes "-b" ∷ codes "q" ∷ codes "--devices" ∷ codes "3" ∷ codes "--steps" ∷ codes "4" ∷ codes "--shell" ∷ codes "modern" ∷ codes "--states" ∷ codes "5" ∷ codes "--work" ∷ codes "6" ∷ codes "--memory" ∷ codes "7" ∷ codes "--boots" ∷ codes "8" ∷ codes "--failures" ∷ codes "9" ∷ codes "--then" ∷ codes "t" ∷ codes "--expect" ∷ codes "boot" ∷ codes "--within" ∷ codes "10" ∷ codes "--expect-var" ∷ codes "y=1" ∷ codes "--expect-var" ∷ codes "z=2" ∷ codes "x" ∷ codes "y" ∷ [])
     (booting (record {
       origin = whole (codes "f") (Some (codes "g"));
       device_list = codes "d";
@@ -44,7 +46,9 @@ all_options : AsksFor
       memory = 7;
       boots = 8;
       failures = Some 9;
-      names = codes "x" ∷ codes "y" ∷ [];
+      names = codes "x" ∷ codes "y" ∷ codes "z" ∷ [];
+      changes = Some (codes "t");
+      expected = Some (record { ending = codes "boot"; within = Some 10; values = (codes "y", codes "1") ∷ (codes "z", codes "2") ∷ [] });
     }) Big)
 unfolding clap_on_literals ubtool
 all_options = (refl, refl)

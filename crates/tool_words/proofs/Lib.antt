@@ -1,6 +1,7 @@
 pub mod ArgumentLemmas
 pub mod MadeLemmas
 pub mod EntryLemmas
+pub mod ExpectedLemmas
 pub mod OneSubcommand
 pub mod AnswerLemmas
 pub mod CommandLineExamples
@@ -8,7 +9,8 @@ mod PrintExamples
 mod SetExamples
 mod RehearseExamples
 mod EndingsExamples
-mod BootsExamples
+pub mod BootsExamples
+mod ExpectExamples
 mod CausesExamples
 mod TextExamples
 mod ScriptExamples

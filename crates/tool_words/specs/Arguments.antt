@@ -9,7 +9,7 @@ use Rattle.clap.specs.declared.builder.command.Command.TheViews.{out-Command}
 use Rattle.clap.specs.declared.builder.value_parser.ValueParser.TheVariants as parser
 use Rattle.tool_words.specs.declared.argument.Argument.{Argument}
 use Rattle.tool_words.specs.declared.argument.Form.{Form}
-use Rattle.tool_words.specs.declared.argument.Form.TheVariants.{Flag, Number, Value, Word, Words}
+use Rattle.tool_words.specs.declared.argument.Form.TheVariants.{Flag, Number, Value, Values, Word, Words}
 use Rattle.tool_words.specs.declared.subcommand.Subcommand.{Subcommand}
 
 -- `--word VALUE`
@@ -24,6 +24,10 @@ lettered_option id letter = record (long_option id) { short = Some letter }
 abbrev pub number_option : Text → ℕ → ℕ → Rule
 number_option id least most =
     record (long_option id) { parser = Some (parser.Signed (pos least) (pos most)) }
+
+-- `--word VALUE`, as often as it is given
+abbrev pub repeated_option : Text → Rule
+repeated_option id = record (long_option id) { action = Some Append }
 
 -- `--word`
 abbrev pub long_flag : Text → Rule
@@ -45,6 +49,7 @@ many id = record (new_rule id) { value_names = 1; action = Some Append }
 abbrev pub rule_of_form : Form → Text → Rule
 rule_of_form Flag id = long_flag id
 rule_of_form Value id = long_option id
+rule_of_form Values id = repeated_option id
 rule_of_form (Number least most) id = number_option id least most
 rule_of_form Word id = one id
 rule_of_form Words id = many id

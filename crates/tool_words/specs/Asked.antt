@@ -1,12 +1,14 @@
 -- What the words of a call ask for, from the subcommand and the entries that `clap` finds in them.
 -- What the options mean is ours; `printenv` and `setenv` follow fw_printenv and fw_setenv, and the
 -- configuration's default path is theirs (U-Boot, tools/env README).
-use Rattle.std.specs.Prelude.{◌==◌, ◌&&◌, ◌||◌, is_some, ℕ, Bool, true, false, not, List, [], length, Option, Some, None, Result, Ok, Err, codes, unwrap_or, option_map, ◌^◌, option_and_then, if◌then◌else◌, nat_le, nat_lt}
+use Rattle.std.specs.Prelude.{◌==◌, ◌&&◌, ◌||◌, is_some, ℕ, Bool, true, false, not, List, [], ◌∷◌, ◌++◌, length, Option, Some, None, Result, Ok, Err, codes, unwrap_or, option_map, ◌^◌, option_and_then, if◌then◌else◌, nat_le, nat_lt}
+use Rattle.std.specs.List.{after_first, before_first, fold, list_any, position_or_len}
 use Rattle.std.specs.Str.{bytes_eq}
 use Rattle.std.specs.Option.{option_map_or}
 use Rattle.std.specs.Str.Parse.{digits_value}
 use Rattle.clap.specs.Words.{Row, Text, all_of, first_of}
 use Rattle.clap.specs.ValueTests.{is_numeral}
+use Rattle.text.specs.Words.{is_equals}
 use Rattle.envimage.specs.declared.image.ByteOrder.{ByteOrder}
 use Rattle.envimage.specs.declared.image.ByteOrder.TheVariants.{Big, Little}
 use Rattle.envtools.specs.declared.print_form.PrintForm.{PrintForm}
@@ -20,6 +22,7 @@ use Rattle.rehearse_terms.specs.Bounds.{BoundsShown, bounds_of, in_shell, run_bo
 use Rattle.rehearse_terms.specs.declared.shell.Shell.{Shell}
 use Rattle.rehearse_terms.specs.declared.shell.Shell.TheVariants.{Modern2025, Old2023, Old2025, Profile}
 use Rattle.tool_words.specs.Numbers.{any_number, byte_of}
+use Rattle.tool_words.specs.declared.ask.BootNumbers.{BootNumbers}
 use Rattle.tool_words.specs.declared.ask.ImageAsk.{ImageAsk}
 use Rattle.tool_words.specs.declared.ask.Limits.{Limits}
 use Rattle.tool_words.specs.declared.ask.Taking.{Taking}
@@ -56,6 +59,14 @@ pub record Endings : Type 0 where
   pub names : List Text
   pub flow : Bool
 
+-- what is expected of each boot
+pub record Expected : Type 0 where
+  pub ending : Text
+  -- how many boots may lead to it; nothing for any number
+  pub within : Option ℕ
+  -- variables, each with the value that the ending leaves; an empty value says that the variable is not set
+  pub values : List (Text × Text)
+
 -- what `boots` is asked for
 pub record Boots : Type 0 where
   pub variable : Text
@@ -69,8 +80,11 @@ pub record Boots : Type 0 where
   pub boots : ℕ
   -- the failures of the endings that are followed; nothing for any number
   pub failures : Option ℕ
-  -- the variables whose values distinguish runs
+  -- the variables whose values distinguish runs: those that are named, and then those of which a value is expected
   pub names : List Text
+  -- the path of a script of changes that may follow a boot
+  pub changes : Option Text
+  pub expected : Option Expected
 
 -- what `causes` is asked for
 pub record Causes : Type 0 where
@@ -99,6 +113,9 @@ pub data Asked : Type 0 where
   misnamed : (error : OriginError) → Asked
   word_alone : Asked
   too_many_devices : Asked
+  needs_expect : Asked
+  needs_ending : Asked
+  bad_value : Asked
 
 -- ---- the entries of a subcommand
 
@@ -414,27 +431,98 @@ endings_asked rows =
 abbrev pub usual_boots : ℕ
 usual_boots = 1000
 
--- with a device list, bounds, limits, a number of boots and one of failures that can be read
-abbrev pub boots_with : Option (Text × Taking) → Option BoundsShown → Option Limits → (boots failures : Option (Option ℕ)) →
-    Shell → List Row → Option Asked
-boots_with (Some list) (Some bounds) (Some limits) (Some boots) (Some failures) shell rows =
-    Some (of_named (inputs_asked list.0 list.1 rows) (λ inputs. booting inputs (record {
-      variable = variable_of rows;
-      bounds = in_shell shell bounds;
-      states = limits.states;
-      work = limits.work;
-      memory = limits.memory;
-      boots = unwrap_or boots usual_boots;
-      failures = failures;
-      names = values_of (codes "names") rows;
-    }) (order_of rows)))
-boots_with _ _ _ _ _ shell rows = None
+-- the number of boots that is given, or the usual one
+abbrev pub numbers_with : (boots failures within : Option ℕ) → BootNumbers
+numbers_with boots failures within =
+    record { boots = unwrap_or boots usual_boots; failures = failures; within = within }
 
--- the failures are at most 32
+-- how many boots are rehearsed, of at most how many failures, and within how many boots, at least 1, an ending is expected: the
+-- failures are at most 32
+abbrev pub numbers_asked : List Row → Option BootNumbers
+numbers_asked rows =
+    option_and_then (λ boots. option_and_then (λ failures. option_map (numbers_with boots failures)
+    (number_within 1 most_boots (codes "within") rows))
+    (number_within 0 most_failures (codes "failures") rows))
+    (number_within 0 most_boots (codes "boots") rows)
+
+-- `NAME=VALUE`: its first `=` is not its first byte. NAME is what comes before it, and VALUE what comes after it
+abbrev pub has_name : Text → Bool
+has_name text = nat_lt 0 (position_or_len is_equals text) && nat_lt (position_or_len is_equals text) (length text)
+
+abbrev pub named_value : Text → Option (Text × Text)
+named_value text =
+    if has_name text then Some (before_first is_equals text, after_first is_equals text) else None
+
+-- all of them, in their order; nothing if one has no NAME
+abbrev pub named_values : List Text → Option (List (Text × Text))
+named_values [] = Some []
+named_values (text ∷ rest) =
+    option_and_then (λ value. option_map (λ values. value ∷ values) (named_values rest)) (named_value text)
+
+-- what is expected, if anything is; or the refusal that the words meet
+abbrev pub ExpectedAsked : Type 0
+ExpectedAsked = Result (Option Expected) Asked
+
+-- this ending, which is not empty, with these values
+abbrev pub ending_expected : Text → (within : Option ℕ) → (said : List Text) → ExpectedAsked
+ending_expected [] within said = Err needs_ending
+ending_expected word within said =
+    option_map_or (λ values. Ok (Some (record { ending = word; within = within; values = values })))
+    (named_values said) (Err bad_value)
+
+-- a number of boots, or a value, needs an ending beside it
+abbrev pub expected_by : Option Text → (within : Option ℕ) → (said : List Text) → ExpectedAsked
+expected_by None within said = if is_some within || nat_lt 0 (length said) then Err needs_expect else Ok None
+expected_by (Some word) within said = ending_expected word within said
+
+abbrev pub expected_asked : (within : Option ℕ) → List Row → ExpectedAsked
+expected_asked within rows =
+    expected_by (first_of (codes "expect") rows) within (values_of (codes "expect-var") rows)
+
+-- the names, and the name after them if it is not among them
+abbrev pub with_name : List Text → Text → List Text
+with_name names name = if list_any (bytes_eq name) names then names else names ++ name ∷ []
+
+-- the names, and after them those of these values that are not among them, each once
+abbrev pub with_expected : List Text → List (Text × Text) → List Text
+with_expected = fold (λ names value. with_name names value.0)
+
+-- the values that are expected
+abbrev pub expected_values : Option Expected → List (Text × Text)
+expected_values expected = option_map_or (λ e. e.values) expected []
+
+-- in these bounds, with what is expected
+abbrev pub boots_what : BoundsShown → Limits → BootNumbers → Option Expected → List Row → Boots
+boots_what bounds limits numbers expected rows = record {
+  variable = variable_of rows;
+  bounds = bounds;
+  states = limits.states;
+  work = limits.work;
+  memory = limits.memory;
+  boots = numbers.boots;
+  failures = numbers.failures;
+  names = with_expected (values_of (codes "names") rows) (expected_values expected);
+  changes = first_of (codes "then") rows;
+  expected = expected;
+}
+
+-- by the rules of this shell
+abbrev pub boots_by : (list : Text × Taking) → BoundsShown → Limits → BootNumbers → Shell → List Row → ExpectedAsked → Asked
+boots_by list bounds limits numbers shell rows (Ok expected) = of_named (inputs_asked list.0 list.1 rows)
+    (λ inputs. booting inputs (boots_what (in_shell shell bounds) limits numbers expected rows) (order_of rows))
+boots_by list bounds limits numbers shell rows (Err refusal) = refusal
+
+-- with a device list, bounds, limits and numbers that can be read
+abbrev pub boots_with : Option (Text × Taking) → Option BoundsShown → Option Limits → Option BootNumbers → Shell →
+    List Row → Option Asked
+boots_with (Some list) (Some bounds) (Some limits) (Some numbers) shell rows =
+    Some (boots_by list bounds limits numbers shell rows (expected_asked numbers.within rows))
+boots_with _ _ _ _ shell rows = None
+
 abbrev pub boots_asked : List Row → Option Asked
 boots_asked rows =
-    option_and_then (λ shell. boots_with (list_asked rows) (run_bounds_asked rows) (limits_asked rows)
-    (number_within 0 most_boots (codes "boots") rows) (number_within 0 most_failures (codes "failures") rows) shell rows)
+    option_and_then (λ shell. boots_with (list_asked rows) (run_bounds_asked rows) (limits_asked rows) (numbers_asked rows)
+    shell rows)
     (shell_of rows)
 
 -- how many device commands may fail if no number is given

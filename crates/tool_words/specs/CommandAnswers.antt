@@ -12,6 +12,7 @@ use Rattle.tool_words.specs.declared.ask.CausesAsk.{CausesAsk}
 use Rattle.tool_words.specs.declared.ask.Change.{Change}
 use Rattle.tool_words.specs.declared.ask.Change.TheVariants.{Input, One, Script}
 use Rattle.tool_words.specs.declared.ask.EndingsAsk.{EndingsAsk}
+use Rattle.tool_words.specs.declared.ask.ExpectedAsk.{ExpectedAsk}
 use Rattle.tool_words.specs.declared.ask.Inputs.{Inputs}
 use Rattle.tool_words.specs.declared.called.CalledAs.{CalledAs}
 use Rattle.tool_words.specs.declared.ask.Origin.{Origin}
@@ -19,11 +20,12 @@ use Rattle.tool_words.specs.declared.ask.Origin.TheVariants as named
 use Rattle.tool_words.specs.declared.ask.OriginError.{OriginError}
 use Rattle.tool_words.specs.declared.ask.RehearseAsk.{RehearseAsk}
 use Rattle.tool_words.specs.declared.ask.UseError.{UseError}
+use Rattle.tool_words.specs.declared.ask.ValueAsk.{ValueAsk}
 use Rattle.rehearse_terms.specs.declared.wanted.Wanted.{Wanted}
-use Rattle.tool_words.specs.declared.ask.UseError.TheVariants.{BadFill, BadSize, Line, LockNeedsFolder, NeedName, ScriptAndName, HeaderNeedsOne, Memory, Misnamed, TooManyDevices, WordAlone}
+use Rattle.tool_words.specs.declared.ask.UseError.TheVariants.{BadFill, BadSize, BadValue, Line, LockNeedsFolder, NeedEnding, NeedExpect, NeedName, ScriptAndName, HeaderNeedsOne, Memory, Misnamed, TooManyDevices, WordAlone}
 use Rattle.tool_words.specs.Answered.{IsAccepted, IsMistaken}
 use Rattle.tool_words.specs.Asked as what
-use Rattle.tool_words.specs.Asked.{Asked, InputsShown, WantedAsked, OriginShown, asked_of, bad_fill, bad_size, booting, causing, configured, ending, input_scripted, inspecting, lock_of, making, no_images, printing, setting, scripted, rehearsing, lock_needs_folder, needs_name, script_and_name, header_needs_one, misnamed, texts, too_many_devices, whole, word_alone}
+use Rattle.tool_words.specs.Asked.{Asked, Expected, ExpectedAsked, InputsShown, WantedAsked, OriginShown, asked_of, bad_fill, bad_size, bad_value, booting, causing, configured, ending, input_scripted, inspecting, lock_of, making, no_images, printing, setting, scripted, rehearsing, lock_needs_folder, needs_ending, needs_expect, needs_name, script_and_name, header_needs_one, misnamed, texts, too_many_devices, whole, word_alone}
 use Rattle.tool_words.specs.CommandLine.{ubtool}
 use Rattle.rehearse_terms.specs.WantedShown.{wanted_bounds, wanted_strings}
 use Rattle.rehearse_terms.specs.Asking.{Asking}
@@ -47,6 +49,16 @@ endings_of e = record {
   flow = e.flow;
 }
 
+abbrev pub value_shown : ValueAsk → Text × Text
+value_shown value = (string_bytes value.name, string_bytes value.value)
+
+abbrev pub expected_shown : ExpectedAsk → Expected
+expected_shown expected = record {
+  ending = string_bytes expected.ending;
+  within = expected.within;
+  values = map value_shown expected.values.items;
+}
+
 abbrev pub boots_of : BootsAsk → what.Boots
 boots_of b = record {
   variable = string_bytes b.name;
@@ -57,6 +69,8 @@ boots_of b = record {
   boots = b.boots;
   failures = b.failures;
   names = map string_bytes b.names.items;
+  changes = option_map string_bytes b.changes;
+  expected = option_map expected_shown b.expected;
 }
 
 abbrev pub causes_of : CausesAsk → what.Causes
@@ -123,6 +137,9 @@ Answers called words (Err BadSize) = IsAccepted ubtool words × (Some bad_size �
 Answers called words (Err BadFill) = IsAccepted ubtool words × (Some bad_fill ≡ asked called words)
 Answers called words (Err WordAlone) = IsAccepted ubtool words × (Some word_alone ≡ asked called words)
 Answers called words (Err TooManyDevices) = IsAccepted ubtool words × (Some too_many_devices ≡ asked called words)
+Answers called words (Err NeedExpect) = IsAccepted ubtool words × (Some needs_expect ≡ asked called words)
+Answers called words (Err NeedEnding) = IsAccepted ubtool words × (Some needs_ending ≡ asked called words)
+Answers called words (Err BadValue) = IsAccepted ubtool words × (Some bad_value ≡ asked called words)
 Answers called words (Err (Line text)) = IsMistaken ubtool words ⊎ (IsAccepted ubtool words × (None ≡ asked called words))
 Answers called words (Err Memory) = Unit {0}
 
@@ -146,6 +163,9 @@ Says a (Err BadSize) = Some bad_size ≡ a
 Says a (Err BadFill) = Some bad_fill ≡ a
 Says a (Err WordAlone) = Some word_alone ≡ a
 Says a (Err TooManyDevices) = Some too_many_devices ≡ a
+Says a (Err NeedExpect) = Some needs_expect ≡ a
+Says a (Err NeedEnding) = Some needs_ending ≡ a
+Says a (Err BadValue) = Some bad_value ≡ a
 Says a (Err (Line text)) = None ≡ a
 Says a (Err Memory) = Unit {0}
 
@@ -157,6 +177,15 @@ SaysWanted a (Err TooManyDevices) = Some (Err too_many_devices) ≡ a
 SaysWanted a (Err (Line text)) = None ≡ a
 SaysWanted a (Err Memory) = Unit {0}
 SaysWanted a (Err error) = ⊥
+
+-- the same for what is expected of boots
+abbrev pub SaysExpected : ExpectedAsked → Result (Option ExpectedAsk) UseError → Type 0
+SaysExpected a (Ok expected) = Ok (option_map expected_shown expected) ≡ a
+SaysExpected a (Err NeedExpect) = Err needs_expect ≡ a
+SaysExpected a (Err NeedEnding) = Err needs_ending ≡ a
+SaysExpected a (Err BadValue) = Err bad_value ≡ a
+SaysExpected a (Err Memory) = Unit {0}
+SaysExpected a (Err error) = ⊥
 
 -- the same for what names the images
 abbrev pub SaysOrigin : Result OriginShown OriginError → Result Origin UseError → Type 0

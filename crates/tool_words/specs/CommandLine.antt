@@ -6,7 +6,7 @@ use Rattle.std.specs.Option.{option_map_or}
 use Rattle.std.specs.Str.{bytes_eq}
 use Rattle.clap.specs.Words.{App, Rule, Shape, Text, new_app}
 use Rattle.clap.specs.Simple.{on_top}
-use Rattle.tool_words.specs.Arguments.{command, lettered_flag, lettered_option, long_option, many, number_option, one, with_subcommands}
+use Rattle.tool_words.specs.Arguments.{command, lettered_flag, lettered_option, long_option, many, number_option, one, repeated_option, with_subcommands}
 pub use Rattle.tool_words.specs.Arguments.{long_flag}
 use Rattle.rehearse_terms.specs.Bounds.{most_run_devices, most_steps}
 
@@ -173,9 +173,24 @@ most_boots = 4294967295
 abbrev pub boot_bound : Rule
 boot_bound = number_option (codes "boots") 0 most_boots
 
+-- `--then FILE`, a script of changes that may follow a boot
+abbrev pub changes : Rule
+changes = long_option (codes "then")
+
+-- `--expect ENDING`, which is expected of each boot; within how many boots; and `--expect-var NAME=VALUE`, a value that it
+-- leaves, as often as it is given
+abbrev pub expect : Rule
+expect = long_option (codes "expect")
+
+abbrev pub within : Rule
+within = number_option (codes "within") 1 most_boots
+
+abbrev pub expect_variable : Rule
+expect_variable = repeated_option (codes "expect-var")
+
 abbrev pub boots : App
 boots = command (codes "boots")
-    (config ∷ image ∷ second ∷ text_file ∷ big_endian ∷ device_list ∷ files ∷ steady ∷ given ∷ variable ∷ script_file ∷ devices ∷ steps ∷ shell ∷ states ∷ work ∷ memory ∷ boot_bound ∷ failures ∷ names ∷ [])
+    (config ∷ image ∷ second ∷ text_file ∷ big_endian ∷ device_list ∷ files ∷ steady ∷ given ∷ variable ∷ script_file ∷ devices ∷ steps ∷ shell ∷ states ∷ work ∷ memory ∷ boot_bound ∷ failures ∷ changes ∷ expect ∷ within ∷ expect_variable ∷ names ∷ [])
 
 -- how many device commands may fail in a run that `causes` looks at, and the greatest number of them that can be allowed
 abbrev pub most_cause_failures : ℕ

@@ -3,7 +3,7 @@ ghost use Rattle.std.specs.Prelude.{◌≡◌, IfOk, false, map};
 ghost use Rattle.clap.specs.Words.{rule_of, with_rule};
 ghost use Rattle.tool_words.specs.Arguments.{Adds, rule_of_form, rule_of_row, unaliased};
 
-use crate::kinds::{long_flag, long_option, many, number_option, one};
+use crate::kinds::{long_flag, long_option, many, number_option, one, repeated_option};
 use clap::{Arg, Command};
 use std::alloc::{AllocError, Global};
 
@@ -14,6 +14,8 @@ pub enum Form {
     Flag,
     /// The option `--word VALUE`.
     Value,
+    /// The option `--word VALUE`, as often as it is given.
+    Values,
     /// The option `--word VALUE`, a whole number from the first to the second.
     Number(u32, u32),
     /// The word `[NAME]`.
@@ -49,6 +51,7 @@ fn formed<'a>(alloc: Global, row: &Argument<'a>) -> Arg<'a>
     match row.form {
         Form::Flag => long_flag(alloc, row.id),
         Form::Value => long_option(alloc, row.id, row.value),
+        Form::Values => repeated_option(alloc, row.id, row.value),
         Form::Number(least, most) => number_option(alloc, row.id, row.value, least, most),
         Form::Word => one(alloc, row.id, row.value),
         Form::Words => many(alloc, row.id, row.value),

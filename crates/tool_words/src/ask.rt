@@ -270,6 +270,37 @@ pub struct EndingsAsk {
     pub flow: bool,
 }
 
+/// The value that an ending is expected to leave of a variable.
+#[derive(Debug, Drop)]
+pub struct ValueAsk {
+    /// The variable, which is not empty.
+    pub name: String,
+    /// Its value; an empty one if the variable is not to be set.
+    pub value: String,
+}
+
+/// What is expected of each boot.
+#[derive(Debug, Drop)]
+pub struct ExpectedAsk {
+    /// The ending that each boot is to lead to, which is not empty.
+    pub ending: String,
+    /// The most boots that may lead to it; none for any number.
+    pub within: Option<u32>,
+    /// The values that the ending leaves, in the order of the words.
+    pub values: Vec<ValueAsk>,
+}
+
+/// The numbers that `boots` is given.
+#[derive(Clone, Copy, Debug)]
+pub(crate) struct BootNumbers {
+    /// The most boots to rehearse.
+    pub(crate) boots: u32,
+    /// The most failures of the endings that are followed; none for any number.
+    pub(crate) failures: Option<u32>,
+    /// The most boots that may lead to the ending that is expected; none for any number.
+    pub(crate) within: Option<u32>,
+}
+
 /// What `boots` is to write.
 #[derive(Debug, Drop)]
 pub struct BootsAsk {
@@ -287,8 +318,13 @@ pub struct BootsAsk {
     pub boots: u32,
     /// The most failures of the endings that are followed; none for any number.
     pub failures: Option<u32>,
-    /// The variables whose values distinguish runs, in this order.
+    /// The variables whose values distinguish runs, in this order: those that are named, and then those of which a value
+    /// is expected.
     pub names: Vec<String>,
+    /// The path of a script of changes that may follow a boot, if one is given.
+    pub changes: Option<String>,
+    /// What is expected of each boot, if anything is.
+    pub expected: Option<ExpectedAsk>,
 }
 
 /// What `causes` is to write.
@@ -336,6 +372,15 @@ pub enum UseError {
     /// `rehearse` is given a device bound of a run for a listing in which many device commands may fail.
     #[error("--devices above 32 needs --word, or --failures of at most 3")]
     TooManyDevices,
+    /// `boots` is given a number of boots or a value that is expected, and no ending.
+    #[error("--within and --expect-var need --expect")]
+    NeedExpect,
+    /// `boots` is given an empty word as the ending that is expected.
+    #[error("--expect needs an ending")]
+    NeedEnding,
+    /// A value that is expected has no name.
+    #[error("--expect-var needs NAME=VALUE")]
+    BadValue,
     /// Memory ran out.
     #[error("out of memory")]
     Memory,

@@ -1,7 +1,7 @@
 //! Kinds of arguments.
 ghost use Rattle.std.specs.Prelude.{◌≡◌, false};
 ghost use Rattle.clap.specs.Words.{rule_of};
-ghost use Rattle.tool_words.specs.Arguments.{long_flag, long_option, many, number_option, one};
+ghost use Rattle.tool_words.specs.Arguments.{long_flag, long_option, many, number_option, one, repeated_option};
 
 use clap::builder::ValueParser;
 use clap::{Arg, ArgAction};
@@ -13,6 +13,14 @@ pub(crate) fn long_option<'a>(alloc: Global, id: &'a str, value: &'a str) -> Arg
     ensures local { result.global ≡ false }
 {
     Arg::new(alloc, id).long(id).value_name(value)
+}
+
+/// The option `--word VALUE`, as often as it is given.
+pub(crate) fn repeated_option<'a>(alloc: Global, id: &'a str, value: &'a str) -> Arg<'a>
+    ensures rule { rule_of result ≡ repeated_option id.entry.now }
+    ensures local { result.global ≡ false }
+{
+    long_option(alloc, id, value).action(ArgAction::Append)
 }
 
 /// The option `--word VALUE`, a whole number in this range.

@@ -7,6 +7,7 @@ mod argument;
 mod ask;
 mod called;
 mod command;
+mod expected;
 mod kinds;
 mod notes;
 mod number;
@@ -23,8 +24,8 @@ pub use argument::{Argument, Form, with_arguments};
 pub use ask::{
     Ask, BootsAsk, CausesAsk, Change, DEFAULT_BOOTS, DEFAULT_CAUSE_FAILURES, DEFAULT_CONFIG,
     DEFAULT_DEVICES, DEFAULT_MEMORY, DEFAULT_RUN_DEVICES, DEFAULT_RUN_STEPS, DEFAULT_STATES,
-    DEFAULT_STEPS, DEFAULT_VARIABLE, DEFAULT_WORK, EndingsAsk, ImageAsk, Inputs, Origin,
-    OriginError, PrintAsk, RehearseAsk, Taking, UseError,
+    DEFAULT_STEPS, DEFAULT_VARIABLE, DEFAULT_WORK, EndingsAsk, ExpectedAsk, ImageAsk, Inputs,
+    Origin, OriginError, PrintAsk, RehearseAsk, Taking, UseError, ValueAsk,
 };
 pub use called::{CalledAs, called_as, words_called};
 pub use origin::{images_of, origin_beside, origin_of};

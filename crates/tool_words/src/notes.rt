@@ -86,18 +86,14 @@ Example:
 ";
 
 pub(crate) const BOOTS_NOTES: &str = "\
-Boot 1 starts with the environment of the image. However a run ends, the boot
-that follows it starts with what the run has saved, by a call that 'saves' in
-the device list; if it has saved nothing, its own boot follows again. NAMEs and
-variables that scripts set are kept from boot to boot. The lines of the report:
-
-  boot NUMBER
-  var NAME=VALUE
+A boot starts with what a run before it has saved, by a call that 'saves' in the
+device list. Each boot has a line 'boot NUMBER', lines 'var NAME=VALUE' of what
+differs from boot 1, and for each ending a line as this, with 'fails WORDS':
   ends COUNT first WORD fewest FAILURES WORD ENDING next NUMBER
-  fails WORDS
-  all BOOTS
-
-Lines var and unset tell what differs from boot 1. The image is never written.
+The last line is 'all BOOTS'. With --then, the line of an ending that booted has
+also 'then NUMBER'. With --expect, only the boots on the way to the first one
+from which nothing leads to ENDING are written, with 'lost NUMBER' last; status
+1 then. The image is never written.
 
 Example:
   ubtool boots -d devices.txt BOOT_ORDER

@@ -4,20 +4,21 @@ ghost use Rattle.rehearse_terms.specs.Asking.{page_of};
 ghost use Rattle.rehearse_terms.specs.Asking.{HasRoom};
 ghost use Rattle.clap.specs.Words.{Text, first_of, found_of, rows_of, subcommand_rows_of};
 ghost use Rattle.envimage.specs.declared.image.ByteOrder.{ByteOrder as Order};
-ghost use Rattle.tool_words.specs.Asked.{OriginShown, asked_of, boots_asked, bounds_or, cause_bounds_asked, causes_asked, config_of, endings_asked, fill_of, has_no_folder, image_asked, inspect_asked, is_set, limits_asked, list_asked, lock_of, number_given, number_of, number_within, order_of, page_asked, print_asked, rehearse_asked, script_asked, set_asked, size_of, values_of, variable_named, variable_of, wanted_asked, wanted_by};
+ghost use Rattle.tool_words.specs.Asked.{OriginShown, asked_of, boots_asked, boots_what, bounds_or, cause_bounds_asked, causes_asked, config_of, endings_asked, fill_of, has_no_folder, image_asked, inspect_asked, is_set, limits_asked, list_asked, lock_of, number_given, number_of, number_within, numbers_asked, order_of, page_asked, print_asked, rehearse_asked, script_asked, set_asked, size_of, values_of, variable_named, variable_of, wanted_asked, wanted_by};
 ghost use Rattle.rehearse_terms.specs.WantedShown.{wanted_strings};
 ghost use Rattle.tool_words.specs.declared.ask.UseError.TheVariants.{Memory};
-ghost use Rattle.tool_words.specs.CommandAnswers.{Answers, IsUnread, NamesLock, Says, SaysWanted, change_of};
+ghost use Rattle.tool_words.specs.CommandAnswers.{Answers, IsUnread, NamesLock, Says, SaysWanted, boots_of, change_of, expected_shown};
 
 use crate::answer::{Answer, parse};
 use crate::ask::{
-    Ask, BootsAsk, CausesAsk, Change, DEFAULT_BOOTS, DEFAULT_CAUSE_FAILURES, DEFAULT_CONFIG,
-    DEFAULT_DEVICES, DEFAULT_MEMORY, DEFAULT_RUN_DEVICES, DEFAULT_RUN_STEPS, DEFAULT_STATES,
-    DEFAULT_STEPS, DEFAULT_VARIABLE, DEFAULT_WORK, EndingsAsk, ImageAsk, Limits, PrintAsk,
-    RehearseAsk, Taking, UseError,
+    Ask, BootNumbers, BootsAsk, CausesAsk, Change, DEFAULT_BOOTS, DEFAULT_CAUSE_FAILURES,
+    DEFAULT_CONFIG, DEFAULT_DEVICES, DEFAULT_MEMORY, DEFAULT_RUN_DEVICES, DEFAULT_RUN_STEPS,
+    DEFAULT_STATES, DEFAULT_STEPS, DEFAULT_VARIABLE, DEFAULT_WORK, EndingsAsk, ExpectedAsk,
+    ImageAsk, Limits, PrintAsk, RehearseAsk, Taking, UseError,
 };
 use crate::called::CalledAs;
 use crate::command::ubtool_for;
+use crate::expected::{expected_of, with_expected};
 use crate::number::{any_number, byte_of};
 use crate::origin::{images_of, inputs_of, origin_of};
 use crate::shell::{shell_of, unnamed, wanted_in_shell};
@@ -432,6 +433,48 @@ fn endings_ask(alloc: Global, matches: &ArgMatches<'_>) -> Result<Ask, UseError>
     })
 }
 
+/// How many boots are rehearsed, 1,000 if no number is given, of how many failures, and within how many an ending is expected;
+/// `None` if a number is out of its range.
+fn numbers_asked(matches: &ArgMatches<'_>) -> Option<BootNumbers>
+    ensures { result ≡ numbers_asked (rows_of (found_of matches.now)) }
+{
+    let boots = number_within(matches, "boots", 0, u32::MAX)?;
+    let failures = number_within(matches, "failures", 0, FAILURES_MAX)?;
+    let within = number_within(matches, "within", 1, u32::MAX)?;
+    Some(BootNumbers {
+        boots: boots.unwrap_or(DEFAULT_BOOTS),
+        failures,
+        within,
+    })
+}
+
+/// What `boots` is to write within these bounds. Errors: memory ran out.
+fn boots_what(
+    alloc: Global,
+    matches: &ArgMatches<'_>,
+    bounds: RunBounds,
+    limits: Limits,
+    numbers: BootNumbers,
+    expected: Option<ExpectedAsk>,
+) -> Result<BootsAsk, AllocError>
+    ensures { IfOk result (λ what. boots_of what ≡ boots_what bounds limits numbers
+        (option_map expected_shown expected) (rows_of (found_of matches.now))) }
+{
+    let names = texts_of(alloc, matches, "names")?;
+    Ok(BootsAsk {
+        name: variable_of(alloc, matches)?,
+        bounds,
+        states: limits.states,
+        work: limits.work,
+        memory: limits.memory,
+        boots: numbers.boots,
+        failures: numbers.failures,
+        names: with_expected(names, &expected)?,
+        changes: text_of(alloc, matches, "then")?,
+        expected,
+    })
+}
+
 fn boots_ask(alloc: Global, matches: &ArgMatches<'_>) -> Result<Ask, UseError>
     ensures { Says (boots_asked (rows_of (found_of matches.now))) result }
 {
@@ -441,25 +484,20 @@ fn boots_ask(alloc: Global, matches: &ArgMatches<'_>) -> Result<Ask, UseError>
     let list = list_asked(alloc, matches)?;
     let bounds = bounds_or(matches, DEFAULT_RUN_DEVICES, DEFAULT_RUN_STEPS);
     let limits = limits_asked(matches);
-    let boots = number_within(matches, "boots", 0, u32::MAX);
-    let failures = number_within(matches, "failures", 0, FAILURES_MAX);
-    let (Some((path, taking)), Some(bounds), Some(limits), Some(boots), Some(failures)) = (
-        list, bounds, limits, boots, failures,
+    let numbers = numbers_asked(matches);
+    let (Some((path, taking)), Some(bounds), Some(limits), Some(numbers)) = (
+        list, bounds, limits, numbers,
     ) else {
         return Err(unread(alloc));
     };
+    let expected = match expected_of(alloc, matches, numbers.within) {
+        Ok(expected) => expected,
+        Err(error) => return Err(error),
+    };
+    let bounds = bounds.in_shell(shell);
     Ok(Ask::Boots {
         inputs: inputs_of(alloc, matches, path, taking)?,
-        what: BootsAsk {
-            name: variable_of(alloc, matches)?,
-            bounds: bounds.in_shell(shell),
-            states: limits.states,
-            work: limits.work,
-            memory: limits.memory,
-            boots: boots.unwrap_or(DEFAULT_BOOTS),
-            failures,
-            names: texts_of(alloc, matches, "names")?,
-        },
+        what: boots_what(alloc, matches, bounds, limits, numbers, expected)?,
         order: order_of(matches),
     })
 }
@@ -601,8 +639,9 @@ pub fn read_lock<S: AsStr>(alloc: Global, words: &[S]) -> Result<Option<String>,
 /// no shell has. Then both `printenv` and `setenv` refuse an empty folder of the lock (`LockNeedsFolder`),
 /// `setenv` refuses to have no name (`NeedName`) or a script and a name (`ScriptAndName`), and `printenv -n` refuses any number of
 /// names but one (`HeaderNeedsOne`). `rehearse` refuses a word beside `--after` or `--limit`
-/// (`WordAlone`), and a listing with too great a device bound (`TooManyDevices`), and `image` a size or a byte
-/// that is none (`BadSize`, `BadFill`). Last, each of them
+/// (`WordAlone`), and a listing with too great a device bound (`TooManyDevices`), `boots` a number of boots or a value that
+/// is expected without an ending, an empty ending, and a value without a name (`NeedExpect`, `NeedEnding`, `BadValue`), and
+/// `image` a size or a byte that is none (`BadSize`, `BadFill`). Last, each of them
 /// refuses words for what is read that do not go together (`Misnamed`). `Memory` is returned if a growth is
 /// refused.
 pub fn read_command<S: AsStr>(alloc: Global, called: CalledAs, words: &[S]) -> Result<Ask, UseError>

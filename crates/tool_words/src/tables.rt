@@ -347,7 +347,47 @@ const BOOT_BOUND: Argument<'static> = Argument {
     help: "At most N boots [default: 1000]",
 };
 
-const BOOTS: [Argument<'static>; 20] = [
+const CHANGES: Argument<'static> = Argument {
+    id: "then",
+    form: Form::Value,
+    letter: None,
+    alias: None,
+    required: false,
+    value: "FILE",
+    help: "Script of changes, as for setenv -s, that may follow a boot that booted [default: none]",
+};
+
+const EXPECT: Argument<'static> = Argument {
+    id: "expect",
+    form: Form::Value,
+    letter: None,
+    alias: None,
+    required: false,
+    value: "ENDING",
+    help: "Whether each boot leads on to ENDING; status 1 if not [default: not asked]",
+};
+
+const WITHIN: Argument<'static> = Argument {
+    id: "within",
+    form: Form::Number(1, u32::MAX),
+    letter: None,
+    alias: None,
+    required: false,
+    value: "N",
+    help: "With --expect: within N boots, 1 to 4294967295 [default: any number]",
+};
+
+const EXPECT_VAR: Argument<'static> = Argument {
+    id: "expect-var",
+    form: Form::Values,
+    letter: None,
+    alias: None,
+    required: false,
+    value: "NAME=VALUE",
+    help: "With --expect: ENDING leaves NAME with VALUE; may be repeated [default: any values]",
+};
+
+const BOOTS: [Argument<'static>; 24] = [
     CONFIG,
     IMAGE,
     SECOND,
@@ -376,6 +416,10 @@ const BOOTS: [Argument<'static>; 20] = [
         help: "Only endings that N failures or fewer lead to, 0 to 32 [default: all]",
         ..FAILURES
     },
+    CHANGES,
+    EXPECT,
+    WITHIN,
+    EXPECT_VAR,
     Argument {
         help: "Variables whose values to tell apart and write, in this order",
         ..NAMES
