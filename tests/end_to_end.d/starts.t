@@ -226,9 +226,11 @@ the flow of each
   1 ends end 0
 
 faulty lines: the first one counts
-  $ for line in 'given a=1 2' "given a='1" 'given =1' 'given -a=1' "given 'a'=1" 'before a/b' 'before a b'; do
+  $ for line in 'given a=1 2' "given a='1" 'given =1' 'given -a=1' "given 'a'=1" 'before a/b' 'before a b' 'count -a limit b else c' 'count a limit b'; do
   >     printf '%s\n' "$line" 'load x' >list && ubtool endings --text env.txt -d list
   > done
+  ! ubtool: device list line 1: bad line
+  ! ubtool: device list line 1: bad line
   ! ubtool: device list line 1: bad line
   ! ubtool: device list line 1: bad line
   ! ubtool: device list line 1: bad line
@@ -241,6 +243,56 @@ faulty lines: the first one counts
   $ ubtool endings --text env.txt -d list
   ! ubtool: device list line 1: bad line
   [1]
+
+the boot counter: the last try, and the boot after it
+  $ counts() { printf '%s\n' "bootcount=$1" bootlimit=3 upgrade_available=1 altbootcmd=probe bootcmd=load >env.txt; printf '%s\n' load probe 'count bootcount limit bootlimit else altbootcmd' "${@:2}" >list; ubtool rehearse --text env.txt -d list bootcount; }
+  $ counts 2
+  run 0
+  dev 0 load
+  var bootcount=3
+  end 0
+  run 1
+  dev 1 load
+  var bootcount=3
+  end 1
+  done
+  $ counts 3
+  run 0
+  dev 0 probe
+  var bootcount=4
+  end 0
+  run 1
+  dev 1 probe
+  var bootcount=4
+  end 1
+  done
+
+no update is tried, a limit of 0, and an alternative that is not set
+  $ counts 9 'given upgrade_available=0'
+  run 0
+  dev 0 load
+  var bootcount=1
+  end 0
+  run 1
+  dev 1 load
+  var bootcount=1
+  end 1
+  done
+  $ counts 9 'given bootlimit=0'
+  run 0
+  dev 0 load
+  var bootcount=10
+  end 0
+  run 1
+  dev 1 load
+  var bootcount=10
+  end 1
+  done
+  $ counts 9 'given altbootcmd='
+  run .
+  var bootcount=10
+  end 0
+  done
 
 64 alternatives, and one more
   $ seq -f 'given a=%g' 64 >list

@@ -102,6 +102,20 @@ a text that runs first by the list: what it calls is looked up, what it sets cou
   load $b
        ^
 
+the alternative of a boot counter, after the names that are asked for; the counter is set
+  $ image counter bootcmd=load 'altbootcmd=ls; echo $bootcount'
+  $ printf 'load\ncount bootcount limit bootlimit else altbootcmd\n' >counter.list
+  $ hushcheck -c counter.config -d counter.list
+  bootcmd: ok
+  altbootcmd: ok
+  altbootcmd:1:1: the device list lacks ls
+  ls; echo $bootcount
+  ^
+  [1]
+  $ printf 'load\ncount bootcount limit bootlimit else recovery\n' >counter.list
+  $ hushcheck -c counter.config -d counter.list
+  bootcmd: ok
+
 one that is no script, before another name and before all, and one that the list gives
   $ image broken bootcmd=load 'p=if load' q=load
   $ printf 'load\nbefore p\ngiven r=boot\nbefore r\n' >broken.list

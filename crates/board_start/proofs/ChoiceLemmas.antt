@@ -5,8 +5,8 @@ use Rattle.std.specs.Map.{lookup}
 use Rattle.std.specs.Str.{bytes_eq}
 use Rattle.text.specs.Lines.{Text, numbered_lines}
 use Rattle.device_list.specs.DeviceList.{changed_at}
-use Rattle.board_start.specs.StartLines.{Said, Given, Before, Faulty, Other, said}
-use Rattle.board_start.specs.Start.{Values, Start, no_start, count_of, choices, most, has_value, with_value, is_further, with_before, after_said, started_by}
+use Rattle.board_start.specs.StartLines.{Said, Given, Before, Counts, Faulty, Other, said}
+use Rattle.board_start.specs.Start.{Values, Start, no_start, count_of, choices, most, has_value, with_value, is_further, with_before, with_counter, after_said, started_by}
 use Rattle.board_start.specs.StartLaws.{AlternativesAreFew}
 use Rattle.board_start.specs.declared.start_error.StartError.{StartError}
 use Rattle.board_start.specs.declared.start_error.StartError.TheVariants.{TooMany}
@@ -48,6 +48,7 @@ few-after start number (Given name value) next few e = by (is_further start.give
     by true false f m e = few-same (record start { givens = new }) next (ltb-false most (choices new) m) e
     by false many f m e = few-same (record start { givens = new }) next (subst (λ (n : ℕ). n ≤ most) (sym (unchanged start.givens name value f)) few) e
 few-after start number (Before name) next few e = few-same (with_before start name) next few e
+few-after start number (Counts counter) next few e = few-same (with_counter start counter) next few e
 few-after start number Faulty next few e = few-same start next few e
 few-after start number Other next few e = few-same start next few e
 

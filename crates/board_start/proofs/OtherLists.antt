@@ -6,7 +6,7 @@ use Rattle.std.proofs.lemmas.List.Splits.{join_with_byte-slice_split}
 use Rattle.std.specs.List.{list_all, flat_map, enumerate_from, slice_split, join_with_byte}
 use Rattle.text.specs.Lines.{Text, numbered_lines, is_newline}
 use Rattle.device_list.specs.DeviceList.{listed_with}
-use Rattle.board_start.specs.StartLines.{Said, Given, Before, Faulty, Other, said, front, line_left, without_start}
+use Rattle.board_start.specs.StartLines.{Said, Given, Before, Counts, Faulty, Other, said, front, line_left, without_start}
 use Rattle.board_start.specs.Start.{Start, no_start, started_by}
 use Rattle.board_start.specs.Boards.{board_with, board_from}
 use Rattle.board_start.specs.StartLaws.{is_other, OtherListsStand}
@@ -17,6 +17,7 @@ are_other = list_all (λ l. is_other (said l.1))
 is-other : (s : Said) → is_other s ≡ true → s ≡ Other
 is-other (Given name value) e = absurd (let f = e in cc)
 is-other (Before name) e = absurd (let f = e in cc)
+is-other (Counts counter) e = absurd (let f = e in cc)
 is-other Faulty e = absurd (let f = e in cc)
 is-other Other e = refl
 

@@ -1,5 +1,5 @@
 -- Worked examples of what a list says of the start of a board, computed.
-use Rattle.std.proofs.Common.{◌≡◌, List, [], ◌∷◌, ◌++◌, Some, None, Ok, Err, codes, refl}
+use Rattle.std.proofs.Common.{◌≡◌, false, List, [], ◌∷◌, ◌++◌, Some, None, Ok, Err, codes, refl}
 use Rattle.envimage.specs.Data.{Pair}
 use Rattle.envtools.specs.Changes.{with_changes}
 use Rattle.device_list.specs.DeviceList.{Effects, only}
@@ -123,7 +123,7 @@ lines_apart : without_start (codes "given a=b\nload\nbefore c\n") ≡ codes "\nl
 lines_apart = refl
 
 list_of_all : board_of (text_alone (codes "given a=b\nload\nbefore c")) ≡ Ok (record {
-  start = record { givens = (codes "a", record { first = codes "b"; others = [] }) ∷ []; before = codes "c" ∷ [] };
+  start = record { givens = (codes "a", record { first = codes "b"; others = [] }) ∷ []; before = codes "c" ∷ []; counter = None };
   devices = only load_alone;
 })
 list_of_all = refl
@@ -143,6 +143,7 @@ abbrev of_both : Start
 of_both = record {
   givens = (codes "a", record { first = codes "1"; others = codes "2" ∷ codes "3" ∷ [] }) ∷ (codes "b", record { first = codes "x"; others = codes "y" ∷ [] }) ∷ [];
   before = codes "p" ∷ codes "q" ∷ codes "p" ∷ [];
+  counter = None;
 }
 
 values_once : start_of (codes "given a=1\ngiven b=x\nbefore p\ngiven a=2\ngiven a=1\ngiven b=y\nbefore q\ngiven a=3\nbefore p") ≡ Ok of_both
@@ -171,7 +172,7 @@ first_line : given_line of_both 0 ≡ codes "given a=1 b=x\n"
 first_line = refl
 
 abbrev of_one : Start
-of_one = record { givens = (codes "a", record { first = codes "1"; others = [] }) ∷ (codes "b c", record { first = codes "x y"; others = [] ∷ [] }) ∷ []; before = [] }
+of_one = record { givens = (codes "a", record { first = codes "1"; others = [] }) ∷ (codes "b c", record { first = codes "x y"; others = [] ∷ [] }) ∷ []; before = []; counter = None }
 
 line_of_one : given_line of_one 0 ≡ codes "given b\\x20c=x\\x20y\n"
 line_of_one = refl
@@ -203,6 +204,7 @@ abbrev start_of_64 : Start
 start_of_64 = record {
   givens = (codes "a", record { first = codes "1"; others = codes "2" ∷ codes "3" ∷ codes "4" ∷ codes "5" ∷ codes "6" ∷ codes "7" ∷ codes "8" ∷ [] }) ∷ (codes "b", record { first = codes "1"; others = codes "2" ∷ codes "3" ∷ codes "4" ∷ codes "5" ∷ codes "6" ∷ codes "7" ∷ codes "8" ∷ [] }) ∷ [];
   before = [];
+  counter = None;
 }
 
 one_too_many : after_said start_of_64 9 (Given (codes "b") (codes "9")) ≡ Err (TooMany 9)
@@ -223,33 +225,33 @@ value_in_place = refl
 -- ---- the text
 
 abbrev runs_first : Start
-runs_first = record { givens = (codes "q", record { first = codes "x"; others = [] }) ∷ []; before = codes "p" ∷ codes "none" ∷ codes "q" ∷ [] }
+runs_first = record { givens = (codes "q", record { first = codes "x"; others = [] }) ∷ []; before = codes "p" ∷ codes "none" ∷ codes "q" ∷ []; counter = None }
 
 abbrev given_q : List Pair
 given_q = (codes "a", codes "0") ∷ (codes "p", codes "true") ∷ (codes "bootcmd", codes "load") ∷ (codes "q", codes "x") ∷ []
 
 -- the texts that run first, of those that are set, and then the variable
-variable_last : begun runs_first None stored (codes "bootcmd") None ≡ Ok (record { environment = given_q; text = Some (codes "run p\nrun q\nrun bootcmd\n") })
+variable_last : begun runs_first None stored (codes "bootcmd") None ≡ Ok (record { environment = given_q; saves = false; text = Some (codes "run p\nrun q\nrun bootcmd\n") })
 variable_last = refl
 
 -- or the text that is given
-text_last : begun runs_first None stored (codes "boot.scr") (Some (codes "load; reset")) ≡ Ok (record { environment = given_q; text = Some (codes "run p\nrun q\nload; reset") })
+text_last : begun runs_first None stored (codes "boot.scr") (Some (codes "load; reset")) ≡ Ok (record { environment = given_q; saves = false; text = Some (codes "run p\nrun q\nload; reset") })
 text_last = refl
 
 -- a variable that is not set is none
-variable_unset : begun runs_first None stored (codes "altbootcmd") None ≡ Ok (record { environment = given_q; text = None })
+variable_unset : begun runs_first None stored (codes "altbootcmd") None ≡ Ok (record { environment = given_q; saves = false; text = None })
 variable_unset = refl
 
 -- no text runs first, if none of the names is set
-none_first : begun (record { givens = []; before = codes "none" ∷ [] }) None stored (codes "bootcmd") None ≡ Ok (record { environment = stored; text = None })
+none_first : begun (record { givens = []; before = codes "none" ∷ []; counter = None }) None stored (codes "bootcmd") None ≡ Ok (record { environment = stored; saves = false; text = None })
 none_first = refl
 
 -- a name that `run` does not take as it stands
 abbrev odd : List Pair
 odd = (codes "p", codes "true") ∷ (codes "a b", codes "load") ∷ []
 
-odd_name : begun (record { givens = []; before = codes "p" ∷ [] }) None odd (codes "a b") None ≡ Err Name
+odd_name : begun (record { givens = []; before = codes "p" ∷ []; counter = None }) None odd (codes "a b") None ≡ Err Name
 odd_name = refl
 
-odd_name_first : begun no_start None odd (codes "a b") None ≡ Ok (record { environment = odd; text = None })
+odd_name_first : begun no_start None odd (codes "a b") None ≡ Ok (record { environment = odd; saves = false; text = None })
 odd_name_first = refl

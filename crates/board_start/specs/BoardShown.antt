@@ -6,7 +6,7 @@ use Rattle.board_start.specs.declared.start.Begun.{Begun}
 use Rattle.board_start.specs.declared.board.Board.{Board}
 
 abbrev pub begun_shown : Begun → says.Begun
-begun_shown b = record { environment = b.env; text = option_map (λ v. v.items) b.text }
+begun_shown b = record { environment = b.env; saves = b.saves; text = option_map (λ v. v.items) b.text }
 
 abbrev pub board_shown : Board → boards.Board
 board_shown b = record { start = b.start; devices = b.devices }

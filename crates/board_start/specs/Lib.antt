@@ -1,3 +1,4 @@
+pub mod Counter
 pub mod StartLines
 pub mod Start
 pub mod Boards

@@ -10,7 +10,8 @@ use Rattle.envimage.specs.Data.{Pair}
 use Rattle.envtools.specs.Changes.{with_changes}
 use Rattle.envtools.specs.Environment as env
 use Rattle.device_list.specs.DeviceList.{changed_at}
-use Rattle.board_start.specs.StartLines.{Said, Given, Before, Faulty, Other, said, is_plain_name}
+use Rattle.board_start.specs.Counter.{Counter, asked_in, raised_in, saves_in}
+use Rattle.board_start.specs.StartLines.{Said, Given, Before, Counts, Faulty, Other, said, is_plain_name}
 use Rattle.board_start.specs.declared.start_error.StartError.{StartError}
 use Rattle.board_start.specs.declared.start_error.StartError.TheVariants.{TooMany, Alternatives, NoAlternative, Name}
 
@@ -19,13 +20,14 @@ pub record Values : Type 0 where
   pub first : Text
   pub others : List Text
 
--- the variables that are given, and the names of those whose texts run first
+-- the variables that are given, the names of those whose texts run first, and the boot counter, if the board has one
 pub record Start : Type 0 where
   pub givens : List (Text × Values)
   pub before : List Text
+  pub counter : Option Counter
 
 abbrev pub no_start : Start
-no_start = record { givens = []; before = [] }
+no_start = record { givens = []; before = []; counter = None }
 
 -- ---- the lines
 
@@ -67,6 +69,10 @@ checked number further start =
 abbrev pub with_before : Start → (name : Text) → Start
 with_before start name = record start { before = start.before ++ name ∷ [] }
 
+-- the boot counter is that of the last line that has one
+abbrev pub with_counter : Start → Counter → Start
+with_counter start counter = record start { counter = Some counter }
+
 -- one more variable that is given
 abbrev pub after_given : Start → (number : ℕ) → (name value : Text) → Result Start StartError
 after_given start number name value =
@@ -77,6 +83,7 @@ after_given start number name value =
 abbrev pub after_said : Start → (number : ℕ) → Said → Result Start StartError
 after_said start number (Given name value) = after_given start number name value
 after_said start number (Before name) = Ok (with_before start name)
+after_said start number (Counts counter) = Ok (with_counter start counter)
 after_said start number Faulty = Ok start
 after_said start number Other = Ok start
 
@@ -165,23 +172,32 @@ text_behind_all environment (one ∷ more) name text = text_behind environment (
 
 -- ---- the start of a rehearsal
 
--- the environment that a run begins with, and the text that is rehearsed in place of the variable's, if there is one
+-- the environment that a run begins with, whether U-Boot has saved it, and the text that is rehearsed in place of the
+-- variable's, if there is one
 pub record Begun : Type 0 where
   pub environment : List Pair
+  pub saves : Bool
   pub text : Option Text
 
-abbrev pub begun_with : List Pair → Result (Option Text) StartError → Result Begun StartError
-begun_with environment (Ok text) = Ok (record { environment = environment; text = text })
-begun_with environment (Err fault) = Err fault
+abbrev pub begun_with : List Pair → (saves : Bool) → Result (Option Text) StartError → Result Begun StartError
+begun_with environment saves (Ok text) = Ok (record { environment = environment; saves = saves; text = text })
+begun_with environment saves (Err fault) = Err fault
 
-abbrev pub begun_in : List Pair → (before : List Text) → (name : Text) → (text : Option Text) →
+-- the texts that run first, and then what is asked for
+abbrev pub begun_in : List Pair → (saves : Bool) → (before : List Text) → (name : Text) → (text : Option Text) →
     Result Begun StartError
-begun_in environment before name text =
-    begun_with environment (text_behind_all environment (first_texts environment before) name text)
+begun_in environment saves before name text =
+    begun_with environment saves (text_behind_all environment (first_texts environment before) name text)
+
+-- in an environment with the variables that are given: the counter is raised first
+abbrev pub begun_given : Start → List Pair → (name : Text) → (text : Option Text) → Result Begun StartError
+begun_given start given name text =
+    begun_in (raised_in start.counter given) (saves_in start.counter given) start.before name
+    (asked_in start.counter (raised_in start.counter given) text)
 
 abbrev pub begun_at : Start → Result ℕ StartError → List Pair → (name : Text) → (text : Option Text) →
     Result Begun StartError
-begun_at start (Ok place) environment name text = begun_in (with_changes environment (chosen start place)) start.before name text
+begun_at start (Ok place) environment name text = begun_given start (with_changes environment (chosen start place)) name text
 begun_at start (Err fault) environment name text = Err fault
 
 -- how a rehearsal of a variable, or of a text, begins on a board, with the alternative that is named

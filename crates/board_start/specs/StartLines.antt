@@ -1,19 +1,22 @@
--- The lines of a device list that say how a board starts: `given NAME=VALUE` and `before NAME`. Ours; U-Boot's C code sets
--- variables with env_set, and runs the text of preboot before that of bootcmd (common/main.c).
+-- The lines of a device list that say how a board starts: `given NAME=VALUE`, `before NAME` and
+-- `count COUNTER limit LIMIT else VARIABLE`. Ours; U-Boot's C code sets variables with env_set, runs the text of preboot
+-- before that of bootcmd (common/main.c), and has a boot counter (Counter.antt).
 use Rattle.std.specs.Prelude.{ℕ, ◌+◌, ◌==◌, nat_le, ◌||◌, ◌&&◌, not, Bool, true, false, [], ◌∷◌, ◌++◌, length, take, drop, Option, Some, None, option_map, codes, if◌then◌else◌}
 use Rattle.std.specs.Str.{bytes_eq}
 use Rattle.std.specs.List.{list_any, list_all, flat_map, position}
 use Rattle.text.specs.Bytes as ascii
 use Rattle.text.specs.Lines.{Text, numbered_lines}
-use Rattle.text.specs.Words.{has_nul, is_equals, is_space, cut_front, trimmed}
+use Rattle.text.specs.Words.{has_nul, is_equals, is_space, cut_front, trimmed, words_of}
 use Rattle.device_list.specs.Quotes.{is_quote}
 use Rattle.device_list.specs.Settings.{is_variable}
+use Rattle.board_start.specs.Counter.{Counter, count_words}
 
--- what a line says of the start: that a variable is given, or that the text of one runs first; or it would, but is
--- faulty; or it is about something else
+-- what a line says of the start: that a variable is given, or that the text of one runs first, or that the board has a boot
+-- counter; or it would, but is faulty; or it is about something else
 pub data Said : Type 0 where
   Given : (name value : Text) → Said
   Before : (name : Text) → Said
+  Counts : Counter → Said
   Faulty : Said
   Other : Said
 
@@ -80,12 +83,22 @@ before_said rest =
     if length rest == 0 || list_any ends_lone rest then Other
     else (if is_plain_name rest then Before rest else Faulty)
 
+-- ---- a line `count COUNTER limit LIMIT else VARIABLE`
+
+abbrev pub are_plain_names : Counter → Bool
+are_plain_names counter = is_plain_name counter.counter && is_plain_name counter.limit && is_plain_name counter.alternative
+
+-- what the words of a line say; with other words than those six, `count` is the name of a command
+abbrev pub count_said : (names : Option Counter) → Said
+count_said None = Other
+count_said (Some names) = if are_plain_names names then Counts names else Faulty
+
 -- ---- a line
 
 abbrev pub words_said : (line : Text) → (words : Text × Text) → Said
 words_said line words =
     if bytes_eq words.0 (codes "given") then given_said line words.1
-    else (if bytes_eq words.0 (codes "before") then before_said words.1 else Other)
+    else (if bytes_eq words.0 (codes "before") then before_said words.1 else count_said (count_words (words_of line)))
 
 -- what a line says of the start
 abbrev pub said : (line : Text) → Said
@@ -101,6 +114,7 @@ bad_line = codes "given given"
 abbrev pub left_of : Said → (line : Text) → Text
 left_of (Given name value) line = []
 left_of (Before name) line = []
+left_of (Counts counter) line = []
 left_of Faulty line = bad_line
 left_of Other line = line
 

@@ -29,7 +29,7 @@ fn left_of<'a>(said: &Said<'_>, line: &'a [u8]) -> &'a [u8]
     ensures { result.now ≡ left_of (said_shown said.now) line.now }
 {
     match said {
-        Said::Given { .. } | Said::Before(_) => &[],
+        Said::Given { .. } | Said::Before(_) | Said::Counts(_) => &[],
         Said::Faulty => b"given given".as_slice(),
         Said::Other => line,
     }
@@ -79,7 +79,9 @@ impl Board {
     /// The board that a device list says. Beside the lines of `Devices::parse` it has the lines
     /// `given NAME=VALUE`, for a variable of the environment before the run, and `before NAME`, for a
     /// variable whose text runs first. A value may have quotes, as in a line of calls. Lines `given` of
-    /// one name with other values are alternatives, at most 64 in all. Its lines may name these files. Errors in order: `Start` with
+    /// one name with other values are alternatives, at most 64 in all. The line
+    /// `count COUNTER limit LIMIT else VARIABLE` says that the board has U-Boot's boot counter, with these
+    /// variables; the last such line counts. Its lines may name these files. Errors in order: `Start` with
     /// `TooMany`, `Devices` with the first fault of the lines, a faulty line of the start among them;
     /// `Memory` wherever a growth is made.
     pub fn parse(alloc: Global, text: &[u8], files: FileTexts) -> Result<Board, BoardError>

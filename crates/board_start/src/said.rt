@@ -1,12 +1,14 @@
 //! What one line of a device list says of the start of a board.
 ghost use Rattle.std.specs.Prelude.{◌≡◌, IfOk, false, option_map};
 ghost use Rattle.std.specs.List.{list_any, list_all, position};
-ghost use Rattle.text.specs.Words.{is_equals, is_space};
+ghost use Rattle.text.specs.Words.{is_equals, is_space, words_of};
 ghost use Rattle.device_list.specs.Quotes.{is_quote};
 ghost use Rattle.device_list.specs.Settings.{is_variable};
-ghost use Rattle.board_start.specs.StartLines.{before_said, cut_word, ends_lone, ends_value, given_said, is_given_name, is_plain_byte, is_plain_name, pair_of, said, value_from};
-ghost use Rattle.board_start.specs.StartShown.{said_shown};
+ghost use Rattle.board_start.specs.Counter.{count_words};
+ghost use Rattle.board_start.specs.StartLines.{are_plain_names, before_said, count_said, cut_word, ends_lone, ends_value, given_said, is_given_name, is_plain_byte, is_plain_name, pair_of, said, value_from};
+ghost use Rattle.board_start.specs.StartShown.{names_shown, said_shown};
 
+use crate::counter::{CounterNames, count_words};
 use std::alloc::{AllocError, Global};
 use text::{cut_front, has_nul, is_space, trimmed};
 
@@ -22,6 +24,8 @@ pub(crate) enum Said<'a> {
     },
     /// The text of this variable runs first.
     Before(&'a [u8]),
+    /// The board has a boot counter with these names.
+    Counts(CounterNames<'a>),
     /// It would be a line of the start, but it is faulty.
     Faulty,
     /// It is about something else.
@@ -207,6 +211,27 @@ fn before_said(rest: &[u8]) -> Said<'_>
     }
 }
 
+/// Whether the names are such that `run` takes them.
+fn are_plain_names(names: CounterNames<'_>) -> bool
+    ensures { result ≡ are_plain_names (names_shown names.entry) }
+{
+    is_plain_name(names.counter) && is_plain_name(names.limit) && is_plain_name(names.alternative)
+}
+
+/// What the words of a line say, which are not those of the other lines of the start.
+fn count_said(line: &[u8]) -> Said<'_>
+    ensures { said_shown result ≡ count_said (count_words (words_of line.now)) }
+{
+    let Some(names) = count_words(line) else {
+        return Said::Other;
+    };
+    if are_plain_names(names) {
+        Said::Counts(names)
+    } else {
+        Said::Faulty
+    }
+}
+
 /// What a line says of the start. Errors: memory ran out.
 pub(crate) fn read_line(alloc: Global, line: &[u8]) -> Result<Said<'_>, AllocError>
     ensures { IfOk result (λ s. said_shown s ≡ said line.now) }
@@ -218,5 +243,5 @@ pub(crate) fn read_line(alloc: Global, line: &[u8]) -> Result<Said<'_>, AllocErr
     if first == b"before".as_slice() {
         return Ok(before_said(rest));
     }
-    Ok(Said::Other)
+    Ok(count_said(line))
 }

@@ -1,5 +1,5 @@
 //! How a board starts: what its environment has before a run, and what runs first.
-ghost use Rattle.std.specs.Prelude.{◌≡◌, ◌++◌, IfOk, OnOk, filter, map};
+ghost use Rattle.std.specs.Prelude.{◌≡◌, ◌++◌, IfOk, OnOk, filter, map, option_map};
 ghost use Rattle.std.specs.List.{flat_map};
 ghost use Rattle.text.specs.Escapes.{word_escaped};
 ghost use Rattle.board_start.specs.Start.{pair_text, varies};
@@ -7,6 +7,7 @@ ghost use Rattle.board_start.specs.StartShown.{givens_shown, pairs_shown};
 
 use crate::begin_text::{is_set, text_behind_all};
 use crate::board_error::BoardError;
+use crate::counter::{Counter, CounterNames, asked_in, raised_in, saves_in};
 use crate::place::place_of;
 use crate::said::Said;
 use crate::start_error::StartError;
@@ -24,16 +25,22 @@ pub struct Start {
     alloc: Global,
     givens: Givens,
     before: Vec<Vec<u8>>,
+    counter: Option<Counter>,
 }
 
 impl Model for Start {
+    ghost use Rattle.std.specs.Prelude.{option_map};
     ghost use Rattle.board_start.specs.Start as spec;
-    ghost use Rattle.board_start.specs.StartShown.{givens_shown};
+    ghost use Rattle.board_start.specs.StartShown.{counter_shown, givens_shown};
     ghost use Rattle.commands.specs.TextsShown.{texts};
 
     ghost Value = { spec.Start };
 
-    ghost view = { λ s. record { givens = givens_shown s.givens.entries; before = texts s.before.items } };
+    ghost view = { λ s. record {
+      givens = givens_shown s.givens.entries;
+      before = texts s.before.items;
+      counter = option_map counter_shown s.counter;
+    } };
 }
 
 /// What a rehearsal begins with.
@@ -41,6 +48,8 @@ impl Model for Start {
 pub struct Begun {
     /// The environment.
     pub env: Env,
+    /// Whether U-Boot has saved it, when it raised the boot counter.
+    pub saves: bool,
     /// The text that is rehearsed in place of the variable's, if there is one.
     pub text: Option<Vec<u8>>,
 }
@@ -85,8 +94,9 @@ fn add_varying(
 impl Start {
     ghost use Rattle.std.specs.Option.{option_copied};
     ghost use Rattle.envtools.specs.Changes.{with_changes};
-    ghost use Rattle.board_start.specs.Start.{after_given, after_said, alternatives, begun, chosen, first_texts, given_line, no_start, with_before};
-    ghost use Rattle.board_start.specs.StartShown.{said_shown};
+    ghost use Rattle.board_start.specs.Counter.{raised_in};
+    ghost use Rattle.board_start.specs.Start.{after_given, after_said, alternatives, begun, chosen, first_texts, given_line, no_start, with_before, with_counter};
+    ghost use Rattle.board_start.specs.StartShown.{names_shown, said_shown};
     ghost use Rattle.board_start.specs.StartAnswers.{Adds, Begins};
 
     /// Nothing is said. The names of variables will be found by this hash. Takes no memory.
@@ -97,6 +107,7 @@ impl Start {
             alloc,
             givens: IndexMap::with_hasher(alloc, hasher),
             before: Vec::new(alloc),
+            counter: None,
         }
     }
 
@@ -107,6 +118,7 @@ impl Start {
         match said {
             Said::Given { name, value } => self.add_given(number, name, value),
             Said::Before(name) => Ok(self.add_before(name)?),
+            Said::Counts(names) => Ok(self.set_counter(names)?),
             Said::Faulty | Said::Other => Ok(()),
         }
     }
@@ -129,6 +141,34 @@ impl Start {
         let name = Vec::from_slice(self.alloc, name)?;
         self.before.push(name)?;
         Ok(())
+    }
+
+    /// One more line `count`. Errors: `Memory`.
+    fn set_counter(&mut self, names: CounterNames<'_>) -> Result<(), AllocError>
+        ensures { OnOk result (self.new ≡ with_counter self.old (names_shown names.entry)) }
+    {
+        self.counter = Some(Counter::of(self.alloc, names)?);
+        Ok(())
+    }
+
+    /// The variable in which U-Boot counts boots, if the list says so.
+    pub fn counter(&self) -> Option<&[u8]>
+        ensures { option_copied result ≡ option_map (λ c. c.counter) self.now.counter }
+    {
+        match &self.counter {
+            Some(counter) => Some(&counter.counter),
+            None => None,
+        }
+    }
+
+    /// The variable whose text is run once the boot counter has passed its limit, if the list names one.
+    pub fn alternative(&self) -> Option<&[u8]>
+        ensures { option_copied result ≡ option_map (λ c. c.alternative) self.now.counter }
+    {
+        match &self.counter {
+            Some(counter) => Some(&counter.alternative),
+            None => None,
+        }
     }
 
     /// How many environments a board may start with: each value of a variable with each of the others.
@@ -181,6 +221,13 @@ impl Start {
         env.changed_by(&pairs)
     }
 
+    /// The environment with the raised boot counter, if the list says that the board has one. Errors: memory ran out.
+    pub fn raise(&self, env: Env) -> Result<Env, AllocError>
+        ensures { IfOk result (λ new. new ≡ raised_in self.now.counter env) }
+    {
+        raised_in(self.alloc, &self.counter, env)
+    }
+
     /// The names of those variables whose texts run first and that are set, in order. Errors: memory ran
     /// out.
     pub fn first_texts(&self, env: &Env) -> Result<Vec<&[u8]>, AllocError>
@@ -196,8 +243,10 @@ impl Start {
     }
 
     /// What a rehearsal of a variable, or of a text, begins with: the environment with the variables of
-    /// the alternative that is named, counted from 1, and the texts that run first in front. A list
-    /// that has more than one is refused if none is named. Errors in order: `Start` with
+    /// the alternative that is named, counted from 1, and with the raised boot counter, if there is one;
+    /// and the texts that run first in front. Once the counter has passed its limit, the text of the
+    /// variable that the list names for that is rehearsed, whatever is asked for. A list
+    /// that has more than one alternative is refused if none is named. Errors in order: `Start` with
     /// `Alternatives`, `NoAlternative` and `Name`; `Memory` wherever a growth is made.
     pub fn begin(
         &self,
@@ -210,7 +259,10 @@ impl Start {
     {
         let place = place_of(self.alternatives(), alternative)?;
         let env = self.give(env, place)?;
-        let text = text_behind_all(self.alloc, &env, &self.before, name, text)?;
-        Ok(Begun { env, text })
+        let saves = saves_in(&self.counter, &env);
+        let env = self.raise(env)?;
+        let asked = asked_in(&self.counter, &env, text);
+        let text = text_behind_all(self.alloc, &env, &self.before, name, asked)?;
+        Ok(Begun { env, saves, text })
     }
 }

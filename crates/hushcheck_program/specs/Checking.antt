@@ -1,5 +1,5 @@
 -- What checking the texts of an image does, from files whose contents are known. Ours.
-use Rattle.std.specs.Prelude.{◌≡◌, ◌⊎◌, ◌++◌, Bool, false, List, Option, Some, None, option_map, Result, Ok, Err}
+use Rattle.std.specs.Prelude.{◌≡◌, ◌⊎◌, ◌++◌, Bool, false, List, [], ◌∷◌, Option, Some, None, option_map, Result, Ok, Err, if◌then◌else◌}
 use Rattle.envimage.specs.Data.{Pair}
 use Rattle.output.specs.Outputs.{WroteFront}
 use Rattle.output.specs.Sink.{BrokeOff, Sink, Wrote}
@@ -18,7 +18,8 @@ use Rattle.rehearse_terms.specs.declared.shell.Shell.{Shell}
 use Rattle.board_start.specs.BoardShown.{board_shown}
 use Rattle.board_files.specs.BoardFiles.{AreAllRead, IsNotRead}
 use Rattle.board_start.specs.Boards.{Board, Fault as BoardFault, ListRead, OfDevices, OfStart, board_of}
-use Rattle.board_start.specs.Start.{chosen, first_texts}
+use Rattle.board_start.specs.Counter.{Counter, raised_in}
+use Rattle.board_start.specs.Start.{chosen, first_texts, is_set}
 use Rattle.board_start.specs.declared.board.Board.{Board as BoardRead}
 use Rattle.board_start.specs.declared.board_error.BoardError.{BoardError}
 use Rattle.board_start.specs.declared.board_error.BoardError.TheVariants as board
@@ -80,17 +81,25 @@ given_by order found list script names all shell strict =
 abbrev pub rules_in : Option Board → Given → Rules
 rules_in board g = record { devices = option_map (λ b. b.devices) board; shell = g.shell; strict = g.strict }
 
--- the environment with what the list gives, of its alternatives the first
+-- the environment with what the list gives, of its alternatives the first, and with the raised boot counter, if there is one
 abbrev pub env_on : Option Board → List Pair → List Pair
 env_on None env = env
-env_on (Some board) env = with_changes env (chosen board.start 0)
+env_on (Some board) env = raised_in board.start.counter (with_changes env (chosen board.start 0))
 
--- The variables whose texts run first on the board, of those that are set, and then these.
+-- the variable whose text is run once a boot counter has passed its limit, if it is set
+abbrev pub alternative_of : (counter : Option Counter) → List Pair → List Text
+alternative_of None env = []
+alternative_of (Some counter) env = if is_set env counter.alternative then counter.alternative ∷ [] else []
+
+-- The variables whose texts run first on the board, of those that are set, and then these, and then the alternative of its
+-- boot counter.
 abbrev pub behind_first : Option Board → List Pair → (names : List Text) → List Text
 behind_first None env names = names
-behind_first (Some board) env names = first_texts env board.start.before ++ names
+behind_first (Some board) env names =
+    first_texts env board.start.before ++ names ++ alternative_of board.start.counter env
 
--- the names that are checked in an environment: those that run first, those that the call gives, and with `--all` every one
+-- the names that are checked in an environment: those that run first, those that the call gives, the alternative of a boot
+-- counter, and with `--all` every one
 abbrev pub checked_names : Option Board → List Pair → Given → List Text
 checked_names board env g = asked_names g.all env (behind_first board env g.names)
 

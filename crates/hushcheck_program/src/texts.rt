@@ -1,12 +1,12 @@
 //! The texts of images, checked.
-ghost use Rattle.std.specs.Prelude.{◌≡◌, IfOk, None, Ok, Some, map, option_map, string_bytes};
+ghost use Rattle.std.specs.Prelude.{◌≡◌, ◌++◌, IfOk, None, Ok, OnOk, Some, map, option_map, string_bytes};
 ghost use Rattle.board_files.specs.BoardFiles.{list_of};
 ghost use Rattle.board_start.specs.BoardShown.{board_shown};
 ghost use Rattle.hushcheck.specs.Report.{asked_names};
 ghost use Rattle.hushcheck.specs.Rules.{held_to};
 ghost use Rattle.std.specs.Option.{option_copied};
 ghost use Rattle.hushcheck_program.specs.Asked.{asked_by};
-ghost use Rattle.hushcheck_program.specs.Checking.{ChecksBy, ChecksFrom, ChecksText, LeavesOutput, Lists, WritesAll, behind_first, env_on, given, given_by, inputs_of, list_in, under};
+ghost use Rattle.hushcheck_program.specs.Checking.{ChecksBy, ChecksFrom, ChecksText, LeavesOutput, Lists, WritesAll, alternative_of, behind_first, env_on, given, given_by, inputs_of, list_in, under};
 ghost use Rattle.hushcheck_program.specs.Shown.{list_shown, script_shown};
 ghost use Rattle.tool_steps.specs.Scripts.{ReadsNamed};
 ghost use Rattle.tool_files.specs.Told.{IfTold};
@@ -18,7 +18,7 @@ ghost use Rattle.tool_words.specs.CommandAnswers.{inputs_shown};
 use crate::ask::CheckAsk;
 use crate::fault::CheckFault;
 use board_files::{BoardFiles, copied_path, read_board};
-use board_start::{Board, BoardError};
+use board_start::{Board, BoardError, Start};
 use device_list::{Devices, FileTexts};
 use envimage::ByteOrder;
 use envtools::Env;
@@ -83,18 +83,38 @@ fn list_of(alloc: Global, list: Option<DeviceList<'_>>) -> Result<Option<Board>,
     }
 }
 
-/// The environment with what the list gives, of its alternatives the first. Errors: memory ran out.
+/// The environment with what the list gives, of its alternatives the first, and with the raised boot counter, if
+/// there is one. Errors: memory ran out.
 fn env_on(board: &Option<Board>, env: Env) -> Result<Env, AllocError>
     ensures { IfOk result (λ new. new ≡ env_on (option_map board_shown board.now) env) }
 {
     match board {
-        Some(board) => board.start.give(env, 0),
+        Some(board) => board.start.raise(board.start.give(env, 0)?),
         None => Ok(env),
     }
 }
 
-/// The variables whose texts run first on the board, of those that are set, and then these. Errors: memory
+/// Adds the variable whose text is run once the boot counter has passed its limit, if it is set. Errors: memory
 /// ran out.
+fn add_alternative<'x>(
+    names: &mut Vec<&'x [u8]>,
+    start: &'x Start,
+    env: &Env,
+) -> Result<(), AllocError>
+    ensures { OnOk result (map (λ n. n.now) names.new.items
+        ≡ map (λ n. n.now) names.old.items ++ alternative_of start.now.counter env.now) }
+{
+    let Some(name) = start.alternative() else {
+        return Ok(());
+    };
+    if env.get(name).is_some() {
+        names.push(name)?;
+    }
+    Ok(())
+}
+
+/// The variables whose texts run first on the board, of those that are set, and then these, and then the
+/// alternative of its boot counter. Errors: memory ran out.
 fn behind_first<'x>(
     alloc: Global,
     board: &'x Option<Board>,
@@ -109,6 +129,7 @@ fn behind_first<'x>(
     };
     let mut all = board.start.first_texts(env)?;
     all.extend_from_slice(names)?;
+    add_alternative(&mut all, &board.start, env)?;
     Ok(all)
 }
 
