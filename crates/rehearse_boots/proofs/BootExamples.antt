@@ -1,11 +1,14 @@
 -- Worked examples, computed: what is kept from one boot to the next, the numbers of boots, and their lines.
 use Rattle.std.proofs.Common.{◌≡◌, ℕ, Bool, true, false, List, [], ◌∷◌, Option, Some, None, codes, refl}
 use Rattle.std.specs.Fmt.{digits}
-use Rattle.rehearse_boots.specs.Boots.{Asked, Kept, each_once, first_of, found_by, has_room, is_followed, kept_after, next_of, number_of, told_apart}
+use Rattle.rehearse_boots.specs.Boots.{Asked, Kept, each_once, first_of, found_by, has_room, is_followed, has_booted, kept_after, next_of, number_of, saved_after, saved_at, told_apart, Expected, Started}
+use Rattle.rehearse_boots.specs.Expecting.{is_clean, is_expected, starts_with}
 use Rattle.rehearse_boots.specs.BootLines.{changed_lines, way_lines}
-use Rattle.rehearse_rules.specs.Execution.{End}
+use Rattle.device_list.specs.DeviceList.{Devices}
+use Rattle.device_list.specs.declared.finish.BoardEnd.TheVariants.{Boots, Restarts, Halts}
+use Rattle.rehearse_rules.specs.Execution.{End, Finished}
 use Rattle.rehearse_states.specs.Endings.{Row}
-use Rattle.rehearse_terms.specs.Outcomes.{Success, Failure}
+use Rattle.rehearse_terms.specs.Outcomes.{Failure}
 use Rattle.rehearse_terms.specs.State.{Text}
 use Rattle.rehearse_terms.specs.declared.shell.Shell.TheVariants.{Profile}
 
@@ -37,6 +40,8 @@ asked room failures = record {
   names = codes "x" ∷ [];
   kept = codes "left" ∷ codes "note" ∷ [];
   room = room;
+  changes = None;
+  expected = None;
 }
 
 first : first_of (asked None None) ≡ codes "2" ∷ [] ∷ []
@@ -72,16 +77,16 @@ abbrev noted : Row
 noted = ending (Some (codes "=1") ∷ Some (codes "=abc") ∷ []) 1
 
 -- the boot after it, by what was saved; by what was saved before, if nothing was, or if that has no room
-behind : next_of (asked None None) (codes "2" ∷ [] ∷ []) noted ≡ codes "1" ∷ codes "abc" ∷ []
+behind : saved_after (asked None None) (codes "2" ∷ [] ∷ []) noted ≡ codes "1" ∷ codes "abc" ∷ []
 behind = refl
 
-behind_nothing : next_of (asked None None) (codes "2" ∷ [] ∷ []) (ending (None ∷ None ∷ []) 1) ≡ codes "2" ∷ [] ∷ []
+behind_nothing : saved_after (asked None None) (codes "2" ∷ [] ∷ []) (ending (None ∷ None ∷ []) 1) ≡ codes "2" ∷ [] ∷ []
 behind_nothing = refl
 
-behind_in_room : next_of (asked (Some 17) None) (codes "2" ∷ [] ∷ []) noted ≡ codes "1" ∷ codes "abc" ∷ []
+behind_in_room : saved_after (asked (Some 17) None) (codes "2" ∷ [] ∷ []) noted ≡ codes "1" ∷ codes "abc" ∷ []
 behind_in_room = refl
 
-behind_without_room : next_of (asked (Some 16) None) (codes "2" ∷ [] ∷ []) noted ≡ codes "2" ∷ [] ∷ []
+behind_without_room : saved_after (asked (Some 16) None) (codes "2" ∷ [] ∷ []) noted ≡ codes "2" ∷ [] ∷ []
 behind_without_room = refl
 
 -- which endings are followed
@@ -127,3 +132,95 @@ way : way_lines (asked None None) (a ∷ (codes "1" ∷ codes "abc" ∷ []) ∷ 
     ≡ codes "ends 1 first 1 fewest 1 1 end 0 next 2\nvar x=9\nfails load\n"
 unfolding digits
 way = refl
+
+-- ---- changes after an ending that boots
+
+abbrev booted : Row
+booted = record noted { run_end = record { ending = Finished Boots (codes "bootm"); values = Some (codes "9") ∷ Some (codes "=1") ∷ None ∷ [] } }
+
+abbrev marking : Asked
+marking = record (asked None None) { changes = Some (codes "left=3\nnote\n") }
+
+-- the last value that was saved is there before them, and a name alone deletes
+after_changes : next_of marking (codes "2" ∷ codes "x" ∷ []) booted ≡ record { saved = codes "1" ∷ codes "x" ∷ []; changed = Some (codes "3" ∷ [] ∷ []) }
+after_changes = refl
+
+-- none after another ending, and none without a script
+not_booted : (next_of marking (codes "2" ∷ codes "x" ∷ []) noted).changed ≡ None
+not_booted = refl
+
+no_script : (next_of (asked None None) (codes "2" ∷ codes "x" ∷ []) booted).changed ≡ None
+no_script = refl
+
+restarted : has_booted (Finished Restarts (codes "reset")) ≡ false
+restarted = refl
+
+halted : has_booted (Finished Halts (codes "poweroff")) ≡ false
+halted = refl
+
+-- changes that have no room are not made
+no_room_for_changes : (next_of (record marking { room = Some 8; changes = Some (codes "left=33") }) (codes "2" ∷ [] ∷ []) (record booted { run_end = record { ending = Finished Boots (codes "bootm"); values = None ∷ None ∷ None ∷ [] } })).changed ≡ Some (codes "2" ∷ [] ∷ [])
+no_room_for_changes = refl
+
+way_with_changes : way_lines marking (a ∷ (codes "1" ∷ [] ∷ []) ∷ (codes "3" ∷ [] ∷ []) ∷ []) a (λ w. []) booted
+    ≡ codes "ends 1 first 1 fewest 1 1 booted bootm next 2 then 3\nvar x=9\n"
+unfolding digits
+way_with_changes = refl
+
+-- ---- what is saved at the start
+
+module _ (devices : Devices) where
+  abbrev started : (saves : Bool) → Started
+  started saves = record { environment = (codes "left", codes "7") ∷ (codes "x", codes "1") ∷ []; devices = devices; text = None; saves = saves }
+
+  saved_before_run : saved_at (asked None None) (codes "2" ∷ codes "y" ∷ []) (started true) ≡ codes "7" ∷ [] ∷ []
+  saved_before_run = refl
+
+  not_saved_before_run : saved_at (asked None None) (codes "2" ∷ codes "y" ∷ []) (started false) ≡ codes "2" ∷ codes "y" ∷ []
+  not_saved_before_run = refl
+
+  no_room_before_run : saved_at (asked (Some 7) None) (codes "2" ∷ codes "y" ∷ []) (started true) ≡ codes "2" ∷ codes "y" ∷ []
+  no_room_before_run = refl
+
+-- ---- the ending that is expected
+
+-- by whole words from the start of its line
+begins_so : starts_with (codes "booted") (codes "booted bootm") ≡ true
+begins_so = refl
+
+all_of_it : starts_with (codes "booted bootm") (codes "booted bootm") ≡ true
+all_of_it = refl
+
+half_a_word : starts_with (codes "booted boot") (codes "booted bootm") ≡ false
+half_a_word = refl
+
+other_words : starts_with (codes "booted bootz") (codes "booted bootm") ≡ false
+other_words = refl
+
+longer_words : starts_with (codes "booted bootm x") (codes "booted bootm") ≡ false
+longer_words = refl
+
+abbrev expected : (values : List (Text × Text)) → Expected
+expected values = record { ending = codes "booted"; values = values; within = None }
+
+as_expected : is_expected marking (expected ((codes "x", codes "9") ∷ [])) booted ≡ true
+as_expected = refl
+
+other_value : is_expected marking (expected ((codes "x", codes "8") ∷ [])) booted ≡ false
+other_value = refl
+
+one_of_two_values : is_expected marking (expected ((codes "x", codes "9") ∷ (codes "y", codes "1") ∷ [])) booted ≡ false
+one_of_two_values = refl
+
+-- an empty value is that of a variable that is not set, or not asked for
+not_set : is_expected marking (expected ((codes "y", []) ∷ [])) booted ≡ true
+not_set = refl
+
+other_ending : is_expected marking (expected []) noted ≡ false
+other_ending = refl
+
+nothing_fails : is_clean (ending [] 0) ≡ true
+nothing_fails = refl
+
+one_fails : is_clean (ending [] 1) ≡ false
+one_fails = refl

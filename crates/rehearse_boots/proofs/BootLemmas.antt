@@ -1,15 +1,19 @@
 -- Boots that are found: what stays when more are found.
-use Rattle.std.proofs.Common.{◌≡◌, ℕ, zero, suc, ◌+◌, ◌<◌, ◌≤◌, ◌||◌, Bool, true, false, cond, List, [], ◌∷◌, ◌++◌, length, map, filter, fold, take, drop, get_or, refl, sym, ap, subst, ◌∙◌, append_assoc, append-nil, not, arith, codes, decimal, if◌then◌else◌}
+use Rattle.std.proofs.Common.{◌≡◌, ℕ, zero, suc, ◌+◌, ◌<◌, ◌||◌, Bool, true, false, cond, List, [], ◌∷◌, ◌++◌, length, map, take, drop, get_or, Option, Some, None, option_map, refl, sym, ap, subst, ◌∙◌, append_assoc, append-nil, not, arith, if◌then◌else◌}
 use Rattle.std.specs.List.{AllByRecursion, flat_map, list_any, prefix_len}
+use Rattle.std.specs.Option.{option_to_list}
 use Rattle.std.specs.Prelude.{IfErr, Result, Err}
 use Rattle.std.proofs.lemmas.Slice.Eq.{bytes_eq-Decides, slice_eq-Decides}
 use Rattle.std.proofs.lemmas.Grind.{flat_map-append}
 use Rattle.std.proofs.lemmas.List.Elements.{filter-append}
 use Rattle.std.proofs.lemmas.List.Sums.{fold-append}
 use Rattle.envimage.proofs.LawLemmas.{all-append}
-use Rattle.rehearse_boots.specs.Boots.{Asked, Kept, StartOf, each_once, is_followed, next_of, number_of, same_kept, with_boot}
-use Rattle.rehearse_boots.specs.BootLines.{way_lines, way_text}
-use Rattle.rehearse_boots.specs.Exploring.{AddsWays, BreaksAt, followed, next_of_all, with_boots}
+use Rattle.rehearse_boots.specs.Boots.{Asked, Kept, Next, both, is_followed, next_after, next_of, number_of, same_kept, with_boot}
+use Rattle.rehearse_boots.specs.BootLines.{way_text}
+use Rattle.rehearse_boots.specs.Expecting.{is_clean}
+use Rattle.rehearse_boots.specs.Exploring.{AddsWays, BreaksAt, IsWay, followed, next_of_all, with_boots}
+use Rattle.rehearse_boots.specs.Ways.{Way, is_met, way_of}
+use Rattle.rehearse_boots.specs.declared.boot.Numbers.{Numbers}
 use Rattle.rehearse_rules.specs.Expected.{Answered}
 use Rattle.rehearse_rules.specs.Listing.{line}
 use Rattle.rehearse_states.specs.EndingLines.{lines_below}
@@ -55,20 +59,36 @@ in_last : (boots : List Kept) (kept : Kept) → IsIn (boots ++ kept ∷ []) kept
 in_last [] kept = ap (λ s. s || false) (same_kept_itself kept)
 in_last (b ∷ boots) kept = or_true (same_kept kept b) (list_any (same_kept kept) (boots ++ kept ∷ [])) (in_last boots kept)
 
+place_end : (boots : List Kept) (kept : Kept) → list_any (same_kept kept) boots ≡ false → prefix_len (λ x. not (same_kept kept x)) (boots ++ kept ∷ []) ≡ length boots
+place_end [] kept h = ap (λ s. cond (not s) 1 0) (same_kept_itself kept)
+place_end (b ∷ boots) kept h = by (same_kept kept b) (place_end boots kept) h
+  where
+    by : (s : Bool) → (list_any (same_kept kept) boots ≡ false → prefix_len (λ x. not (same_kept kept x)) (boots ++ kept ∷ []) ≡ length boots) → (s || list_any (same_kept kept) boots) ≡ false
+        → cond (not s) (1 + prefix_len (λ x. not (same_kept kept x)) (boots ++ kept ∷ [])) 0 ≡ suc (length boots)
+    by true rest k = absurd (let f = k in cc)
+    by false rest k = ap (λ n. 1 + n) (rest k) ∙ one_more (length boots)
+      where
+        one_more : (n : ℕ) → 1 + n ≡ suc n
+        one_more n = omega arith
+
+-- a new one goes last
+pub place_of_last : (boots : List Kept) (kept : Kept) → list_any (same_kept kept) boots ≡ false → number_of (boots ++ kept ∷ []) kept ≡ length boots + 1
+place_of_last boots kept h = ap (λ n. n + 1) (place_end boots kept h)
+
 -- ---- one more boot
 
 -- it is added after the others, if it is new
 abbrev pub More : (old new : List Kept) → Type 0
 More old new = (more : List Kept) × (new ≡ old ++ more)
 
-with_one : (boots : List Kept) (kept : Kept) → More boots (with_boot boots kept)
+pub with_one : (boots : List Kept) (kept : Kept) → More boots (with_boot boots kept)
 with_one boots kept = by (list_any (same_kept kept) boots)
   where
     by : (s : Bool) → More boots (if s then boots else boots ++ kept ∷ [])
     by true = ([], sym (append-nil boots))
     by false = (kept ∷ [], refl)
 
-one_is_in : (boots : List Kept) (kept : Kept) → IsIn (with_boot boots kept) kept
+pub one_is_in : (boots : List Kept) (kept : Kept) → IsIn (with_boot boots kept) kept
 one_is_in boots kept = by (list_any (same_kept kept) boots) refl
   where
     by : (s : Bool) → list_any (same_kept kept) boots ≡ s → IsIn (if s then boots else boots ++ kept ∷ []) kept
@@ -83,7 +103,7 @@ pub with_more : (boots next : List Kept) → More boots (with_boots boots next)
 with_more boots [] = ([], sym (append-nil boots))
 with_more boots (n ∷ next) = more_on boots (with_boot boots n) (with_boots boots (n ∷ next)) (with_one boots n) (with_more (with_boot boots n) next)
 
-in_more : (old new : List Kept) (kept : Kept) → More old new → IsIn old kept → IsIn new kept
+pub in_more : (old new : List Kept) (kept : Kept) → More old new → IsIn old kept → IsIn new kept
 in_more old new kept more h = subst (λ x. IsIn x kept) (sym more.1) (in_further old more.0 kept h)
 
 pub all_in_more : (old new xs : List Kept) → More old new → AllByRecursion (IsIn old) xs → AllByRecursion (IsIn new) xs
@@ -104,82 +124,150 @@ all_with P boots (n ∷ next) h k = all_with P (with_boot boots n) next (by (lis
     by true = h
     by false = all-append P boots (n ∷ []) h (k.0, tt)
 
--- ---- the lines of endings stay when more boots are found
+-- ---- ways stay when more boots are found
 
-module _ (asked : Asked) (kept : Kept) (fails : OutcomeWord → List Answered) where
-  way_stays : (old new : List Kept) (r : Row) → More old new → IsIn old (next_of asked kept r) → way_lines asked new kept fails r ≡ way_lines asked old kept fails r
+-- a way to boots of these numbers
+abbrev pub way_with : Asked → (fails : OutcomeWord → List Answered) → Row → (next : ℕ) → (changed : Option ℕ) → Way
+way_with asked fails r next changed = record {
+  lines = line (way_text r next changed) ++ lines_below asked.names fails r;
+  next = next;
+  changed = changed;
+  is_clean = is_clean r;
+  is_expected = is_met asked asked.expected r;
+}
+
+pub number_stays : (old new : List Kept) (kept : Kept) → More old new → IsIn old kept → number_of new kept ≡ number_of old kept
+number_stays old new kept more h = ap (λ x. number_of x kept) more.1 ∙ number_further old more.0 kept h
+
+changed_stays : (old new : List Kept) (changed : Option Kept) → More old new → AllByRecursion (IsIn old) (option_to_list changed) → option_map (number_of new) changed ≡ option_map (number_of old) changed
+changed_stays old new None more h = refl
+changed_stays old new (Some kept) more h = ap Some (number_stays old new kept more h.0)
+
+module _ (asked : Asked) (saved : Kept) (fails : OutcomeWord → List Answered) where
+  way_stays : (old new : List Kept) (r : Row) → More old new → AllByRecursion (IsIn old) (next_after asked saved r) → way_of asked new saved fails r ≡ way_of asked old saved fails r
   way_stays old new r more h =
-      ap (λ n. line (way_text r n) ++ lines_below asked.names fails r)
-      (ap (λ x. number_of x (next_of asked kept r)) more.1 ∙ number_further old more.0 (next_of asked kept r) h)
+      let next = next_of asked saved r in
+      ap (λ n. way_with asked fails r n (option_map (number_of new) next.changed)) (number_stays old new next.saved more h.0)
+      ∙ ap (λ c. way_with asked fails r (number_of old next.saved) c) (changed_stays old new next.changed more h.1)
 
-  pub ways_stay : (old new : List Kept) (rows : List Row) → More old new → AllByRecursion (IsIn old) (map (next_of asked kept) rows) → flat_map (way_lines asked new kept fails) rows ≡ flat_map (way_lines asked old kept fails) rows
+  all_cut : (P : Kept → Type 0) (xs ys : List Kept) → AllByRecursion P (xs ++ ys) → AllByRecursion P xs × AllByRecursion P ys
+  all_cut P [] ys h = (tt, h)
+  all_cut P (x ∷ xs) ys h = let rest = all_cut P xs ys h.1 in ((h.0, rest.0), rest.1)
+
+  pub ways_stay : (old new : List Kept) (rows : List Row) → More old new → AllByRecursion (IsIn old) (flat_map (next_after asked saved) rows) → map (way_of asked new saved fails) rows ≡ map (way_of asked old saved fails) rows
   ways_stay old new [] more h = refl
   ways_stay old new (r ∷ rows) more h =
-      ap (λ t. t ++ flat_map (way_lines asked new kept fails) rows) (way_stays old new r more h.0)
-      ∙ ap (λ t. way_lines asked old kept fails r ++ t) (ways_stay old new rows more h.1)
+      let parts = all_cut (IsIn old) (next_after asked saved r) (flat_map (next_after asked saved) rows) h in
+      ap (λ t. t ∷ map (way_of asked new saved fails) rows) (way_stays old new r more parts.0)
+      ∙ ap (λ t. way_of asked old saved fails r ∷ t) (ways_stay old new rows more parts.1)
 
 -- ---- rows so far
 
 followed_append : (asked : Asked) (xs ys : List Row) → followed asked (xs ++ ys) ≡ followed asked xs ++ followed asked ys
 followed_append asked xs ys = filter-append (is_followed asked) xs ys
 
-map_append : {X Y : Type 0} (f : X → Y) (xs ys : List X) → map f (xs ++ ys) ≡ map f xs ++ map f ys
+pub map_append : {X Y : Type 0} (f : X → Y) (xs ys : List X) → map f (xs ++ ys) ≡ map f xs ++ map f ys
 map_append f [] ys = refl
 map_append f (x ∷ xs) ys = ap (λ t. f x ∷ t) (map_append f xs ys)
 
-pub next_append : (asked : Asked) (kept : Kept) (xs ys : List Row) → next_of_all asked kept (xs ++ ys) ≡ next_of_all asked kept xs ++ next_of_all asked kept ys
-next_append asked kept xs ys = ap (map (next_of asked kept)) (followed_append asked xs ys) ∙ map_append (next_of asked kept) (followed asked xs) (followed asked ys)
+pub next_append : (asked : Asked) (saved : Kept) (xs ys : List Row) → next_of_all asked saved (xs ++ ys) ≡ next_of_all asked saved xs ++ next_of_all asked saved ys
+next_append asked saved xs ys = ap (flat_map (next_after asked saved)) (followed_append asked xs ys) ∙ flat_map-append (next_after asked saved) (followed asked xs) (followed asked ys)
 
--- the boots and the lines of some endings, and then those of others
-module _ (asked : Asked) (kept : Kept) (fails : OutcomeWord → List Answered) (start : List Kept) (text : Text) where
-  pub boots_on : (xs ys : List Row) (now next : List Kept) → now ≡ with_boots start (next_of_all asked kept xs) → next ≡ with_boots now (next_of_all asked kept ys) → next ≡ with_boots start (next_of_all asked kept (xs ++ ys))
+-- the boots and the ways of some endings, and then those of others
+module _ (asked : Asked) (saved : Kept) (fails : OutcomeWord → List Answered) (start : List Kept) (before : List Way) where
+  pub boots_on : (xs ys : List Row) (now next : List Kept) → now ≡ with_boots start (next_of_all asked saved xs) → next ≡ with_boots now (next_of_all asked saved ys) → next ≡ with_boots start (next_of_all asked saved (xs ++ ys))
   boots_on xs ys now next h k =
-      k ∙ ap (λ b. with_boots b (next_of_all asked kept ys)) h
-      ∙ sym (fold-append with_boot start (next_of_all asked kept xs) (next_of_all asked kept ys))
-      ∙ ap (with_boots start) (sym (next_append asked kept xs ys))
+      k ∙ ap (λ b. with_boots b (next_of_all asked saved ys)) h
+      ∙ sym (fold-append with_boot start (next_of_all asked saved xs) (next_of_all asked saved ys))
+      ∙ ap (with_boots start) (sym (next_append asked saved xs ys))
 
-  pub text_on : (xs ys : List Row) (now next : List Kept) (so_far later : Text) → now ≡ with_boots start (next_of_all asked kept xs) → next ≡ with_boots now (next_of_all asked kept ys)
-      → so_far ≡ text ++ flat_map (way_lines asked now kept fails) (followed asked xs) → later ≡ so_far ++ flat_map (way_lines asked next kept fails) (followed asked ys)
-      → later ≡ text ++ flat_map (way_lines asked next kept fails) (followed asked (xs ++ ys))
-  text_on xs ys now next so_far later h k before after =
-      let more : More now next = (let m = with_more now (next_of_all asked kept ys) in (m.0, k ∙ m.1)) in
-      let there : AllByRecursion (IsIn now) (next_of_all asked kept xs) = subst (λ b. AllByRecursion (IsIn b) (next_of_all asked kept xs)) (sym h) (next_are_in start (next_of_all asked kept xs)) in
-      let stay = ways_stay asked kept fails now next (followed asked xs) more there in
-      let lines : List Row → Text = flat_map (way_lines asked next kept fails) in
-      after
-      ∙ ap (λ t. t ++ lines (followed asked ys)) (before ∙ ap (λ t. text ++ t) (sym stay))
-      ∙ append_assoc text (lines (followed asked xs)) (lines (followed asked ys))
-      ∙ ap (λ t. text ++ t) (sym (flat_map-append (way_lines asked next kept fails) (followed asked xs) (followed asked ys)) ∙ ap lines (sym (followed_append asked xs ys)))
+  pub list_on : (xs ys : List Row) (now next : List Kept) (so_far later : List Way) → now ≡ with_boots start (next_of_all asked saved xs) → next ≡ with_boots now (next_of_all asked saved ys)
+      → so_far ≡ before ++ map (way_of asked now saved fails) (followed asked xs) → later ≡ so_far ++ map (way_of asked next saved fails) (followed asked ys)
+      → later ≡ before ++ map (way_of asked next saved fails) (followed asked (xs ++ ys))
+  list_on xs ys now next so_far later h k first second =
+      let more : More now next = (let m = with_more now (next_of_all asked saved ys) in (m.0, k ∙ m.1)) in
+      let there : AllByRecursion (IsIn now) (next_of_all asked saved xs) = subst (λ b. AllByRecursion (IsIn b) (next_of_all asked saved xs)) (sym h) (next_are_in start (next_of_all asked saved xs)) in
+      let stay = ways_stay asked saved fails now next (followed asked xs) more there in
+      let ways : List Row → List Way = map (way_of asked next saved fails) in
+      second
+      ∙ ap (λ t. t ++ ways (followed asked ys)) (first ∙ ap (λ t. before ++ t) (sym stay))
+      ∙ append_assoc before (ways (followed asked xs)) (ways (followed asked ys))
+      ∙ ap (λ t. before ++ t) (sym (map_append (way_of asked next saved fails) (followed asked xs) (followed asked ys)) ∙ ap ways (sym (followed_append asked xs ys)))
 
   -- the same of all of them
-  pub ways_on : (xs ys all : List Row) (now next : List Kept) (so_far later : Text) → all ≡ xs ++ ys → AddsWays asked kept fails xs start now text so_far → AddsWays asked kept fails ys now next so_far later → AddsWays asked kept fails all start next text later
-  ways_on xs ys all now next so_far later e before after = subst (λ rows. AddsWays asked kept fails rows start next text later) (sym e) (record {
-    boots = boots_on xs ys now next before.boots after.boots;
-    text = text_on xs ys now next so_far later before.boots after.boots before.text after.text;
+  pub ways_on : (xs ys all : List Row) (now next : List Kept) (so_far later : List Way) → all ≡ xs ++ ys → AddsWays asked saved fails xs start now before so_far → AddsWays asked saved fails ys now next so_far later → AddsWays asked saved fails all start next before later
+  ways_on xs ys all now next so_far later e first second = subst (λ rows. AddsWays asked saved fails rows start next before later) (sym e) (record {
+    boots = boots_on xs ys now next first.boots second.boots;
+    ways = list_on xs ys now next so_far later first.boots second.boots first.ways second.ways;
   })
 
   -- more boots than allowed, after some endings
-  pub breaks_on : (most : ℕ) (xs ys zs all : List Row) (now next : List Kept) → all ≡ xs ++ (ys ++ zs) → now ≡ with_boots start (next_of_all asked kept xs) → BreaksAt (next_of_all asked kept ys) most now next → BreaksAt (next_of_all asked kept all) most start next
+  pub breaks_on : (most : ℕ) (xs ys zs all : List Row) (now next : List Kept) → all ≡ xs ++ (ys ++ zs) → now ≡ with_boots start (next_of_all asked saved xs) → BreaksAt (next_of_all asked saved ys) most now next → BreaksAt (next_of_all asked saved all) most start next
   breaks_on most xs ys zs all now next e h breaks =
-      let first : List Kept = next_of_all asked kept xs in
-      let last : List Kept = next_of_all asked kept zs in
+      let first : List Kept = next_of_all asked saved xs in
+      let last : List Kept = next_of_all asked saved zs in
       record {
         front = first ++ breaks.front;
         behind = breaks.behind ++ last;
-        stands = ap (next_of_all asked kept) e ∙ next_append asked kept xs (ys ++ zs) ∙ ap (λ t. first ++ t) (next_append asked kept ys zs ∙ ap (λ t. t ++ last) breaks.stands ∙ append_assoc breaks.front breaks.behind last)
+        stands = ap (next_of_all asked saved) e ∙ next_append asked saved xs (ys ++ zs) ∙ ap (λ t. first ++ t) (next_append asked saved ys zs ∙ ap (λ t. t ++ last) breaks.stands ∙ append_assoc breaks.front breaks.behind last)
             ∙ sym (append_assoc first breaks.front (breaks.behind ++ last));
         boots = breaks.boots ∙ ap (λ b. with_boots b breaks.front) h ∙ sym (fold-append with_boot start first breaks.front);
         many = breaks.many;
       }
 
--- the boot after one ending is one too many
-pub breaks_one : (asked : Asked) (kept : Kept) (r : Row) (next : Kept) (most : ℕ) (old new : List Kept) → is_followed asked r ≡ true → next ≡ next_of asked kept r → new ≡ with_boot old next → most < length new → BreaksAt (next_of_all asked kept (r ∷ [])) most old new
-breaks_one asked kept r next most old new followed is boots many = record {
-  front = next ∷ [];
+-- ---- one ending
+
+next_of_one : (asked : Asked) (saved : Kept) (r : Row) → is_followed asked r ≡ true → next_of_all asked saved (r ∷ []) ≡ next_after asked saved r
+next_of_one asked saved r is = ap (λ (s : Bool). flat_map (next_after asked saved) (cond s (r ∷ []) [])) is ∙ append-nil (next_after asked saved r)
+
+-- the boots after it are too many
+pub breaks_one : (asked : Asked) (saved : Kept) (r : Row) (next : Next) (most : ℕ) (old new : List Kept) → is_followed asked r ≡ true → next ≡ next_of asked saved r → BreaksAt (both next) most old new → BreaksAt (next_of_all asked saved (r ∷ [])) most old new
+breaks_one asked saved r next most old new is e breaks =
+    subst (λ n. BreaksAt n most old new) (ap both e ∙ sym (next_of_one asked saved r is)) breaks
+
+-- the first of them is too many
+pub breaks_first : (next : Next) (most : ℕ) (old new : List Kept) → new ≡ with_boot old next.saved → most < length new → BreaksAt (both next) most old new
+breaks_first next most old new boots many = record { front = next.saved ∷ []; behind = option_to_list next.changed; stands = refl; boots = boots; many = many }
+
+-- or the second
+pub breaks_second : (next : Next) (kept : Kept) (most : ℕ) (old now new : List Kept) → next.changed ≡ Some kept → now ≡ with_boot old next.saved → new ≡ with_boot now kept → most < length new → BreaksAt (both next) most old new
+breaks_second next kept most old now new is first second many = record {
+  front = next.saved ∷ kept ∷ [];
   behind = [];
-  stands = ap (λ (s : Bool). map (next_of asked kept) (cond s (r ∷ []) [])) followed ∙ ap (λ n. n ∷ []) (sym is);
-  boots = boots;
+  stands = ap (λ (c : Option Kept). next.saved ∷ option_to_list c) is;
+  boots = second ∙ ap (λ b. with_boot b kept) first;
   many = many;
+}
+
+way_is : (way : Way) (lines : Text) (next : ℕ) (changed : Option ℕ) (clean expected : Bool) → way.lines ≡ lines → way.next ≡ next → way.changed ≡ changed → way.is_clean ≡ clean → way.is_expected ≡ expected
+    → way ≡ record { lines = lines; next = next; changed = changed; is_clean = clean; is_expected = expected }
+way_is way lines next changed clean expected a b c d e =
+    ap (λ (x : Text). record { lines = x; next = way.next; changed = way.changed; is_clean = way.is_clean; is_expected = way.is_expected }) a
+    ∙ ap (λ (x : ℕ). record { lines = lines; next = x; changed = way.changed; is_clean = way.is_clean; is_expected = way.is_expected }) b
+    ∙ ap (λ (x : Option ℕ). record { lines = lines; next = next; changed = x; is_clean = way.is_clean; is_expected = way.is_expected }) c
+    ∙ ap (λ (x : Bool). record { lines = lines; next = next; changed = changed; is_clean = x; is_expected = way.is_expected }) d
+    ∙ ap (λ (x : Bool). record { lines = lines; next = next; changed = changed; is_clean = clean; is_expected = x }) e
+
+-- the way of an ending
+pub one_way : (asked : Asked) (saved : Kept) (fails : OutcomeWord → List Answered) (r : Row) (next : Next) (boots : List Kept) (numbers : Numbers) (way : Way) → next ≡ next_of asked saved r
+    → numbers.next ≡ number_of boots next.saved → numbers.changed ≡ option_map (number_of boots) next.changed → IsWay asked fails r numbers way → way ≡ way_of asked boots saved fails r
+one_way asked saved fails r next boots numbers way e first second is =
+    way_is way (line (way_text r numbers.next numbers.changed) ++ lines_below asked.names fails r) numbers.next numbers.changed (is_clean r) (is_met asked asked.expected r)
+    is.lines is.next_is is.changed_is is.clean is.expected
+    ∙ ap (λ n. way_with asked fails r n numbers.changed) first ∙ ap (λ c. way_with asked fails r (number_of boots next.saved) c) second
+    ∙ ap (λ (n : Next). way_with asked fails r (number_of boots n.saved) (option_map (number_of boots) n.changed)) e
+
+pub adds_one : (asked : Asked) (saved : Kept) (fails : OutcomeWord → List Answered) (r : Row) (next : Next) (old new : List Kept) (before : List Way) (way : Way) → is_followed asked r ≡ true → next ≡ next_of asked saved r
+    → new ≡ with_boots old (both next) → way ≡ way_of asked new saved fails r → AddsWays asked saved fails (r ∷ []) old new before (before ++ way ∷ [])
+adds_one asked saved fails r next old new before way is e boots way_e = record {
+  boots = boots ∙ ap (with_boots old) (ap both e ∙ sym (next_of_one asked saved r is));
+  ways = ap (λ w. before ++ w ∷ []) way_e ∙ ap (λ (s : Bool). before ++ map (way_of asked new saved fails) (cond s (r ∷ []) [])) (sym is);
+}
+
+pub adds_none : (asked : Asked) (saved : Kept) (fails : OutcomeWord → List Answered) (r : Row) (boots : List Kept) (ways : List Way) → is_followed asked r ≡ false → AddsWays asked saved fails (r ∷ []) boots boots ways ways
+adds_none asked saved fails r boots ways is = record {
+  boots = ap (λ (s : Bool). with_boots boots (flat_map (next_after asked saved) (cond s (r ∷ []) []))) (sym is);
+  ways = sym (append-nil ways) ∙ ap (λ (s : Bool). ways ++ map (way_of asked boots saved fails) (cond s (r ∷ []) [])) (sym is);
 }
 
 -- a list, before, at and after a place

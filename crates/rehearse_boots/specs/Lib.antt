@@ -1,5 +1,11 @@
 pub mod Boots
 pub mod BootLines
+pub mod Expecting
+pub mod Ways
 pub mod BootsShown
+pub mod NextShown
 pub mod TellingBoots
+pub mod Leading
+pub mod LeadingRounds
+pub mod Answering
 pub mod Exploring

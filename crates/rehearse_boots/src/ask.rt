@@ -19,6 +19,8 @@ pub struct Started {
     pub devices: Devices,
     /// The text that is rehearsed in place of the variable's, if there is one.
     pub text: Option<Vec<u8>>,
+    /// Whether this environment is saved before the run.
+    pub saves: bool,
 }
 
 /// A board, whose boots are rehearsed.
@@ -30,6 +32,17 @@ pub trait Board {
     /// `Start::begin`.
     fn start(&self, env: Env) -> Result<Started, BoardError>
         ensures { Starts (start_of self.now env) result };
+}
+
+/// An ending to which each boot is expected to lead, by boots in which nothing fails.
+#[derive(Clone, Copy)]
+pub struct Expected<'a> {
+    /// The words with which its line starts.
+    pub ending: &'a [u8],
+    /// The values that it leaves of variables; an empty one of a variable that is not set.
+    pub values: &'a [(&'a [u8], &'a [u8])],
+    /// How many boots may lead to it; without a number, any may.
+    pub within: Option<usize>,
 }
 
 /// What is asked of the boots of a board.
@@ -57,4 +70,8 @@ pub struct BootsAsk<'a> {
     /// How many bytes an image has for the variables that are saved, with the byte that ends them; without a number, any
     /// environment can be saved.
     pub room: Option<usize>,
+    /// A script of the changes that the system may make after an ending that boots, as `apply_script` reads it.
+    pub changes: Option<&'a [u8]>,
+    /// The ending to which each boot is expected to lead, if this is asked.
+    pub expected: Option<Expected<'a>>,
 }

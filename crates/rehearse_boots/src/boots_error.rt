@@ -4,12 +4,16 @@ ghost use Rattle.rehearse_boots.specs.declared.boots_error.BootsError.TheVariant
 
 use board_start::BoardError;
 use bootstore_state::StoreError;
+use envtools::ScriptError;
 use std::alloc::{AllocError, AllocFailed};
 use thiserror::Error;
 
 /// Why the boots of a board are not reported, or why their lines break off.
 #[derive(Clone, Copy, Debug, Drop, PartialEq, Eq, Error)]
 pub enum BootsError {
+    /// A line of the script of changes is refused, for a reason other than memory.
+    #[error("{0}")]
+    Changes(ScriptError),
     /// A boot does not start, for a reason other than memory.
     #[error("{0}")]
     Board(BoardError),
