@@ -99,8 +99,23 @@ function start_value(of,    text) {
     return text
 }
 
+# a line of a boot counter, or one that is nearly one, and lines that say what its variables have before the run
+function count_line(    counter, limit, text) {
+    counter = one_of("a b p e")
+    limit = one_of("a b p f f")
+    text = "count " (chance(97) ? counter : one_of("-a a/b " quote "a" quote)) (chance(98) ? " limit " : " below ") \
+        limit (chance(98) ? " else " : "  or ") (chance(97) ? one_of("c c d q") : one_of("-c c=1")) (chance(2) ? " d" : "")
+    if (chance(80))
+        text = text "\ngiven " limit "=" counted(limit, one_of("0 1 1 2 0x2 01 1x"))
+    if (chance(80))
+        text = text "\ngiven " counter "=" counted(counter, one_of("0 1 2 3 0x1 18446744073709551615"))
+    return text "\ngiven upgrade_available=" counted("upgrade_available", chance(90) ? 1 : one_of("0 0x1 4294967296 yes"))
+}
+
 # a line of the start, or one that is nearly one
 function start_line(    of, value) {
+    if (chance(8))
+        return count_line()
     if (chance(30))
         return "before " (chance(95) ? one_of("c c d d a q") : one_of("a/b -c c=1 " quote "c" quote)) (chance(3) ? " d" : "")
     of = chance(97) ? one_of("a b p c c d") : one_of("-a @1 a.b " quote "a" quote " = a" quote)

@@ -12,6 +12,8 @@ import sys
 BUILT_IN = set("setenv run test echo true false exit".split())
 FINISHES = {"final": "booted", "restart": "restarted", "halt": "halted"}
 CLAUSES = {*FINISHES, "steady", "always", "needs", "normal", ":"}
+# a name that `run` takes as it is
+PLAIN = "[A-Za-z0-9_.][A-Za-z0-9_.-]*"
 # what names a word of a call
 PLACE = re.compile("@(last|0*[1-9][0-9]*)")
 
@@ -42,7 +44,7 @@ class BoardList:
 
     def __init__(self):
         self.calls, self.commands, self.known, self.test = {}, {}, set(), Effect()
-        self.given, self.before = {}, []
+        self.given, self.before, self.counter = {}, [], None
 
     def alternatives(self):
         """The values of the variables that are given: the last name changes fastest."""
@@ -59,8 +61,11 @@ class BoardList:
             case ["given", word, *_] if "=" in word:
                 self.read_given(re.sub("^given[ \t]+", "", line))
             case ["before", name] if "=" not in name:
-                must(re.fullmatch("[A-Za-z0-9_.][A-Za-z0-9_.-]*", name))
+                must(re.fullmatch(PLAIN, name))
                 self.before.append(name)
+            case ["count", counter, "limit", limit, "else", alternative]:
+                must(all(re.fullmatch(PLAIN, name) for name in (counter, limit, alternative)))
+                self.counter = counter, limit, alternative
             case ["call", *words] if ":" in words:
                 self.read_call(re.findall("(?:[^ \t']|'[^']*(?:'|$))+", line)[1:])
             case ["absent", name] if "=" not in name:
@@ -71,6 +76,20 @@ class BoardList:
                 self.test.steady = True
             case words:
                 self.read_command(words)
+
+    def raised(self, environment, commands):
+        """The environment with the raised boot counter, and the commands that run then."""
+        if not self.counter:
+            return environment, commands
+        def number(name):
+            found = re.match("0[xX]([0-9a-fA-F]+)|([0-9]+)", environment.get(name, ""))
+            return (int(found[1], 16) if found[1] else int(found[2])) % 2**64 if found else 0
+        def count():
+            return number(counter) if number("upgrade_available") % 2**32 else 0
+        counter, limit, alternative = self.counter
+        environment = {**environment, counter: str((count() + 1) % 2**64)}
+        beyond = 0 < number(limit) < count()
+        return environment, environment.get(alternative, "").split(";") if beyond else commands
 
     def read_given(self, text):
         """A line `given`."""
@@ -262,7 +281,8 @@ def printed(folder, number, steady, most):
     choice = choice or "1"
     must(1 <= int(choice) <= len(all_given), f"no alternative {choice}: the device list has {len(all_given)}")
     environment = {name: value for name, value in all_given[int(choice) - 1].items() if value}
-    return listing(board, environment, steady, most, commands.split("\n"))
+    environment, texts = board.raised(environment, commands.split("\n"))
+    return listing(board, environment, steady, most, texts)
 
 
 def main():

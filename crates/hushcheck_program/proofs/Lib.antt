@@ -1,3 +1,4 @@
 pub mod AnswerLemmas
 pub mod CheckLemmas
 pub mod StatusLemmas
+mod NamesExamples
