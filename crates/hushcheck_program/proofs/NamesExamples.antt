@@ -1,7 +1,7 @@
 -- Worked examples of the names that are checked on a board, and of its environment, computed.
 use Rattle.std.proofs.Common.{◌≡◌, [], ◌∷◌, List, Option, Some, None, codes, refl}
 use Rattle.std.specs.Fmt.{digits}
-use Rattle.text.specs.Lines.{Text}
+use Rattle.hushcheck.specs.Names.{Text}
 use Rattle.envimage.specs.Data.{Pair}
 use Rattle.device_list.specs.DeviceList.{only}
 use Rattle.board_start.specs.Boards.{Board}
