@@ -1,8 +1,9 @@
 -- What the words ask for.
-use Rattle.std.proofs.Common.{◌≡◌, ◌==◌, ℕ, Bool, true, false, not, refl, sym, subst, ◌∙◌, List, length, Option, Some, None, Ok, Err}
+use Rattle.std.proofs.Common.{◌≡◌, ◌==◌, ℕ, Bool, true, false, not, refl, sym, subst, ◌∙◌, List, [], ◌∷◌, length, Option, Some, None, Ok, Err}
 use Rattle.std.proofs.lemmas.Bool.{eqb-true}
 use Rattle.std.proofs.lemmas.List.{length-map}
-use Rattle.std.specs.Prelude.{Result, is_some, unwrap_or, ◌||◌, option_and_then, option_map, if◌then◌else◌, ◌&&◌, codes, string_bytes}
+use Rattle.std.specs.Prelude.{Result, is_some, nat_lt, ◌||◌, option_and_then, option_map, if◌then◌else◌, ◌&&◌, codes, string_bytes}
+use Rattle.std.specs.Option.{option_map_or}
 use Rattle.std.specs.Str.{bytes_eq}
 use Rattle.clap.specs.Words.{Row, Text, first_of, subcommand_of}
 use Rattle.rehearse_terms.specs.Asking.{Alone, Listed, Wanted}
@@ -12,8 +13,8 @@ use Rattle.rehearse_terms.specs.declared.shell.Shell.{Shell}
 use Rattle.tool_words.specs.CommandAnswers.{Answers, asked, meaning_of}
 use Rattle.tool_words.specs.Called.{is_tool}
 use Rattle.tool_words.specs.declared.ask.Taking.{Taking}
-use Rattle.tool_words.specs.Asked.{Asked, asked_of, booting, boots_asked, boots_with, bounds_asked, cause_bounds_asked, causes_asked, causes_with, causing, change_asked, ending, endings_asked, endings_with, fill_of, has_no_folder, header_needs_one, image_asked, image_with, images_asked, input_scripted, inputs_asked, inspect_asked, inspecting, is_set, limits_asked, list_asked, listing_asked, lock_needs_folder, making_asked, number_within, of_named, one_copy, order_of, origin_asked, page_asked, print_asked, print_form, printing, printing_asked, rehearsal_of, rehearsal_with, rehearse_asked, rehearsing, run_bounds_asked, script_asked, scripted, set_asked, setting, shell_of, size_of, too_many_devices, usual_boots, values_of, variable_of, wanted_by, word_alone, word_asked}
-use Rattle.tool_words.specs.CommandLine.{most_boots, most_failures, ubtool}
+use Rattle.tool_words.specs.Asked.{Asked, Expected, asked_of, bad_value, booting, boots_asked, boots_by, boots_what, boots_with, bounds_asked, cause_bounds_asked, causes_asked, causes_with, causing, change_asked, ending, endings_asked, endings_with, expected_by, fill_of, has_no_folder, header_needs_one, image_asked, image_with, images_asked, input_scripted, inputs_asked, inspect_asked, inspecting, is_set, limits_asked, list_asked, listing_asked, lock_needs_folder, making_asked, named_values, needs_expect, number_within, numbers_asked, of_named, one_copy, order_of, origin_asked, page_asked, print_asked, print_form, printing, printing_asked, rehearsal_of, rehearsal_with, rehearse_asked, rehearsing, run_bounds_asked, script_asked, scripted, set_asked, setting, shell_of, size_of, too_many_devices, values_of, variable_of, wanted_by, word_alone, word_asked}
+use Rattle.tool_words.specs.CommandLine.{most_failures, ubtool}
 use Rattle.tool_words.specs.declared.ask.OriginError.{OriginError}
 use Rattle.tool_words.specs.declared.called.CalledAs.{CalledAs}
 use Rattle.tool_words.specs.declared.ask.Ask.{Ask}
@@ -106,22 +107,31 @@ endings-fit None bounds limits shell rows = tt
 endings-fit (Some list) None limits shell rows = tt
 endings-fit (Some list) (Some bounds) None shell rows = tt
 
-boots-fit : (list : Option (Text × Taking)) (bounds : Option BoundsShown) (limits : _) (boots failures : Option (Option ℕ)) (shell : Shell) (rows : List Row) → IsFit (boots_with list bounds limits boots failures shell rows)
-boots-fit (Some list) (Some bounds) (Some limits) (Some boots) (Some failures) shell rows = named-fit (inputs_asked list.0 list.1 rows) (λ inputs. booting inputs (record {
-  variable = variable_of rows;
-  bounds = in_shell shell bounds;
-  states = limits.states;
-  work = limits.work;
-  memory = limits.memory;
-  boots = unwrap_or boots usual_boots;
-  failures = failures;
-  names = values_of (codes "names") rows;
-}) (order_of rows)) (λ inputs. tt)
-boots-fit None bounds limits boots failures shell rows = tt
-boots-fit (Some list) None limits boots failures shell rows = tt
-boots-fit (Some list) (Some bounds) None boots failures shell rows = tt
-boots-fit (Some list) (Some bounds) (Some limits) None failures shell rows = tt
-boots-fit (Some list) (Some bounds) (Some limits) (Some boots) None shell rows = tt
+followed-fit : (list : Text × Taking) (bounds : BoundsShown) (limits : _) (numbers : _) (shell : Shell) (rows : List Row) (expected : Option Expected) → IsFit (Some (boots_by list bounds limits numbers shell rows (Ok expected)))
+followed-fit list bounds limits numbers shell rows expected =
+    named-fit (inputs_asked list.0 list.1 rows) (λ inputs. booting inputs (boots_what (in_shell shell bounds) limits numbers expected rows) (order_of rows)) (λ inputs. tt)
+
+valued-fit : (list : Text × Taking) (bounds : BoundsShown) (limits : _) (numbers : _) (shell : Shell) (rows : List Row) (word : Text) (within : Option ℕ) (values : Option (List (Text × Text)))
+    → IsFit (Some (boots_by list bounds limits numbers shell rows (option_map_or (λ values. Ok (Some (record { ending = word; within = within; values = values }))) values (Err bad_value))))
+valued-fit list bounds limits numbers shell rows word within (Some values) = followed-fit list bounds limits numbers shell rows (Some (record { ending = word; within = within; values = values }))
+valued-fit list bounds limits numbers shell rows word within None = tt
+
+alone-fit : (list : Text × Taking) (bounds : BoundsShown) (limits : _) (numbers : _) (shell : Shell) (rows : List Row) (beside : Bool) → IsFit (Some (boots_by list bounds limits numbers shell rows (if beside then Err needs_expect else Ok None)))
+alone-fit list bounds limits numbers shell rows true = tt
+alone-fit list bounds limits numbers shell rows false = followed-fit list bounds limits numbers shell rows None
+
+expected-fit : (list : Text × Taking) (bounds : BoundsShown) (limits : _) (numbers : _) (shell : Shell) (rows : List Row) (word : Option Text) (within : Option ℕ) (said : List Text)
+    → IsFit (Some (boots_by list bounds limits numbers shell rows (expected_by word within said)))
+expected-fit list bounds limits numbers shell rows None within said = alone-fit list bounds limits numbers shell rows (is_some within || nat_lt 0 (length said))
+expected-fit list bounds limits numbers shell rows (Some []) within said = tt
+expected-fit list bounds limits numbers shell rows (Some (b ∷ word)) within said = valued-fit list bounds limits numbers shell rows (b ∷ word) within (named_values said)
+
+boots-fit : (list : Option (Text × Taking)) (bounds : Option BoundsShown) (limits : _) (numbers : _) (shell : Shell) (rows : List Row) → IsFit (boots_with list bounds limits numbers shell rows)
+boots-fit (Some list) (Some bounds) (Some limits) (Some numbers) shell rows = expected-fit list bounds limits numbers shell rows (first_of (codes "expect") rows) numbers.within (values_of (codes "expect-var") rows)
+boots-fit None bounds limits numbers shell rows = tt
+boots-fit (Some list) None limits numbers shell rows = tt
+boots-fit (Some list) (Some bounds) None numbers shell rows = tt
+boots-fit (Some list) (Some bounds) (Some limits) None shell rows = tt
 
 causes-fit : (list : Option (Text × Taking)) (bounds : Option BoundsShown) (shell : Shell) (rows : List Row) → IsFit (causes_with list bounds shell rows)
 causes-fit (Some list) (Some bounds) shell rows = named-fit (inputs_asked list.0 list.1 rows) (λ inputs. causing inputs (record {
@@ -158,13 +168,13 @@ asked-fit called words = found-fit (subcommand_of ubtool words) (λ s. asked_of 
         let list = list_asked rows in
         let failures = number_within 0 most_failures (codes "failures") rows in
         let limits = limits_asked rows in
-        let boots = number_within 0 most_boots (codes "boots") rows in
+        let numbers = numbers_asked rows in
         let rehearsed = found-fit (shell_of rows) (λ shell. rehearsal_with list (page_asked rows) failures shell rows)
         (λ shell. rehearse-fit list (page_asked rows) failures shell rows) in
         let ended = found-fit (shell_of rows) (λ shell. endings_with list (run_bounds_asked rows) limits shell rows)
         (λ shell. endings-fit list (run_bounds_asked rows) limits shell rows) in
-        let booted = found-fit (shell_of rows) (λ shell. boots_with list (run_bounds_asked rows) limits boots failures shell rows)
-        (λ shell. boots-fit list (run_bounds_asked rows) limits boots failures shell rows) in
+        let booted = found-fit (shell_of rows) (λ shell. boots_with list (run_bounds_asked rows) limits numbers shell rows)
+        (λ shell. boots-fit list (run_bounds_asked rows) limits numbers shell rows) in
         let caused = found-fit (shell_of rows) (λ shell. causes_with list (cause_bounds_asked rows) shell rows)
         (λ shell. causes-fit list (cause_bounds_asked rows) shell rows) in
         let made = image-fit (first_of (codes "text") rows) (first_of (codes "output") rows) (size_of rows) rows in

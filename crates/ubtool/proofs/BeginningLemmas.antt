@@ -45,6 +45,7 @@ not_begun image answer IsSo told listed starts memory (refused.Rehearsal rehears
 not_begun image answer IsSo told listed starts memory (refused.Rehearsal rehearsal.Failed) h = absurd h
 not_begun image answer IsSo told listed starts memory (refused.Start fault) h = starts fault h
 not_begun image answer IsSo told listed starts memory refused.Boots h = absurd h
+not_begun image answer IsSo told listed starts memory (refused.Changes error) h = absurd h
 not_begun image answer IsSo told listed starts memory refused.Unnamed h = absurd h
 not_begun image answer IsSo told listed starts memory refused.Write h = absurd h
 not_begun image answer IsSo told listed starts memory refused.Memory h = memory h.0 h.1

@@ -10,7 +10,7 @@ use Rattle.ubtool.specs.Given.{FromFiles, Given, given_by, script_of}
 use Rattle.ubtool.specs.declared.rehearsal_error.RehearsalError.{RehearsalError}
 use Rattle.rehearse_rules.specs.declared.rehearse_error.RehearseError.TheVariants as rehearsal
 use Rattle.ubtool.specs.declared.rehearsal_error.RehearsalError.TheVariants as refused
-use Rattle.ubtool.proofs.CausesTurnLemmas.{broken-counted, image-untouched, never, never-boots, never-unnamed, rehearsal-untouched, start-untouched, untouched}
+use Rattle.ubtool.proofs.CausesTurnLemmas.{broken-counted, image-untouched, never, never-boots, never-changes, never-unnamed, rehearsal-untouched, start-untouched, untouched}
 use Rattle.ubtool.specs.RehearsingFiles.{LeavesOutput}
 use Rattle.tool_files.specs.Told.{Told}
 use Rattle.board_files.proofs.BoardLemmas.{only-read, so-of-board}
@@ -47,6 +47,7 @@ module _ (order : ByteOrder) (inputs : InputsShown) (what : CausesAsk) (out out'
   causes-refused (refused.Rehearsal (rehearsal.Bytes count)) h = absurd (never (given_by order (copies board.images) (list_of board) inputs.taking (script_of board) (runs_asked what)) what.check out out' (rehearsal.Bytes count) (λ g no. no) h)
   causes-refused (refused.Start error) h = from-files (λ g. RefusesCauses g what.check out out' (refused.Start error)) h
   causes-refused refused.Boots h = absurd (never-boots (given_by order (copies board.images) (list_of board) inputs.taking (script_of board) (runs_asked what)) what.check out out' h)
+  causes-refused (refused.Changes error) h = absurd (never-changes (given_by order (copies board.images) (list_of board) inputs.taking (script_of board) (runs_asked what)) what.check out out' error h)
   causes-refused refused.Unnamed h = absurd (never-unnamed (given_by order (copies board.images) (list_of board) inputs.taking (script_of board) (runs_asked what)) what.check out out' h)
   causes-refused refused.Write h = from-files (λ g. RefusesCauses g what.check out out' refused.Write) h
   causes-refused refused.Memory h = (only-read inputs board x z read, h)
@@ -59,6 +60,7 @@ causes-told g check out out' (Err (refused.Image error)) ok err = err
 causes-told g check out out' (Err (refused.Rehearsal error)) ok err = err
 causes-told g check out out' (Err (refused.Start error)) ok err = err
 causes-told g check out out' (Err refused.Boots) ok err = err
+causes-told g check out out' (Err (refused.Changes error)) ok err = err
 causes-told g check out out' (Err refused.Unnamed) ok err = err
 causes-told g check out out' (Err refused.Write) ok err = err
 causes-told g check out out' (Err refused.Memory) ok err = untouched g check out out' err
@@ -77,6 +79,7 @@ leaves-refused g what out out' (refused.Rehearsal (rehearsal.Bytes count)) h = r
 leaves-refused g what out out' (refused.Rehearsal rehearsal.NoSuchVariable) h = rehearsal-untouched g what.check out out' rehearsal.NoSuchVariable h
 leaves-refused g what out out' (refused.Start error) h = start-untouched g what.check out out' error h
 leaves-refused g what out out' refused.Boots h = absurd (never-boots g what.check out out' h)
+leaves-refused g what out out' (refused.Changes error) h = absurd (never-changes g what.check out out' error h)
 leaves-refused g what out out' refused.Unnamed h = absurd (never-unnamed g what.check out out' h)
 leaves-refused g what out out' refused.Write h = broken-counted g what.check out out' h
 leaves-refused g what out out' refused.Memory h = ap (λ (s : Sink). s.failures) h

@@ -1,6 +1,7 @@
 -- The causes of one alternative, and of all in turn.
 use Rattle.std.proofs.Common.{◌≡◌, ◌∙◌, ℕ, ◌+◌, ◌<◌, Bool, List, sym, ap, subst, Option, Some, None, Err, length}
 use Rattle.envimage.specs.declared.image.ImageError.{ImageError}
+use Rattle.envtools.specs.declared.script.ScriptError.{ScriptError}
 use Rattle.output.specs.Sink.{Sink, Wrote, BrokeOff, counted}
 use Rattle.board_start.specs.Boards.{OfStart}
 use Rattle.board_start.specs.declared.start_error.StartError.{StartError}
@@ -51,6 +52,7 @@ module _ (g : Given) (check : Bool) (old new : Sink) where
   one-refused (refused.Start (NoAlternative number count)) e h = refuses-none (refused.Start (NoAlternative number count)) (turns_of (beginning_of g)) (ap turns_of h.0) h
   one-refused (refused.Start Name) e h = refuses-none (refused.Start Name) (turns_of (beginning_of g)) (ap turns_of h.0) h
   one-refused refused.Boots e h = absurd h.0
+  one-refused (refused.Changes error) e h = absurd h.0
   one-refused refused.Unnamed e h = absurd h.0
   one-refused refused.Write e h = refuses-none refused.Write (turns_of (beginning_of g)) (ap turns_of h.1.found) h
   one-refused refused.Memory e h = memory-told (turns_of (beginning_of g)) h
@@ -70,6 +72,7 @@ has-turns g check old new (refused.Start Name) count e h = absurd (let f : ◌�
 has-turns g check old new (refused.Image fault) count e h = absurd (let f : ◌≡◌ {A = Option ℕ} None (Some count) = e in cc)
 has-turns g check old new (refused.Rehearsal error) count e h = absurd (let f : ◌≡◌ {A = Option ℕ} None (Some count) = e in cc)
 has-turns g check old new refused.Boots count e h = absurd (let f : ◌≡◌ {A = Option ℕ} None (Some count) = e in cc)
+has-turns g check old new (refused.Changes error) count e h = absurd (let f : ◌≡◌ {A = Option ℕ} None (Some count) = e in cc)
 has-turns g check old new refused.Unnamed count e h = absurd (let f : ◌≡◌ {A = Option ℕ} None (Some count) = e in cc)
 has-turns g check old new refused.Write count e h = absurd (let f : ◌≡◌ {A = Option ℕ} None (Some count) = e in cc)
 has-turns g check old new refused.Memory count e h = absurd (let f : ◌≡◌ {A = Option ℕ} None (Some count) = e in cc)
@@ -95,6 +98,7 @@ module _ (g : Given) (check : Bool) (count : ℕ) (old new : Sink) (found : begi
   turns-refused (refused.Rehearsal error) h same = refuses-some (refused.Rehearsal error) (turns_of (beginning_of g)) (ap turns_of found) (h, same)
   turns-refused (refused.Start fault) h same = refuses-some (refused.Start fault) (turns_of (beginning_of g)) (ap turns_of found) (h, same)
   turns-refused refused.Boots h same = absurd h.lacks
+  turns-refused (refused.Changes error) h same = absurd h.lacks
   turns-refused refused.Unnamed h same = absurd h.lacks
   turns-refused refused.Write h same = absurd h.lacks
   turns-refused refused.Memory h same = refuses-some refused.Memory (turns_of (beginning_of g)) (ap turns_of found) (image-of-start g (Alternatives count) found, same)
@@ -119,6 +123,13 @@ pub never-unnamed : (g : Given) (check : Bool) (old new : Sink) → RefusesCause
 never-unnamed g check old new h = by (turns_of (beginning_of g)) h
   where
     by : (t : Option ℕ) → RefusesBy g check t old new refused.Unnamed → ⊥
+    by None h = h.0
+    by (Some count) h = h.0.lacks
+
+pub never-changes : (g : Given) (check : Bool) (old new : Sink) (error : ScriptError) → RefusesCauses g check old new (refused.Changes error) → ⊥
+never-changes g check old new error h = by (turns_of (beginning_of g)) h
+  where
+    by : (t : Option ℕ) → RefusesBy g check t old new (refused.Changes error) → ⊥
     by None h = h.0
     by (Some count) h = h.0.lacks
 
@@ -151,6 +162,7 @@ turn-refused g check count place parts text so_far within error h = by error h
     by (refused.Rehearsal fault) h = lacking (refused.Rehearsal fault) h
     by (refused.Start fault) h = lacking (refused.Start fault) h
     by refused.Boots h = absurd h
+    by (refused.Changes error) h = absurd h
     by refused.Unnamed h = absurd h
     by refused.Write h = absurd h
     by refused.Memory h = tt

@@ -11,7 +11,7 @@ use Rattle.ubtool.specs.Given.{FromFiles, Given, all_runs, given_by, script_of}
 use Rattle.ubtool.specs.declared.rehearsal_error.RehearsalError.{RehearsalError}
 use Rattle.rehearse_rules.specs.declared.rehearse_error.RehearseError.TheVariants as rehearsal
 use Rattle.ubtool.specs.declared.rehearsal_error.RehearsalError.TheVariants as refused
-use Rattle.ubtool.proofs.EndingsTurnLemmas.{broken-counted, image-untouched, never, never-boots, never-unnamed, rehearsal-untouched, start-untouched, untouched}
+use Rattle.ubtool.proofs.EndingsTurnLemmas.{broken-counted, image-untouched, never, never-boots, never-changes, never-unnamed, rehearsal-untouched, start-untouched, untouched}
 use Rattle.ubtool.specs.RehearsingFiles.{LeavesOutput}
 use Rattle.tool_files.specs.Told.{Told}
 use Rattle.board_files.proofs.BoardLemmas.{only-read, so-of-board}
@@ -48,6 +48,7 @@ module _ (order : ByteOrder) (inputs : InputsShown) (what : EndingsAsk) (out out
   tells-refused (refused.Rehearsal (rehearsal.Bytes count)) h = from-files (λ g. RefusesEndings g what.flow what.states what.work (bytes_allowed what) out out' (refused.Rehearsal (rehearsal.Bytes count))) h
   tells-refused (refused.Start error) h = from-files (λ g. RefusesEndings g what.flow what.states what.work (bytes_allowed what) out out' (refused.Start error)) h
   tells-refused refused.Boots h = absurd (never-boots (given_by order (copies board.images) (list_of board) inputs.taking (script_of board) (all_asked what)) what.flow what.states what.work (bytes_allowed what) out out' h)
+  tells-refused (refused.Changes error) h = absurd (never-changes (given_by order (copies board.images) (list_of board) inputs.taking (script_of board) (all_asked what)) what.flow what.states what.work (bytes_allowed what) out out' error h)
   tells-refused refused.Unnamed h = absurd (never-unnamed (given_by order (copies board.images) (list_of board) inputs.taking (script_of board) (all_asked what)) what.flow what.states what.work (bytes_allowed what) out out' h)
   tells-refused refused.Write h = from-files (λ g. RefusesEndings g what.flow what.states what.work (bytes_allowed what) out out' refused.Write) h
   tells-refused refused.Memory h = (only-read inputs board x z read, h)
@@ -60,6 +61,7 @@ copies-told g flow states work bytes out out' (Err (refused.Image error)) ok err
 copies-told g flow states work bytes out out' (Err (refused.Rehearsal error)) ok err = err
 copies-told g flow states work bytes out out' (Err (refused.Start error)) ok err = err
 copies-told g flow states work bytes out out' (Err refused.Boots) ok err = err
+copies-told g flow states work bytes out out' (Err (refused.Changes error)) ok err = err
 copies-told g flow states work bytes out out' (Err refused.Unnamed) ok err = err
 copies-told g flow states work bytes out out' (Err refused.Write) ok err = err
 copies-told g flow states work bytes out out' (Err refused.Memory) ok err = untouched g flow states work bytes out out' err
@@ -78,6 +80,7 @@ leaves-refused g what out out' (refused.Rehearsal rehearsal.Failed) h = rehearsa
 leaves-refused g what out out' (refused.Rehearsal rehearsal.States) h = rehearsal-untouched g what.flow what.states what.work (bytes_allowed what) out out' rehearsal.States h
 leaves-refused g what out out' (refused.Start error) h = start-untouched g what.flow what.states what.work (bytes_allowed what) out out' error h
 leaves-refused g what out out' refused.Boots h = absurd (never-boots g what.flow what.states what.work (bytes_allowed what) out out' h)
+leaves-refused g what out out' (refused.Changes error) h = absurd (never-changes g what.flow what.states what.work (bytes_allowed what) out out' error h)
 leaves-refused g what out out' refused.Unnamed h = absurd (never-unnamed g what.flow what.states what.work (bytes_allowed what) out out' h)
 leaves-refused g what out out' refused.Write h = broken-counted g what.flow what.states what.work (bytes_allowed what) out out' h
 leaves-refused g what out out' refused.Memory h = ap (λ (s : Sink). s.failures) h

@@ -1,6 +1,7 @@
 -- The endings of one alternative, and of all in turn.
 use Rattle.std.proofs.Common.{◌≡◌, ◌∙◌, ℕ, ◌+◌, ◌<◌, Bool, List, sym, ap, subst, Option, Some, None, Err, length}
 use Rattle.envimage.specs.declared.image.ImageError.{ImageError}
+use Rattle.envtools.specs.declared.script.ScriptError.{ScriptError}
 use Rattle.output.specs.Sink.{Sink, Wrote, BrokeOff, counted}
 use Rattle.board_start.specs.Boards.{OfStart}
 use Rattle.board_start.specs.declared.start_error.StartError.{StartError}
@@ -51,6 +52,7 @@ module _ (g : Given) (flow : Bool) (states work bytes : ℕ) (old new : Sink) wh
   one-refused (refused.Start (NoAlternative number count)) e h = refuses-none (refused.Start (NoAlternative number count)) (turns_of (beginning_of g)) (ap turns_of h.0) h
   one-refused (refused.Start Name) e h = refuses-none (refused.Start Name) (turns_of (beginning_of g)) (ap turns_of h.0) h
   one-refused refused.Boots e h = absurd h.0
+  one-refused (refused.Changes error) e h = absurd h.0
   one-refused refused.Unnamed e h = absurd h.0
   one-refused refused.Write e h = refuses-none refused.Write (turns_of (beginning_of g)) (ap turns_of h.1.found) h
   one-refused refused.Memory e h = memory-told (turns_of (beginning_of g)) h
@@ -70,6 +72,7 @@ has-turns g flow states work bytes old new (refused.Start Name) count e h = absu
 has-turns g flow states work bytes old new (refused.Image fault) count e h = absurd (let f : ◌≡◌ {A = Option ℕ} None (Some count) = e in cc)
 has-turns g flow states work bytes old new (refused.Rehearsal error) count e h = absurd (let f : ◌≡◌ {A = Option ℕ} None (Some count) = e in cc)
 has-turns g flow states work bytes old new refused.Boots count e h = absurd (let f : ◌≡◌ {A = Option ℕ} None (Some count) = e in cc)
+has-turns g flow states work bytes old new (refused.Changes error) count e h = absurd (let f : ◌≡◌ {A = Option ℕ} None (Some count) = e in cc)
 has-turns g flow states work bytes old new refused.Unnamed count e h = absurd (let f : ◌≡◌ {A = Option ℕ} None (Some count) = e in cc)
 has-turns g flow states work bytes old new refused.Write count e h = absurd (let f : ◌≡◌ {A = Option ℕ} None (Some count) = e in cc)
 has-turns g flow states work bytes old new refused.Memory count e h = absurd (let f : ◌≡◌ {A = Option ℕ} None (Some count) = e in cc)
@@ -95,6 +98,7 @@ module _ (g : Given) (flow : Bool) (states work bytes count : ℕ) (old new : Si
   turns-refused (refused.Rehearsal error) h same = refuses-some (refused.Rehearsal error) (turns_of (beginning_of g)) (ap turns_of found) (h, same)
   turns-refused (refused.Start fault) h same = refuses-some (refused.Start fault) (turns_of (beginning_of g)) (ap turns_of found) (h, same)
   turns-refused refused.Boots h same = absurd h.lacks
+  turns-refused (refused.Changes error) h same = absurd h.lacks
   turns-refused refused.Unnamed h same = absurd h.lacks
   turns-refused refused.Write h same = absurd h.lacks
   turns-refused refused.Memory h same = refuses-some refused.Memory (turns_of (beginning_of g)) (ap turns_of found) (image-of-start g (Alternatives count) found, same)
@@ -119,6 +123,13 @@ pub never-unnamed : (g : Given) (flow : Bool) (states work bytes : ℕ) (old new
 never-unnamed g flow states work bytes old new h = by (turns_of (beginning_of g)) h
   where
     by : (t : Option ℕ) → RefusesBy g flow states work bytes t old new refused.Unnamed → ⊥
+    by None h = h.0
+    by (Some count) h = h.0.lacks
+
+pub never-changes : (g : Given) (flow : Bool) (states work bytes : ℕ) (old new : Sink) (error : ScriptError) → RefusesEndings g flow states work bytes old new (refused.Changes error) → ⊥
+never-changes g flow states work bytes old new error h = by (turns_of (beginning_of g)) h
+  where
+    by : (t : Option ℕ) → RefusesBy g flow states work bytes t old new (refused.Changes error) → ⊥
     by None h = h.0
     by (Some count) h = h.0.lacks
 
@@ -151,6 +162,7 @@ turn-refused g flow states work bytes count place parts text so_far within error
     by (refused.Rehearsal fault) h = lacking (refused.Rehearsal fault) h
     by (refused.Start fault) h = lacking (refused.Start fault) h
     by refused.Boots h = absurd h
+    by (refused.Changes error) h = absurd h
     by refused.Unnamed h = absurd h
     by refused.Write h = absurd h
     by refused.Memory h = tt

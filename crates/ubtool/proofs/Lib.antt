@@ -8,6 +8,7 @@ pub mod CausesTurnLemmas
 pub mod ImageEndingsLemmas
 pub mod ImageCausesLemmas
 pub mod ImageBootsLemmas
+pub mod KeptNamesLemmas
 pub mod AskLemmas
 pub mod RehearseLemmas
 pub mod EndingsLemmas

@@ -60,6 +60,7 @@ module _ (order : ByteOrder) (inputs : InputsShown) (what : RehearseAsk) (out ou
   rehearses-refused (refused.Rehearsal rehearsal.NotARun) h = no-run (wanted_word what.wanted) refl (from-files (λ g. Refuses g out out' (refused.Rehearsal rehearsal.NotARun)) h)
   rehearses-refused (refused.Start error) h = from-files (λ g. Refuses g out out' (refused.Start error)) h
   rehearses-refused refused.Boots h = absurd h
+  rehearses-refused (refused.Changes error) h = absurd h
   rehearses-refused refused.Unnamed h = absurd h
   rehearses-refused refused.Write h = from-files (λ g. Refuses g out out' refused.Write) h
   rehearses-refused refused.Memory h = inr (from-files (λ g. RunsOut g out out') h)
@@ -77,6 +78,7 @@ copies-rehearsed g out out' (Err (refused.Image error)) ok err = err
 copies-rehearsed g out out' (Err (refused.Rehearsal error)) ok err = err
 copies-rehearsed g out out' (Err (refused.Start error)) ok err = err
 copies-rehearsed g out out' (Err refused.Boots) ok err = err
+copies-rehearsed g out out' (Err (refused.Changes error)) ok err = err
 copies-rehearsed g out out' (Err refused.Unnamed) ok err = err
 copies-rehearsed g out out' (Err refused.Write) ok err = err
 copies-rehearsed g out out' (Err refused.Memory) ok (inl same) = inl same.1

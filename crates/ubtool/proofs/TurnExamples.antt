@@ -2,6 +2,7 @@
 use Rattle.std.proofs.Common.{◌≡◌, ℕ, [], ◌∷◌, ◌++◌, length, true, Option, Some, None, Ok, Err, codes, refl}
 use Rattle.envimage.specs.declared.image.ByteOrder.TheVariants.{Little}
 use Rattle.envimage.specs.declared.image.ImageError.{ImageError}
+use Rattle.envtools.specs.declared.script.ScriptError.{ScriptError}
 use Rattle.board_start.specs.Boards.{OfDevices, OfStart, text_alone}
 use Rattle.board_start.specs.Start.{Start, no_start}
 use Rattle.board_start.specs.declared.start_error.StartError.TheVariants.{Alternatives, Name, NoAlternative, TooMany}
@@ -12,7 +13,7 @@ use Rattle.tool_words.specs.declared.ask.Taking.{Taking}
 use Rattle.ubtool.specs.Beginning.{Beginning, OfBoard, OfImage}
 use Rattle.ubtool.specs.Given.{Given, given}
 use Rattle.ubtool.specs.Turns.{AreInTurn, IsStart, headed, named, taken_by, turns_of, turns_told}
-use Rattle.ubtool.specs.declared.rehearsal_error.RehearsalError.TheVariants.{Boots, Image, Memory, Start as CannotStart, Unnamed, Write}
+use Rattle.ubtool.specs.declared.rehearsal_error.RehearsalError.TheVariants.{Boots, Changes, Image, Memory, Start as CannotStart, Unnamed, Write}
 
 -- ---- which lists are gone through
 
@@ -57,6 +58,9 @@ image_told fault = refl
 boots_told : turns_told Boots ≡ None
 boots_told = refl
 
+changes_told : (fault : ScriptError) → turns_told (Changes fault) ≡ None
+changes_told fault = refl
+
 unnamed_told : turns_told Unnamed ≡ None
 unnamed_told = refl
 
@@ -85,6 +89,7 @@ abbrev of_two : Start
 of_two = record {
   givens = (codes "a", record { first = codes "1"; others = codes "2" ∷ [] }) ∷ (codes "b", record { first = codes "x"; others = [] }) ∷ [];
   before = [];
+  counter = None;
 }
 
 -- its lines are behind the line that tells it, if there are any; its place is counted from 0

@@ -19,6 +19,7 @@ started_with devices kept (Ok begun) = Ok (record {
   environment = begun.environment;
   devices = saving kept (filled (value_of begun.environment) devices);
   text = begun.text;
+  saves = begun.saves;
 })
 started_with devices kept (Err fault) = Err (OfStart fault)
 

@@ -1,13 +1,14 @@
 -- How the boots of a board follow one another, from the bytes of an image to the lines, and why this is refused. The image
 -- comes first in the order of the refusals, and nothing is written before the lines. A list with several alternatives is
 -- refused if none is named: they are not gone through in turn. Ours.
-use Rattle.std.specs.Prelude.{◌≡◌, ℕ, List, map, Option, Ok, Err}
+use Rattle.std.specs.Prelude.{◌≡◌, ℕ, Bool, List, map, Option, option_map, Ok, Err}
 use Rattle.output.specs.Sink.{Sink}
 use Rattle.board_start.specs.Boards.{ListRead}
 use Rattle.board_start.specs.declared.board_error.BoardError.TheVariants as board
 use Rattle.envimage.specs.Data.{Pair}
 use Rattle.envimage.specs.declared.image.ByteOrder.{ByteOrder}
-use Rattle.rehearse_boots.specs.Boots.{Asked, StartOf}
+use Rattle.rehearse_boots.specs.Boots.{Asked, Expected, StartOf}
+use Rattle.rehearse_boots.specs.BootsShown.{expected_shown}
 use Rattle.rehearse_boots.specs.TellingBoots as below
 use Rattle.rehearse_boots.specs.declared.ask.BootsAsk.{BootsAsk}
 use Rattle.rehearse_boots.specs.declared.boots_error.BootsError.{BootsError}
@@ -23,7 +24,7 @@ use Rattle.ubtool.specs.Given.{Given, all_runs, given}
 use Rattle.ubtool.specs.KeptNames.{IsKept, IsUnnamed}
 use Rattle.ubtool.specs.Refusing.{HasImage}
 use Rattle.ubtool.specs.declared.rehearsal_error.RehearsalError.{RehearsalError}
-use Rattle.ubtool.specs.declared.rehearsal_error.RehearsalError.TheVariants.{Boots, Image, Memory, Rehearsal, Start, Unnamed, Write}
+use Rattle.ubtool.specs.declared.rehearsal_error.RehearsalError.TheVariants.{Boots, Changes, Image, Memory, Rehearsal, Start, Unnamed, Write}
 
 -- how far boots may go
 pub record BootLimits : Type 0 where
@@ -36,6 +37,9 @@ pub record BootLimits : Type 0 where
   pub failures : Option ℕ
   -- the bytes that an image has for what is saved; none for any number
   pub room : Option ℕ
+  -- a script of the changes that the system may make after an ending that boots, and an ending that is expected
+  pub changes : Option Text
+  pub expected : Option Expected
 
 abbrev pub limits_of : BootsAsk → BootLimits
 limits_of ask = record {
@@ -45,6 +49,8 @@ limits_of ask = record {
   boots = ask.boots;
   failures = ask.failures;
   room = ask.room;
+  changes = option_map (λ c. c.now) ask.changes;
+  expected = option_map expected_shown ask.expected;
 }
 
 -- what is given: the text, if there is one, all runs of it or of the variable that is asked for, within the bounds, and
@@ -67,6 +73,8 @@ asked_of g limits environment kept = record {
   names = g.asking.names;
   kept = kept;
   room = limits.room;
+  changes = limits.changes;
+  expected = limits.expected;
 }
 
 -- the image is right, and this is the environment that the board has of it
@@ -80,16 +88,16 @@ pub record HasBoots (g : Given) (limits : BootLimits) (IsSo : StartOf → Asked 
   pub found : HasEnvironment g environment
   -- the variables that are kept from one boot to the next
   pub kept : List Text
-  pub is_kept : IsKept g environment kept
+  pub is_kept : IsKept g limits.changes environment kept
   pub so : IsSo (boot_start g.device_list g.taking g.asking.variable g.text kept) (asked_of g limits environment kept)
 
 -- the image is right, no name is asked for, and the texts may change other variables than those that they name
 abbrev pub HasUnnamed : Given → Type 0
 HasUnnamed g = (environment : List Pair) × HasEnvironment g environment × IsUnnamed g environment
 
--- the lines were written
-abbrev pub TellsBoots : Given → BootLimits → (old new : Sink) → Type 0
-TellsBoots g limits old new = HasBoots g limits (λ start_of asked. below.TellsBoots start_of asked limits.boots old new)
+-- the lines were written, and whether each boot leads to the ending that is expected is answered
+abbrev pub TellsBoots : Given → BootLimits → (old new : Sink) → (holds : Bool) → Type 0
+TellsBoots g limits old new holds = HasBoots g limits (λ start_of asked. below.TellsBoots start_of asked limits.boots old new holds)
 
 -- the boots are refused for this
 abbrev pub Refuses : Given → BootLimits → (old new : Sink) → BootsError → Type 0
@@ -104,6 +112,7 @@ RefusesBoots g limits old new (Rehearsal NoSuchVariable) = Refuses g limits old 
 RefusesBoots g limits old new (Rehearsal States) = Refuses g limits old new boots.States
 RefusesBoots g limits old new (Rehearsal (Steps count)) = Refuses g limits old new (boots.Steps count)
 RefusesBoots g limits old new (Rehearsal (Bytes count)) = Refuses g limits old new (boots.Bytes count)
+RefusesBoots g limits old new (Changes fault) = Refuses g limits old new (boots.Changes fault)
 RefusesBoots g limits old new Boots = Refuses g limits old new boots.Boots
 RefusesBoots g limits old new Write = Refuses g limits old new boots.Write
 RefusesBoots g limits old new Unnamed = HasUnnamed g × (new ≡ old)

@@ -17,7 +17,7 @@ use Rattle.ubtool.specs.declared.fault.ProgramFault.{ProgramFault}
 use Rattle.ubtool.specs.declared.fault.ProgramFault.TheVariants as program
 use Rattle.ubtool.specs.declared.fault.ProgramFault.TheVariants.{Shared}
 use Rattle.ubtool.specs.declared.rehearsal_error.RehearsalError.{RehearsalError}
-use Rattle.ubtool.specs.declared.rehearsal_error.RehearsalError.TheVariants.{Boots, Image, Memory, Rehearsal, Start, Unnamed, Write}
+use Rattle.ubtool.specs.declared.rehearsal_error.RehearsalError.TheVariants.{Boots, Changes, Image, Memory, Rehearsal, Start, Unnamed, Write}
 
 abbrev pub image_error : ImageError → RehearsalError
 image_error image.Memory = Memory
@@ -35,6 +35,7 @@ board_error board.Memory = Memory
 
 abbrev pub boots_error : BootsError → RehearsalError
 boots_error (boots.Board fault) = board_error fault
+boots_error (boots.Changes fault) = Changes fault
 boots_error boots.NoSuchVariable = Rehearsal rehearsal.NoSuchVariable
 boots_error boots.Boots = Boots
 boots_error boots.States = Rehearsal rehearsal.States
@@ -48,6 +49,7 @@ abbrev pub reported : RehearsalError → ProgramFault
 reported (Image error) = Shared (told.Tool (tool.Image error))
 reported (Rehearsal error) = program.Rehearsal error
 reported (Start error) = program.Start error
+reported (Changes error) = Shared (told.Tool (tool.Script error))
 reported Boots = program.Boots
 reported Unnamed = program.Unnamed
 reported Write = Shared (told.Tool tool.Write)

@@ -1,6 +1,7 @@
 pub mod Faults
 pub mod Given
 pub mod ListsShown
+pub mod LookedShown
 pub mod BoardEnvironment
 pub mod Beginning
 pub mod Headline

@@ -129,7 +129,7 @@ fn begin_with(
     ensures { IfOk result (λ beginning.
         begun_with devices (map (λ n. n.now) names.now) (Ok (begun_shown begun)) ≡ Ok (beginning_shown beginning)) }
 {
-    let Begun { env, text } = begun;
+    let Begun { env, text, .. } = begun;
     let asked = names_asked(alloc, &devices, names)?;
     let devices = devices_in(devices, &env, names)?;
     Ok(Beginning {

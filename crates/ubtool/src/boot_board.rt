@@ -32,9 +32,14 @@ fn start_with(devices: Devices, begun: Begun, kept: &[&[u8]]) -> Result<Started,
     ensures { IfOk result (λ started.
         started_with devices (map (λ n. n.now) kept.now) (Ok (begun_shown begun)) ≡ Ok (started_shown started)) }
 {
-    let Begun { env, text } = begun;
+    let Begun { env, text, saves } = begun;
     let devices = devices_in(devices, &env, kept)?;
-    Ok(Started { env, devices, text })
+    Ok(Started {
+        env,
+        devices,
+        text,
+        saves,
+    })
 }
 
 /// What a boot of this board starts with that keeps these variables and finds this environment saved. Errors: those of

@@ -69,6 +69,9 @@ impl From<RehearsalError> for ProgramFault {
             }
             RehearsalError::Rehearsal(error) => ProgramFault::Rehearsal(error),
             RehearsalError::Start(error) => ProgramFault::Start(error),
+            RehearsalError::Changes(error) => {
+                ProgramFault::Shared(Fault::Tool(ToolError::Script(error)))
+            }
             RehearsalError::Boots => ProgramFault::Boots,
             RehearsalError::Unnamed => ProgramFault::Unnamed,
             RehearsalError::Write => ProgramFault::Shared(Fault::Tool(ToolError::Write)),

@@ -2,6 +2,7 @@
 
 use board_start::{BoardError, StartError};
 use envimage::ImageError;
+use envtools::ScriptError;
 use rehearse_boots::BootsError;
 use rehearse_rules::RehearseError;
 use thiserror::Error;
@@ -18,6 +19,9 @@ pub enum RehearsalError {
     /// It cannot start as the device list says.
     #[error("{0}")]
     Start(StartError),
+    /// A line of the script of changes is refused.
+    #[error("{0}")]
+    Changes(ScriptError),
     /// A board has more boots than may be rehearsed.
     #[error("more boots than allowed")]
     Boots,
@@ -87,6 +91,7 @@ impl From<BootsError> for RehearsalError {
     fn from(error: BootsError) -> RehearsalError {
         match error {
             BootsError::Board(fault) => fault.into(),
+            BootsError::Changes(fault) => RehearsalError::Changes(fault),
             BootsError::NoSuchVariable => RehearsalError::Rehearsal(RehearseError::NoSuchVariable),
             BootsError::Boots => RehearsalError::Boots,
             BootsError::States => RehearsalError::Rehearsal(RehearseError::States),
