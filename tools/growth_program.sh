@@ -19,6 +19,7 @@ printf '# d\nload v=1\nfinal boot\n' >devices.txt
     'x=1 y=$x; for i in $x "a b"; do if load $i; then setenv a "$x"; else run t; fi; done; test -e mmc 0:1 /a && boot || exit 2'
 "$program" setenv -c fw_env.config t "echo t '' \$x; load t; exit 3"
 printf 'b 1\n# c\n\nt\nc=2 3\n' >changes.txt
+{ cat devices.txt; printf 'saves saveenv\ncount n limit m else t\n'; } >counting.txt
 printf 'a=1\nbootcmd=load\\\nboot\n' >env.txt
 printf 'if load; then\n  boot\nfi\n' >boot.cmd
 mkdir lists
@@ -102,6 +103,7 @@ begin endings -c fw_env.config -d devices.txt
 begin endings -c fw_env.config -d devices.txt --devices 5 --steps 40
 begin endings -c fw_env.config -d devices.txt --flow
 begin boots -c fw_env.config -d devices.txt bootdelay
+begin boots -c fw_env.config -d counting.txt --then changes.txt --expect booted --within 3 bootdelay
 begin causes -c fw_env.config -d devices.txt
 begin rehearse --script boot.cmd -c fw_env.config -d devices.txt
 begin endings --script boot.cmd -d lists

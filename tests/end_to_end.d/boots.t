@@ -156,6 +156,161 @@ a variable that is not set, and a script that asks in too many states
   ! ubtool: more states than allowed
   [1]
 
+the system changes something after an ending that boots, and after no other
+  $ printf 'left=2\n' >it.txt; printf 'ok 1\n' >mark
+  $ boots 'setenv ok; saveenv; bootm' $'final bootm\nsaves saveenv' --then mark --failures 1
+  boot 1
+  ends 1 first 00 fewest 0 00 booted bootm next 1 then 2
+  ends 1 first 01 fewest 1 01 end 1 next 1
+  fails bootm
+  ends 1 first 10 fewest 1 10 booted bootm next 1 then 2
+  fails saveenv
+  boot 2
+  var ok=1
+  ends 1 first 00 fewest 0 00 booted bootm next 1 then 2
+  ends 1 first 01 fewest 1 01 end 1 next 1
+  fails bootm
+  ends 1 first 10 fewest 1 10 booted bootm next 2 then 2
+  fails saveenv
+  all 2
+
+what the changes leave otherwise is kept, and what they leave as it is stays
+  $ printf '# good\nmark 1\nleft\nsame 3\n' >mark; printf 'left=2\nsame=3\n' >it.txt
+  $ boots 'load && bootm' $'load\nfinal bootm' --then mark --failures 0
+  boot 1
+  ends 1 first 00 fewest 0 00 booted bootm next 1 then 2
+  boot 2
+  unset left
+  var mark=1
+  ends 1 first 00 fewest 0 00 booted bootm next 2 then 2
+  all 2
+
+changes that have no room are not made
+  $ printf 'bootcmd=bootm\n' >it.txt; ubtool image --size 32 -o small.img it.txt; printf 'note 1234567\n' >mark
+  $ printf 'final bootm\n' >list; ubtool boots -i small.img -d list --then mark --failures 0
+  boot 1
+  ends 1 first 0 fewest 0 0 booted bootm next 1 then 2
+  boot 2
+  var note=1234567
+  ends 1 first 0 fewest 0 0 booted bootm next 2 then 2
+  all 2
+  $ printf 'note 123456789\n' >mark; ubtool boots -i small.img -d list --then mark --failures 0
+  boot 1
+  ends 1 first 0 fewest 0 0 booted bootm next 1 then 1
+  all 1
+
+a script of changes with a faulty line, and none that can be read
+  $ printf 'left=2\n' >it.txt; printf 'a 1\n=2\n' >mark
+  $ boots 'load' 'load' --then mark
+  ! ubtool: script line 2: bad name
+  [1]
+  $ boots 'load' 'load' --then nothing
+  ! ubtool: cannot read nothing
+  [1]
+
+a board that counts its boots: beyond the limit, the alternative runs, and what it changes is kept, too
+  $ printf 'upgrade_available=1\nbootcount=2\nbootlimit=3\nbootcmd=load && bootm\n' >counts.txt
+  $ printf 'altbootcmd=setenv upgrade_available; saveenv; bootm alt\n' >>counts.txt
+  $ printf 'load\nfinal bootm\nsaves saveenv\ncount bootcount limit bootlimit else altbootcmd\n' >list
+  $ ubtool boots --text counts.txt -d list --failures 0
+  boot 1
+  ends 1 first 00 fewest 0 00 booted bootm next 2
+  boot 2
+  var bootcount=3
+  ends 1 first 00 fewest 0 00 booted bootm next 3
+  boot 3
+  unset upgrade_available
+  var bootcount=4
+  ends 1 first 00 fewest 0 00 booted bootm next 3
+  all 3
+  $ ubtool boots --text counts.txt -d list --failures 0 --expect 'booted bootm'
+  all 3
+
+the counter is saved, whatever becomes of the boot; so one that nothing sets back has no end
+  $ ubtool boots --text counts.txt -d list --boots 20
+  ! ubtool: more boots than allowed
+  [1]
+  $ sed -i s/upgrade_available=1/upgrade_available=0/ counts.txt
+  $ ubtool boots --text counts.txt -d list
+  boot 1
+  ends 1 first 00 fewest 0 00 booted bootm next 1
+  ends 2 first 01 fewest 1 01 end 1 next 1
+  fails bootm
+  all 1
+
+whether each boot leads on to an ending
+  $ printf 'left=2\n' >it.txt; counting=$'final bootm\nsaves saveenv\nknown setexpr'
+  $ down='if test ${left} = 0; then bootm; else setexpr left ${left} - 1; saveenv; fi'
+  $ boots "$down" "$counting" --expect booted
+  all 3
+  $ boots "$down" "$counting" --expect booted --within 3
+  all 3
+  $ boots "$down" "$counting" --expect booted --within 2
+  boot 1
+  ends 1 first 0 fewest 0 0 end 0 next 2
+  ends 1 first 1 fewest 1 1 end 1 next 1
+  fails saveenv
+  lost 1
+  [1]
+  $ boots "$down" "$counting" --expect 'booted boot'
+  boot 1
+  ends 1 first 0 fewest 0 0 end 0 next 2
+  ends 1 first 1 fewest 1 1 end 1 next 1
+  fails saveenv
+  lost 1
+  [1]
+
+the boots on the way to the first one that is lost
+  $ boots 'test ${left} = 0 || setexpr left ${left} - 1; saveenv; test ${left} = 0 || bootm' "$counting" --expect booted
+  boot 1
+  ends 1 first 00 fewest 0 00 booted bootm next 2
+  boot 2
+  var left=1
+  ends 1 first 0 fewest 0 0 end 0 next 3
+  ends 1 first 1 fewest 1 1 end 0 next 2
+  fails saveenv
+  lost 2
+  [1]
+
+a way through a failure does not count
+  $ boots 'load && bootm A; bootm B' $'load\nfinal bootm' --expect 'end 1'
+  boot 1
+  ends 3 first 00 fewest 0 00 booted bootm next 1
+  ends 2 first 011 fewest 2 011 end 1 next 1
+  fails bootm A
+  fails bootm B
+  lost 1
+  [1]
+
+with values that the ending leaves, of variables that then count as named
+  $ boots 'setenv slot B; bootm' 'final bootm' --expect booted --expect-var slot=B
+  all 1
+  $ boots 'setenv slot B; bootm' 'final bootm' --expect booted --expect-var slot=B --expect-var none=
+  all 1
+  $ boots 'setenv slot B; bootm' 'final bootm' --expect booted --expect-var slot=A
+  boot 1
+  ends 1 first 0 fewest 0 0 booted bootm next 1
+  var slot=B
+  ends 1 first 1 fewest 1 1 end 1 next 1
+  var slot=B
+  fails bootm
+  lost 1
+  [1]
+
+what the system changes leads on, too
+  $ printf 'left 0\n' >mark
+  $ boots 'test ${left} = 0 && bootm A; bootm B' 'final bootm' --then mark --expect 'booted bootm' --expect-var left=0
+  all 2
+  $ boots 'test ${left} = 0 && bootm A; bootm B' 'final bootm' --expect 'booted bootm' --expect-var left=0
+  boot 1
+  ends 1 first 0 fewest 0 0 booted bootm next 1
+  var left=2
+  ends 1 first 1 fewest 1 1 end 1 next 1
+  var left=2
+  fails bootm B
+  lost 1
+  [1]
+
 the rows of docs/RUNNING.md
   $ printf 'left=1\n' >it.txt; list=$'load\nknown setexpr\nsaves saveenv'
   $ boots 'test ${left} = 0 || setexpr left ${left} - 1; saveenv' "$list"
