@@ -87,7 +87,7 @@ of a real board
 
 of two slots
   $ sed -n '/^## What two slots do/,/^## What is proved/p' "$page" | calls
-  9
+  11
   $ cmp found shown
 
 the verdict on a script, by the calls of the README

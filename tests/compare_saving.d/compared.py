@@ -315,6 +315,25 @@ def compare_counter(board):
     same(f"{board.shell}, a counter that has no room: what is left", " ".join(left), "bootcount=9 bootcount=9")
 
 
+def compare_giedi(board):
+    """A board of U-Boot's that counts, with an update in slot B: three starts of B, and from the fourth on A. Who holds its button
+    in the fourth finds the arguments for tests in each later start. (Of its commands, those that starts.c has have other names.)"""
+    text = Path(f"{PARTS}/giedi.env").read_text(encoding="ascii")
+    for command, ours in (("usrbutton", "dhcp"), ("ext4load", "load"), ("booti ", "bootm ")):
+        text = text.replace(command, ours)
+    variables = dict(line.split("=", 1) for line in text.splitlines() if not line.startswith("#"))
+    variables.update(partitionset_active="B", upgrade_available="1", bootcount="0")
+    names = ("partitionset_active", "upgrade_available", "bootcount", "testargs")
+    for fails, held in ((["dhcp"], ""), ([], " testargs=test"), (["dhcp", "bootm"], "")):
+        lines = f"{SAVES}{COUNTER}call printenv ** : always 0\n"
+        board.put({name: value.encode() for name, value in variables.items()}, lines, fails)
+        name = f"giedi, where {' and '.join(fails) or 'nothing'} fails"
+        left = board.compare(name, names, 6)
+        wanted = [f"partitionset_active=B upgrade_available=1 bootcount={it}" for it in (1, 2, 3)]
+        wanted += [f"partitionset_active=A upgrade_available=0 bootcount=4{held}"] * 3
+        same(f"{board.shell}, {name}: what is left", "\n".join(left), "\n".join(wanted))
+
+
 for name, path in SANDBOXES:
     it = Board(name, path)
     compare_random(it)
@@ -322,5 +341,6 @@ for name, path in SANDBOXES:
     compare_slots(it)
     compare_room(it)
     compare_counter(it)
+    compare_giedi(it)
 print(f"compared with what U-Boot saves: {cases['passed']} passed, {cases['failed']} failed")
 sys.exit(cases["failed"] != 0)
