@@ -21,6 +21,8 @@ fn of_rehearsals(alloc: Global, lines: &mut String) -> anyhow::Result<()> {
         RehearsalError::Start(StartError::Alternatives(4)),
         RehearsalError::Start(StartError::NoAlternative(5, 4)),
         RehearsalError::Start(StartError::Name),
+        RehearsalError::Boots,
+        RehearsalError::Unnamed,
         RehearsalError::Image(ImageError::BadCrc),
         RehearsalError::Write,
         RehearsalError::Memory,

@@ -39,6 +39,6 @@ pub use tool_files::{FileFault, Files};
 pub use tool_images as images;
 pub use tool_images::{Edit, ToolError, print_bytes, set_bytes};
 pub use tool_words::{
-    Ask, BootsAsk, CausesAsk, Change, EndingsAsk, ImageAsk, Inputs, Origin, OriginError, PrintAsk,
-    RehearseAsk, Taking, UseError, read_command,
+    Ask, BootsAsk, CausesAsk, Change, EndingsAsk, ExpectedAsk, ImageAsk, Inputs, Origin,
+    OriginError, PrintAsk, RehearseAsk, Taking, UseError, ValueAsk, read_command,
 };
