@@ -18,7 +18,7 @@ use Rattle.envimage.specs.Data.{Pair}
 use Rattle.envtools.specs.Changes.{with_change}
 use Rattle.envtools.specs.Environment.{same, value_of, dropped, put, has_value, changed_to, is_name, is_value}
 use Rattle.commands.specs.Hexadecimal.{in_word}
-use Rattle.commands.specs.UBootExit.{exit_number}
+use Rattle.commands.specs.UBootExit.{leading_number}
 use Rattle.commands.specs.Verdict.{begins_hexadecimal, behind_first, read_in}
 use Rattle.board_start.specs.Counter.{Counter, number_of, number_in, is_upgrade, count_in, raised, is_passed, text_in, asked_in, raised_in, saves_in}
 use Rattle.board_start.specs.Start.{Start, begun_in, begun_given}
@@ -65,18 +65,18 @@ all-taken (d ∷ ds) all =
 no-zero : (d : ℕ) → 0 < d → ((48 + d) == 48) ≡ false
 no-zero d some = elim (eqb_tells (48 + d) 48) [ inl h ↦ absurd (let e = h.1 in omega (arith, some)) | inr h ↦ h.0 ]
 
-digits-read : (ds : List ℕ) → AllBelowBase 10 ds → 0 < get_or ds 0 0 → exit_number (bytes_of ds) ≡ number_from_digits 10 ds
+digits-read : (ds : List ℕ) → AllBelowBase 10 ds → 0 < get_or ds 0 0 → leading_number (bytes_of ds) ≡ number_from_digits 10 ds
 digits-read [] all some = absurd (omega (arith, some))
 digits-read (d ∷ ds) all some =
     ap (λ b. cond (b && begins_hexadecimal (bytes_of ds)) (read_in 16 (behind_first (bytes_of ds))) (read_in 10 (bytes_of (d ∷ ds)))) (no-zero d some)
     ∙ (ap (value_in 10) (all-taken (d ∷ ds) all) ∙ spelled 0 (d ∷ ds) all)
 
-exit-read : (n : ℕ) → n < 2 ^ 64 → exit_number (decimal n) ≡ n
+exit-read : (n : ℕ) → n < 2 ^ 64 → leading_number (decimal n) ≡ n
 unfolding digits
 exit-read zero small = refl
 exit-read (suc n) small =
     let some : 0 < suc n = omega arith in
-    ap exit_number (decimal-digits_of (suc n) some small)
+    ap leading_number (decimal-digits_of (suc n) some small)
     ∙ (digits-read (digits_of 10 (suc n)) (all_below_base_digits_of 10 (suc n) (omega arith)) (first_digits_of 10 (suc n) (omega arith) some)
     ∙ number_digits_of 10 (suc n) (omega arith))
 

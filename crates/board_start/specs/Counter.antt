@@ -8,7 +8,7 @@ use Rattle.envimage.specs.Data.{Pair}
 use Rattle.envtools.specs.Changes.{with_change}
 use Rattle.envtools.specs.Environment.{value_of}
 use Rattle.commands.specs.Hexadecimal.{in_word}
-use Rattle.commands.specs.UBootExit.{exit_number}
+use Rattle.commands.specs.UBootExit.{leading_number}
 
 -- the names of the counter, of its limit, and of the variable whose text is run beyond the limit
 pub record Counter : Type 0 where
@@ -32,7 +32,7 @@ count_words _ = None
 
 -- the number at the start of a value: hexadecimal after `0x`, else decimal, also after a leading 0; in words of 64 bits
 abbrev pub number_of : Text → ℕ
-number_of value = in_word (exit_number value)
+number_of value = in_word (leading_number value)
 
 -- the number of a variable, and 0 if it is not set
 abbrev pub number_in : List Pair → (name : Text) → ℕ

@@ -6,7 +6,7 @@ ghost use Rattle.text.specs.Words.{words_of};
 ghost use Rattle.board_start.specs.Counter.{asked_in, count_in, count_words, is_passed, is_upgrade, number_in, raised, raised_in, saves_in, text_in};
 ghost use Rattle.board_start.specs.StartShown.{counter_shown, names_shown};
 
-use crate::number::number_of;
+use commands::leading_number;
 use envtools::Env;
 use std::alloc::{AllocError, Global};
 use text::next_word;
@@ -61,7 +61,7 @@ fn number_in(env: &Env, name: &[u8]) -> u64
     ensures { result ≡ number_in env.now name.now }
 {
     match env.get(name) {
-        Some(value) => number_of(value),
+        Some(value) => leading_number(value),
         None => 0,
     }
 }

@@ -6,7 +6,6 @@ mod begin_text;
 mod board;
 mod board_error;
 mod counter;
-mod number;
 mod place;
 mod said;
 mod start;

@@ -7,9 +7,10 @@ ghost use Rattle.text.specs.TextsShown.{bytes_of_words};
 use crate::number::begins_hexadecimal;
 use crate::uboot_number::read_in;
 
-/// The number at the start of a word: hexadecimal after `0x`, else decimal.
-fn exit_number(word: &[u8]) -> u64
-    ensures { result ≡ in_word (says.exit_number word.now) }
+/// The number at the start of a word: hexadecimal after `0x`, else decimal, also after a leading 0. It
+/// wraps in 64 bits. Takes no memory.
+pub fn leading_number(word: &[u8]) -> u64
+    ensures { result ≡ in_word (says.leading_number word.now) }
 {
     match word {
         [] => 0,
@@ -25,7 +26,7 @@ pub fn uboot_exit_status(words: &[Vec<u8>]) -> u8
     match words {
         [] => 0,
         [word] => {
-            if exit_number(word) % 4_294_967_296 == 0 {
+            if leading_number(word) % 4_294_967_296 == 0 {
                 0
             } else {
                 1
@@ -39,14 +40,14 @@ pub fn uboot_exit_status(words: &[Vec<u8>]) -> u8
 pub fn ends_text(word: &[u8]) -> bool
     ensures { result ≡ says.ends_text word.now }
 {
-    exit_number(word) < 2_147_483_647
+    leading_number(word) < 2_147_483_647
 }
 
 /// The status that a word of `exit` names in 2025.01, if it is at most 255.
 fn status_named(word: &[u8]) -> Option<u8>
     ensures { result ≡ says.status_named word.now }
 {
-    let number = exit_number(word);
+    let number = leading_number(word);
     if number > 255 {
         return None;
     }
@@ -75,7 +76,7 @@ pub fn newer_exit_status(words: &[Vec<u8>]) -> u8
 fn tells_usage(word: &[u8]) -> bool
     ensures { result ≡ says.tells_usage word.now }
 {
-    exit_number(word) % 4_294_967_296 == 4_294_967_295
+    leading_number(word) % 4_294_967_296 == 4_294_967_295
 }
 
 /// Whether the words of an `exit` of 2025.01 are followed: they name no number above 255, or one by which
