@@ -90,7 +90,7 @@ in_order = refl
 
 -- a text that is given, though a variable of its name is set (fails if the variable goes first)
 of_a_given_text : option_map (λ t. causes_text (causes t)) (task_found ((codes "boot.cmd", codes "exit 4") ∷ []) (only ((codes "load", quiet) ∷ []))
-    (record { name = codes "boot.cmd"; given = Some (codes "load a || exit 3") }) (record { devices = 4; steps = 20; failures = Some 1; shell = Profile }))
+    (record { name = codes "boot.cmd"; given = Some (codes "load a || exit 3") }) (record { devices = 4; steps = 20; failures = Some 1; shell = Profile; room = None }))
     ≡ Some (codes "cause 0 end 0\ncause 1 end 3\nfails load a\n")
 unfolding tree_of fields joined atoms digits
 of_a_given_text = refl

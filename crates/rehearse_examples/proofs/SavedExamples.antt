@@ -1,5 +1,5 @@
 -- Worked examples, computed: device commands that save the environment.
-use Rattle.std.proofs.Common.{◌≡◌, true, List, [], ◌∷◌, ◌++◌, Some, None, Ok, codes, refl}
+use Rattle.std.proofs.Common.{◌≡◌, ℕ, true, List, [], ◌∷◌, ◌++◌, Option, Some, None, Ok, codes, refl}
 use Rattle.device_list.specs.CallLines.{Pattern}
 use Rattle.device_list.specs.DeviceList.{Variable, Literal, Saving, Deleted, Setting, Devices, only}
 use Rattle.device_list.specs.DeviceList as lists
@@ -61,6 +61,33 @@ with_settings = saveenv ((Saving, Deleted) ∷ (Variable (codes "z"), Literal (c
 its_settings : listed (task with_settings (codes "saveenv")) names (Some 1) ≡ codes "run 0\ndev 0 saveenv\nvar z=7\nsaved z=7\nend 0\nmore 0\n"
 unfolding listed_along ends_along
 its_settings = along 1 (task with_settings (codes "saveenv")) names (Some 1) _ refl refl
+
+-- ---- in a room of so many bytes
+
+abbrev in_room : Option ℕ → (text : Text) → Task
+in_room room text = bootcmd (record (limits (saving z board) 16 10000) { room = room }) text
+
+-- `z=33` and a byte 0 have no room in 4 bytes: the save fails, and takes no digit
+without_room : listed (in_room (Some 4) (codes "setenv z 33; saveenv || load")) names None
+    ≡ codes "run 0\ndev 1 saveenv\ndev 0 load\nvar z=33\nend 0\nrun 1\ndev 1 saveenv\ndev 1 load\nvar z=33\nend 1\ndone\n"
+unfolding listed_along ends_along
+without_room = along 1 (in_room (Some 4) (codes "setenv z 33; saveenv || load")) names None _ refl refl
+
+in_just_that : listed (in_room (Some 5) (codes "setenv z 33; saveenv || load")) names (Some 1) ≡ codes "run 0\ndev 0 saveenv\nvar z=33\nsaved z=33\nend 0\nmore 0\n"
+unfolding listed_along ends_along
+in_just_that = along 2 (in_room (Some 5) (codes "setenv z 33; saveenv || load")) names (Some 1) _ refl refl
+
+-- a later save is of the environment as it is then
+shorter_later : listed (in_room (Some 4) (codes "setenv z 33; saveenv; setenv z 3; saveenv")) names (Some 1) ≡ codes "run 0\ndev 1 saveenv\ndev 0 saveenv\nvar z=3\nsaved z=3\nend 0\nmore 0\n"
+unfolding listed_along ends_along
+shorter_later = along 1 (in_room (Some 4) (codes "setenv z 33; saveenv; setenv z 3; saveenv")) names (Some 1) _ refl refl
+
+-- what is not saved takes no room
+other_in_room : listed (in_room (Some 0) (codes "load")) names (Some 1) ≡ codes "run 0\ndev 0 load\nunset z\nend 0\nmore 0\n"
+unfolding listed_along ends_along
+other_in_room = along 1 (in_room (Some 0) (codes "load")) names (Some 1) _ refl refl
+
+-- ---- another command
 
 -- no other command saves
 other_command : listed (task board (codes "load")) names (Some 1) ≡ codes "run 0\ndev 0 load\nunset z\nend 0\nmore 0\n"

@@ -29,7 +29,7 @@ use Rattle.rehearse_machine.proofs.MoveMeaning.{failed_with_1, turn_more}
 use Rattle.rehearse_machine.proofs.StepBoundLemmas.{closed_exec}
 use Rattle.rehearse_machine.proofs.BoundLemmas.{Cut-block}
 use Rattle.rehearse_reads.specs.Keys.{Access, Reads, Writes, Environment, Status, all_read}
-use Rattle.rehearse_reads.specs.Accesses.{needs_reads, listed_accesses, behind, behind_text, status_written, word_reads, words_reads, sized_accesses, local_accesses, assign_accesses, turns_accesses, turn_accesses, each_accesses, for_accesses, begun_accesses, told_reads, answer_accesses, outcome_accesses, device_accesses, computed_accesses, read_accesses, started_accesses, builtin_accesses, call_accesses, simple_accesses, modern_accesses, turns_of_accesses, for_words_accesses, left_accesses, compound_accesses, nothing_accesses, simple_call_accesses, file_accesses, handed_accesses, sourced_accesses, sourced_text_accesses, one_accesses}
+use Rattle.rehearse_reads.specs.Accesses.{success_reads, listed_accesses, behind, behind_text, status_written, word_reads, words_reads, sized_accesses, local_accesses, assign_accesses, turns_accesses, turn_accesses, each_accesses, for_accesses, begun_accesses, told_reads, answer_accesses, outcome_accesses, device_accesses, computed_accesses, read_accesses, started_accesses, builtin_accesses, call_accesses, simple_accesses, modern_accesses, turns_of_accesses, for_words_accesses, left_accesses, compound_accesses, nothing_accesses, simple_call_accesses, file_accesses, handed_accesses, sourced_accesses, sourced_text_accesses, one_accesses}
 use Rattle.rehearse_frames.specs.ToCome.{names_read, of_full, of_script, of_one, of_joined, of_arms, of_again, of_condition, of_choice, of_names, of_frames, of_next, choice, condition, turns_left, of_compound, of_file, of_chosen}
 use Rattle.rehearse_frames.specs.MoveAccesses.{of_listed, of_leaving, of_exit, of_telling, of_beginning_for, of_beginning_arms, of_beginning_read, of_beginning_text, of_beginning_file, of_beginning_names, of_asking, of_builtin, of_call, of_fields, of_command, of_move, of_beginning_turns, of_beginning_words, of_leaving_compound, of_simple_call, of_beginning_one, of_beginning_question}
 use Rattle.rehearse_frames.specs.Laws.{MovesComeFirst, OutcomesComeFirst}
@@ -303,17 +303,17 @@ module _ (limits : Limits) (wanted : List Text) (w : OutcomeWord) where
       by : (o : Option Computed) (b : Option Builtin) (f : Option Effect)
           → (elim o [ Some computed ↦ computed_accesses computed | None ↦ elim b [ Some builtin ↦ of_builtin limits again builtin name ws fs s | None ↦ elim f [ Some effect ↦ of_listed limits name ws effect s | None ↦ [] ] ] ])
           ++ After (begin_called limits again (elim o [ Some computed ↦ BuiltIn (ChangesVariables (λ vs. carried computed)) | None ↦ elim b [ Some builtin ↦ BuiltIn (deed_of builtin) | None ↦ elim f [ Some effect ↦ Device effect | None ↦ NoCommand ] ] ]) name ws fs s)
-          ≡ (elim o [ Some computed ↦ computed_accesses computed | None ↦ elim b [ Some builtin ↦ builtin_accesses limits (full limits) (of_full limits) builtin name ws (with w s) | None ↦ elim f [ Some effect ↦ handed_accesses limits (full limits) (of_full limits) effect.runs s.memory.status (listed_accesses limits name ws effect (with w s)) (device limits (request_of name ws (effect_now s.log effect)) (with w s)) | None ↦ [] ] ] ])
+          ≡ (elim o [ Some computed ↦ computed_accesses computed | None ↦ elim b [ Some builtin ↦ builtin_accesses limits (full limits) (of_full limits) builtin name ws (with w s) | None ↦ elim f [ Some effect ↦ handed_accesses limits (full limits) (of_full limits) effect.runs s.memory.status (listed_accesses limits name ws effect (with w s)) (device limits (request_of name ws (effect_now limits.room s effect)) (with w s)) | None ↦ [] ] ] ])
           ++ Rest fs (command limits again (full limits) (elim o [ Some computed ↦ BuiltIn (ChangesVariables (λ vs. carried computed)) | None ↦ elim b [ Some builtin ↦ BuiltIn (deed_of builtin) | None ↦ elim f [ Some effect ↦ Device effect | None ↦ NoCommand ] ] ]) name ws (with w s))
       by (Some computed) b f = refl
       by None (Some builtin) f = builtin_so again builtin name ws fs s
       by None None (Some effect) =
-          let request : Request = request_of name ws (effect_now s.log effect) in
+          let request : Request = request_of name ws (effect_now limits.room s effect) in
           let a : Answer = device limits request (with w s) in
           let asked : List Access = listed_accesses limits name ws effect (with w s) in
-          in_front (all_read (needs_reads effect.needs)) (of_asking limits request s) (After (ask limits request fs s)) (device_accesses limits request (with w s)) (Rest (with_file s.memory.status request.effect.runs fs) a) (ask_so request fs s)
+          in_front (all_read (success_reads limits.room effect)) (of_asking limits request s) (After (ask limits request fs s)) (device_accesses limits request (with w s)) (Rest (with_file s.memory.status request.effect.runs fs) a) (ask_so request fs s)
           ∙ handed_so request.effect.runs s.memory.status asked fs a
-          ∙ ap (λ (runs : List Text). handed_accesses limits (full limits) (of_full limits) runs s.memory.status asked a ++ Rest fs (handed_over limits (full limits) runs s.memory.status a)) (now_runs s.log effect)
+          ∙ ap (λ (runs : List Text). handed_accesses limits (full limits) (of_full limits) runs s.memory.status asked a ++ Rest fs (handed_over limits (full limits) runs s.memory.status a)) (now_runs limits.room s effect)
       by None None None = stops_so fs (Unknown name) s
 
   simple_call_so : (again : Bool) (ws : List Text) (fs : List Frame) (s : State) → of_simple_call limits again fs ws s ++ After (begin_simple_call limits again ws fs s) ≡ simple_call_accesses limits (full limits) (of_full limits) ws (with w s) ++ Rest fs (simple_call limits again (full limits) ws (with w s))

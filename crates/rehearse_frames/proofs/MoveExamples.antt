@@ -31,7 +31,7 @@ devices = record (only ((codes "load", quiet) ∷ (codes "stay", record quiet { 
 }
 
 abbrev limits : Limits
-limits = record { devices = devices; device_bound = 4; step_bound = 8; shell = Profile }
+limits = record { devices = devices; device_bound = 4; step_bound = 8; shell = Profile; room = None }
 
 abbrev before : State
 before = start Kept ((codes "a", codes "1") ∷ (codes "x", codes "true") ∷ []) []

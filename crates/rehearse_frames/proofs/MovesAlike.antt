@@ -21,13 +21,13 @@ use Rattle.rehearse_rules.specs.ByShell.{unread, reads_again, leaves_in, status_
 use Rattle.rehearse_rules.specs.Execution.{Limits, Ending, End, CutDevices, CutSteps, Unknown, Size, Finished, Unsupported, Request, remember, set_status, set_local, begin_turn, status_when, goes, holds, outcome_when, told, told_again, logged, set_environment, assign_local, text_failed, request_of, test_request, for_begun, block_skipped, compound_left, choice_text}
 use Rattle.rehearse_machine.specs.Frames.{Frame, Lists, Linked, IfCondition, LoopCondition, LoopBody, ForBody, RunNames, RunText, Next, Go, Ask, Stop, tell_or_ask, finish_next, leave, leave_run, begin_assign, begin_for, begin_arms, begin_read, begin_text, begin_names, begin_exit, begun_text, fitting, ask, begin_called, begin_fields, counted, begin_command, answered, move, begin_turns, begin_words, CommandEnd, leave_compound, behind_block, begin_simple_call, RunFile, FileText, with_file, leave_file, begin_sourced, begin_file, ChosenFile, begin_one, begin_question}
 use Rattle.rehearse_reads.specs.Keys.{Key, Environment, Local, Status, Access, Reads, Writes, AgreeOn, AreAmong, all_read, ReadsWithin, known_after}
-use Rattle.rehearse_reads.specs.Accesses.{status_written, word_reads, words_reads, setenv_accesses, computed_accesses, needs_reads, told_reads, copied_keys, handing_reads, outcome_writes, outcome_accesses, names_written, sized_accesses, local_accesses, assign_accesses, turn_accesses, nothing_accesses, begun_accesses, modern_accesses}
+use Rattle.rehearse_reads.specs.Accesses.{status_written, word_reads, words_reads, setenv_accesses, computed_accesses, success_reads, told_reads, copied_keys, handing_reads, outcome_writes, outcome_accesses, names_written, sized_accesses, local_accesses, assign_accesses, turn_accesses, nothing_accesses, begun_accesses, modern_accesses}
 use Rattle.rehearse_reads.specs.Alike.{AreAbreast, IsCutBy}
 use Rattle.rehearse_reads.proofs.AccessLemmas.{within_first, within_then, after_both, read_first, read_then, after_read}
 use Rattle.rehearse_reads.proofs.AbreastLemmas.{near_begun, near_status, near_statuses, near_local, near_assigned, near_logged, near_set, near_computed, near_sets, near_echoed, near_failed, copied_in, copies_among, still_among}
 use Rattle.rehearse_reads.proofs.SameWords.{fields_agree, turns_agree, assigned_agree}
 use Rattle.rehearse_reads.proofs.AlikeParts.{further_apart}
-use Rattle.rehearse_reads.proofs.AlikeDevices.{told_alike, met_alike, copies_known}
+use Rattle.rehearse_reads.proofs.AlikeDevices.{told_alike, can_alike, copies_known}
 use Rattle.rehearse_reads.proofs.AlikeLoops.{near_turn, near_for, near_skipped}
 use Rattle.rehearse_machine.proofs.ProgressLemmas.{IsQuiet, either-quiet, assign-quiet, fields-quiet, for-quiet, words-quiet}
 use Rattle.rehearse_frames.specs.MoveAccesses.{of_leaving, of_exit, of_telling, of_beginning_for, of_beginning_arms, of_beginning_read, of_beginning_text, of_beginning_file, of_beginning_names, of_asking, of_listed, of_builtin, of_call, of_fields, of_command, of_move, of_beginning_turns, of_beginning_words, of_leaving_compound, of_simple_call, of_beginning_one, of_beginning_question}
@@ -348,15 +348,15 @@ module _ (limits : Limits) (i j : ℕ) (k l : List LoggedCommand) where
   begins_builtin again False name words fs known s t near w = sets_status 1 fs known s t near w
   begins_builtin again Leave name words fs known s t near w = exits (leaves_in limits.shell again words) (status_of_exit limits.shell words) fs known s t near w
 
-  begins_listed : (name : Text) (words : List Text) (effect : Effect) (fs : List Frame) → Moves (λ x. ask limits (request_of name words (effect_now x.log effect)) fs x) (of_listed limits name words effect)
+  begins_listed : (name : Text) (words : List Text) (effect : Effect) (fs : List Frame) → Moves (λ x. ask limits (request_of name words (effect_now limits.room x effect)) fs x) (of_listed limits name words effect)
   begins_listed name words effect fs known s t near w =
       let request : Effect → Request = request_of name words in
-      let keys : List Key = needs_reads effect.needs in
-      let rest : List Access = of_asking limits (request (effect_now s.log effect)) s in
-      let now : effect_now t.log effect ≡ effect_now s.log effect = now_same effect s.log t.log (met_alike limits i j k l known s t effect.needs near (read_first known keys rest w)) in
-      after_keys known keys rest (ask limits (request (effect_now s.log effect)) fs s) (ask limits (request (effect_now t.log effect)) fs t)
-      (subst (λ (x : Effect). NextAlike (known_after known rest) (ask limits (request (effect_now s.log effect)) fs s) (ask limits (request x) fs t)) (sym now)
-      (asks (request (effect_now s.log effect)) fs known s t near (read_then known keys rest w)))
+      let keys : List Key = success_reads limits.room effect in
+      let rest : List Access = of_asking limits (request (effect_now limits.room s effect)) s in
+      let now : effect_now limits.room t effect ≡ effect_now limits.room s effect = now_same limits.room effect s t (can_alike limits i j k l known s t effect near (read_first known keys rest w)) in
+      after_keys known keys rest (ask limits (request (effect_now limits.room s effect)) fs s) (ask limits (request (effect_now limits.room t effect)) fs t)
+      (subst (λ (x : Effect). NextAlike (known_after known rest) (ask limits (request (effect_now limits.room s effect)) fs s) (ask limits (request x) fs t)) (sym now)
+      (asks (request (effect_now limits.room s effect)) fs known s t near (read_then known keys rest w)))
 
   begins_call : (again : Bool) (name : Text) (words : List Text) (fs : List Frame) → Moves (begin_called limits again (called_by limits.devices name words) name words fs) (of_call limits again name words fs)
   begins_call again name words fs = by (computed_by limits.devices name words) (builtin_of name) (effect_of limits.devices name words)

@@ -166,7 +166,7 @@ module _ (limits : Limits) (qs : List RunningFrame) where
       over_if qs (asks_in limits.shell ws) (place_ask limits r ps s) (GoOn ps t) (place_ask limits r (ps ++ qs) s) (GoOn (ps ++ qs) t) (ask_over r ps s) (inl refl)
   called_over again (BuiltIn (WritesText written)) name ws script ps s = inl refl
   called_over again (BuiltIn Exits) name ws script ps s = exit_over (leaves_in limits.shell again ws) (status_of_exit limits.shell ws) ps s
-  called_over again (Device effect) name ws script ps s = ask_over (request_of name ws (effect_now s.log effect)) ps s
+  called_over again (Device effect) name ws script ps s = ask_over (request_of name ws (effect_now limits.room s effect)) ps s
   called_over again NoCommand name ws script ps s = inl refl
 
   call_over : (again : Bool) (ws : List Text) (script : Script) (ps : List RunningFrame) (s : State) → IsOver qs (place_simple_call limits again ws script ps s) (place_simple_call limits again ws script (ps ++ qs) s)

@@ -20,7 +20,7 @@ use Rattle.rehearse_rules.specs.ByShell.{reads_again, leaves_in, status_of_exit,
 use Rattle.rehearse_rules.specs.Execution.{Limits, CutDevices, CutSteps, Size, Unsupported, Request, set_status, status_when, goes, holds, outcome_when, told, told_again, logged, set_environment, assign_local, text_failed, request_of, test_request, for_begun, block_skipped, choice_text}
 use Rattle.rehearse_machine.specs.Frames.{Frame, Lists, Linked, IfCondition, LoopCondition, LoopBody, ForBody, RunNames, RunText, Next, Go, Ask, Stop, tell_or_ask, finish_next, leave, begin_assign, begin_for, begin_arms, begin_read, begin_text, begin_names, begin_exit, fitting, ask, begin_called, begin_fields, counted, begin_command, answered, move, begin_turns, begin_words, CommandEnd, leave_compound, behind_block, begin_simple_call, RunFile, FileText, with_file, leave_file, begin_sourced, begin_file, ChosenFile, begin_one, begin_question}
 use Rattle.rehearse_reads.specs.Keys.{Access, Reads, Writes, Status, all_read}
-use Rattle.rehearse_reads.specs.Accesses.{status_written, word_reads, words_reads, computed_accesses, needs_reads, told_reads, sized_accesses, local_accesses, assign_accesses, begun_accesses, modern_accesses}
+use Rattle.rehearse_reads.specs.Accesses.{status_written, word_reads, words_reads, computed_accesses, success_reads, told_reads, sized_accesses, local_accesses, assign_accesses, begun_accesses, modern_accesses}
 use Rattle.rehearse_frames.specs.MoveAccesses.{of_exit, of_telling, of_beginning_for, of_beginning_arms, of_beginning_read, of_beginning_text, of_beginning_file, of_beginning_names, of_asking, of_listed, of_builtin, of_call, of_fields, of_command, of_move, of_beginning_turns, of_beginning_words, of_simple_call, of_beginning_one, of_beginning_question}
 use Rattle.rehearse_frames.specs.KeysToCome.{state_in}
 use Rattle.rehearse_frames.specs.Loops.{later}
@@ -183,10 +183,10 @@ module _ (limits : Limits) where
   begins_builtin again False name words fs n s = (refl, refl)
   begins_builtin again Leave name words fs n s = exits limits.shell (leaves_in limits.shell again words) (status_of_exit limits.shell words) fs n s
 
-  begins_listed : (name : Text) (words : List Text) (effect : Effect) (fs : List Frame) → Overlooks (λ s. ask limits (request_of name words (effect_now s.log effect)) fs s) (of_listed limits name words effect)
+  begins_listed : (name : Text) (words : List Text) (effect : Effect) (fs : List Frame) → Overlooks (λ s. ask limits (request_of name words (effect_now limits.room s effect)) fs s) (of_listed limits name words effect)
   begins_listed name words effect fs n s =
-      let request : Request = request_of name words (effect_now s.log effect) in
-      after_first (ask limits request fs) (of_asking limits request) (all_read (needs_reads effect.needs)) (asks request fs) n s
+      let request : Request = request_of name words (effect_now limits.room s effect) in
+      after_first (ask limits request fs) (of_asking limits request) (all_read (success_reads limits.room effect)) (asks request fs) n s
 
   begins_call : (again : Bool) (name : Text) (words : List Text) (fs : List Frame) → Overlooks (begin_called limits again (called_by limits.devices name words) name words fs) (of_call limits again name words fs)
   begins_call again name words fs = by (computed_by limits.devices name words) (builtin_of name) (effect_of limits.devices name words)

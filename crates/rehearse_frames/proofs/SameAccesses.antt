@@ -149,12 +149,12 @@ module _ (limits : Limits) where
     call_same name ws t h = by (computed_by limits.devices name ws) (builtin_of name) (effect_of limits.devices name ws)
       where
         by : (o : Option Computed) (b : Option Builtin) (f : Option Effect)
-            → ◌≡◌ {A = List Access} (elim o [ Some computed ↦ computed_accesses computed | None ↦ elim b [ Some builtin ↦ builtin_accesses limits text u builtin name ws t | None ↦ elim f [ Some effect ↦ handed_accesses limits text u effect.runs t.memory.status (listed_accesses limits name ws effect t) (device limits (request_of name ws (effect_now t.log effect)) t) | None ↦ [] ] ] ])
-            (elim o [ Some computed ↦ computed_accesses computed | None ↦ elim b [ Some builtin ↦ builtin_accesses limits text' u' builtin name ws t | None ↦ elim f [ Some effect ↦ handed_accesses limits text' u' effect.runs t.memory.status (listed_accesses limits name ws effect t) (device limits (request_of name ws (effect_now t.log effect)) t) | None ↦ [] ] ] ])
+            → ◌≡◌ {A = List Access} (elim o [ Some computed ↦ computed_accesses computed | None ↦ elim b [ Some builtin ↦ builtin_accesses limits text u builtin name ws t | None ↦ elim f [ Some effect ↦ handed_accesses limits text u effect.runs t.memory.status (listed_accesses limits name ws effect t) (device limits (request_of name ws (effect_now limits.room t effect)) t) | None ↦ [] ] ] ])
+            (elim o [ Some computed ↦ computed_accesses computed | None ↦ elim b [ Some builtin ↦ builtin_accesses limits text' u' builtin name ws t | None ↦ elim f [ Some effect ↦ handed_accesses limits text' u' effect.runs t.memory.status (listed_accesses limits name ws effect t) (device limits (request_of name ws (effect_now limits.room t effect)) t) | None ↦ [] ] ] ])
         by (Some computed) b f = refl
         by None (Some builtin) f = builtin_same builtin name ws t h
         by None None (Some effect) =
-            let request : Request = request_of name ws (effect_now t.log effect) in
+            let request : Request = request_of name ws (effect_now limits.room t effect) in
             handed_same effect.runs t.memory.status (listed_accesses limits name ws effect t) (device limits request t) t (AtLeast-track limits.device_bound t (device limits request t) (Keeps-device limits request refl t).0) h
         by None None None = refl
 

@@ -15,7 +15,7 @@ use Rattle.rehearse_rules.specs.Needs.{effect_now}
 use Rattle.rehearse_rules.specs.Execution.{Limits, goes, holds, outcome_when, Request, told, request_of, test_request, for_begun, choice_text}
 use Rattle.rehearse_machine.specs.Frames.{Frame, Lists, Linked, IfCondition, LoopCondition, LoopBody, ForBody, RunNames, RunText, CommandEnd, RunFile, ChosenFile, FileText}
 use Rattle.rehearse_reads.specs.Keys.{Access, Reads, Writes, Environment, Status, all_read}
-use Rattle.rehearse_reads.specs.Accesses.{status_written, words_reads, setenv_accesses, computed_accesses, needs_reads, told_reads, outcome_accesses, sized_accesses, assign_accesses, turn_accesses, nothing_accesses, begun_accesses, modern_accesses}
+use Rattle.rehearse_reads.specs.Accesses.{status_written, words_reads, setenv_accesses, computed_accesses, success_reads, told_reads, outcome_accesses, sized_accesses, assign_accesses, turn_accesses, nothing_accesses, begun_accesses, modern_accesses}
 
 -- `exit` in a compound command goes further outwards, but not in the modern shell: the status of the command follows from its own
 abbrev pub of_leaving_compound : Shell → (outwards : List Access) → List Access
@@ -107,10 +107,10 @@ module _ (limits : Limits) where
         | false ↦ []
       ]
 
-  -- a command of the list, also one that fails since the call that it needs has not succeeded
+  -- a command of the list, also one that fails since it cannot succeed
   abbrev pub of_listed : (name : Text) → (words : List Text) → Effect → State → List Access
   of_listed name words effect s =
-      all_read (needs_reads effect.needs) ++ of_asking (request_of name words (effect_now s.log effect)) s
+      all_read (success_reads limits.room effect) ++ of_asking (request_of name words (effect_now limits.room s effect)) s
 
   -- `again` says whether the command is read again
   abbrev pub of_builtin : (again : Bool) → Builtin → (name : Text) → (words : List Text) → List Frame → State → List Access

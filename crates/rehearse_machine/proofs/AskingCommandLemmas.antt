@@ -89,7 +89,7 @@ module _ (limits : Limits) where
       either_anew (asks_in limits.shell ws) (place_ask limits r ps s) (GoOn ps (set_status (status_when (truth_in limits.shell ws)) s)) (ask_anew r ps s refl) tt
   called_anew again (BuiltIn (WritesText written)) name ws script ps s = tt
   called_anew again (BuiltIn Exits) name ws script ps s = exit_anew limits.shell (leaves_in limits.shell again ws) (status_of_exit limits.shell ws) ps s
-  called_anew again (Device effect) name ws script ps s = ask_anew (request_of name ws (effect_now s.log effect)) ps s refl
+  called_anew again (Device effect) name ws script ps s = ask_anew (request_of name ws (effect_now limits.room s effect)) ps s refl
   called_anew again NoCommand name ws script ps s = tt
 
   call_anew : (again : Bool) (fs : List Text) (script : Script) (ps : List RunningFrame) (s : State) → AsksAnew (place_simple_call limits again fs script ps s)

@@ -118,7 +118,7 @@ module _ (limits : Limits) where
       either_here ps s (asks_in limits.shell ws) (place_ask limits r ps s) (GoOn ps (set_status (status_when (truth_in limits.shell ws)) s)) (ask_here r ps s) tt
   builtin_here again (BuiltIn (WritesText written)) name ws script ps s = tt
   builtin_here again (BuiltIn Exits) name ws script ps s = exit_here ps s (leaves_in limits.shell again ws) (status_of_exit limits.shell ws)
-  builtin_here again (Device effect) name ws script ps s = ask_here (request_of name ws (effect_now s.log effect)) ps s
+  builtin_here again (Device effect) name ws script ps s = ask_here (request_of name ws (effect_now limits.room s effect)) ps s
   builtin_here again NoCommand name ws script ps s = tt
 
   call_here : (again : Bool) (fs : List Text) (script : Script) (ps : List RunningFrame) (s : State) → AsksHere ps s (place_simple_call limits again fs script ps s)

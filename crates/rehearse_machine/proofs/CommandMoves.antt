@@ -112,8 +112,8 @@ module _ (limits : Limits) (again : Bool) (old new : Record) (name : Text) (word
   abbrev request : Effect → Request
   request effect = request_of name words effect
 
-  -- what a device command does at this log, the name does
-  pub device_comes : (r : Result Step StoreError) (b : Called) (effect : Effect) → b ≡ Device effect → Comes r old new (place_ask limits (request (effect_now old.present.log effect)) old.present.frames) → Comes r old new (place_called limits again b name words script old.present.frames)
+  -- what a device command does now, the name does
+  pub device_comes : (r : Result Step StoreError) (b : Called) (effect : Effect) → b ≡ Device effect → Comes r old new (place_ask limits (request (effect_now limits.room (state_at old.present []) effect)) old.present.frames) → Comes r old new (place_called limits again b name words script old.present.frames)
   device_comes (Ok step) b effect e h = subst (λ (x : Called). Does step old new (place_called limits again x name words script old.present.frames)) (sym e) h
   device_comes (Err x) b effect e h = tt
 

@@ -28,6 +28,7 @@ pub mod AssignLemmas
 pub mod PartLemmas
 pub mod NameLemmas
 pub mod OutcomeLemmas
+mod RoomLemmas
 pub mod ToldLemmas
 pub mod StoppingLemmas
 pub mod FoundAgain

@@ -187,10 +187,10 @@ module _ (limits : Limits) where
     builtin-is again (BuiltIn (WritesText written)) name ws fs s = refl
     builtin-is again (BuiltIn Exits) name ws fs s = exit-is (leaves_in limits.shell again ws) (status_of_exit limits.shell ws) fs s
     builtin-is again (Device effect) name ws fs s =
-        let request : Request = request_of name ws (effect_now s.log effect) in
+        let request : Request = request_of name ws (effect_now limits.room s effect) in
         let a : Answer = device limits request (with w s) in
         ask-is request fs s ∙ handed-is request.effect.runs s.memory.status fs a
-        ∙ ap (λ (runs : List Text). continue limits fs (handed_over limits (full limits) runs s.memory.status a)) (now_runs s.log effect)
+        ∙ ap (λ (runs : List Text). continue limits fs (handed_over limits (full limits) runs s.memory.status a)) (now_runs limits.room s effect)
     builtin-is again NoCommand name ws fs s = sym (continue-ended fs (Unknown name) (with w s))
 
     call-is : (again : Bool) (ws : List Text) (fs : List Frame) (s : State) → comes_to limits w (begin_simple_call limits again ws fs s) ≡ continue limits fs (simple_call limits again (full limits) ws (with w s))

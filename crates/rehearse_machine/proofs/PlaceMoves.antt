@@ -426,7 +426,7 @@ module _ (limits : Limits) where
       if_next (asks_in limits.shell ws) (place_ask limits r ps s) (GoOn ps t) (ask limits r (frames_of ps) s) (Go (frames_of ps) t) (ask-is r ps s) refl
   builtin-is again (BuiltIn (WritesText written)) name ws script ps s = refl
   builtin-is again (BuiltIn Exits) name ws script ps s = exit-is limits.shell (leaves_in limits.shell again ws) (status_of_exit limits.shell ws) ps s
-  builtin-is again (Device effect) name ws script ps s = ask-is (request_of name ws (effect_now s.log effect)) ps s
+  builtin-is again (Device effect) name ws script ps s = ask-is (request_of name ws (effect_now limits.room s effect)) ps s
   builtin-is again NoCommand name ws script ps s = refl
 
   call-is : (again : Bool) (ws : List Text) (script : Script) (ps : List RunningFrame) (s : State) → next_of (place_simple_call limits again ws script ps s) ≡ begin_simple_call limits again ws (frames_of ps) s

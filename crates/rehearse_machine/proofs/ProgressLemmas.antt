@@ -112,7 +112,7 @@ module _ (limits : Limits) where
   builtin-quiet again (BuiltIn Tests) name ws fs s = either-quiet s (asks_in limits.shell ws) (ask limits (test_request limits name ws) fs s) (Go fs (set_status (status_when (truth_in limits.shell ws)) s)) (ask-quiet (test_request limits name ws) fs s) refl
   builtin-quiet again (BuiltIn (WritesText written)) name ws fs s = refl
   builtin-quiet again (BuiltIn Exits) name ws fs s = exit-quiet (leaves_in limits.shell again ws) (status_of_exit limits.shell ws) fs s
-  builtin-quiet again (Device effect) name ws fs s = ask-quiet (request_of name ws (effect_now s.log effect)) fs s
+  builtin-quiet again (Device effect) name ws fs s = ask-quiet (request_of name ws (effect_now limits.room s effect)) fs s
   builtin-quiet again NoCommand name ws fs s = refl
 
   call-quiet : (again : Bool) (ws : List Text) (fs : List Frame) (s : State) → IsQuiet s (begin_simple_call limits again ws fs s)

@@ -110,7 +110,7 @@ module _ (limits : Limits) where
   builtin-proper again (BuiltIn Tests) name ws fs s p = either (asks_in limits.shell ws) (ask limits (test_request limits name ws) fs s) (Go fs (set_status (status_when (truth_in limits.shell ws)) s)) (ask-proper (test_request limits name ws) fs s p) p
   builtin-proper again (BuiltIn (WritesText written)) name ws fs s p = p
   builtin-proper again (BuiltIn Exits) name ws fs s p = exit-proper (leaves_in limits.shell again ws) (status_of_exit limits.shell ws) fs s p
-  builtin-proper again (Device effect) name ws fs s p = ask-proper (request_of name ws (effect_now s.log effect)) fs s p
+  builtin-proper again (Device effect) name ws fs s p = ask-proper (request_of name ws (effect_now limits.room s effect)) fs s p
   builtin-proper again NoCommand name ws fs s p = tt
 
   call-proper : (again : Bool) (ws : List Text) (fs : List Frame) (s : State) → AreProperFrames fs → IsProperNext (begin_simple_call limits again ws fs s)

@@ -36,7 +36,7 @@ variables =
     ∙ ap (λ (vs : Variables). with_value (with_value vs (codes "boot.cmd") (codes "exit 3")) (codes "x") (codes "exit 4")) no_variables
 
 abbrev bounds : BoundsShown
-bounds = record { devices = 2; steps = 20; failures = None; shell = Profile }
+bounds = record { devices = 2; steps = 20; failures = None; shell = Profile; room = None }
 
 abbrev named : Text → SourceShown
 named text = record { name = codes "boot.cmd"; given = Some text }

@@ -95,7 +95,7 @@ module _ (limits : Limits) where
     same_command again (BuiltIn (WritesText written)) name ws t h = refl
     same_command again (BuiltIn Exits) name ws t h = refl
     same_command again (Device effect) name ws t h =
-        let request : Request = request_of name ws (effect_now t.log effect) in
+        let request : Request = request_of name ws (effect_now limits.room t effect) in
         same_handed effect.runs t.memory.status (device limits request t) t (AtLeast-track limits.device_bound t (device limits request t) (Keeps-device limits request refl t).0) h
     same_command again NoCommand name ws t h = refl
 

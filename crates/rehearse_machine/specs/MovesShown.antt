@@ -37,7 +37,7 @@ next_shown (steps.Asks ask) m w = AskOn (request_shown ask) m.frames (state_at m
 next_shown (steps.Ends halt) m w = StopOn (halt_shown halt) (state_at m w)
 
 abbrev pub limits_of : Devices → BoundsShown → Limits
-limits_of devices bounds = record { devices = devices; device_bound = bounds.devices; step_bound = bounds.steps; shell = bounds.shell }
+limits_of devices bounds = record { devices = devices; device_bound = bounds.devices; step_bound = bounds.steps; shell = bounds.shell; room = bounds.room }
 
 -- a file that a command hands over to, above the frames
 abbrev pub file_above : (runs : List Text) → Moment → Moment

@@ -410,7 +410,7 @@ module _ (limits : Limits) where
   place_called again (BuiltIn Exits) name words script ps s =
       place_exit limits.shell (leaves_in limits.shell again words) (status_of_exit limits.shell words) ps s
   place_called again (Device effect) name words script ps s =
-      place_ask (request_of name words (effect_now s.log effect)) ps s
+      place_ask (request_of name words (effect_now limits.room s effect)) ps s
   place_called again NoCommand name words script ps s = StopOn (Unknown name) s
 
   abbrev pub place_simple_call : (again : Bool) → List Text → Script → List RunningFrame → State → PlaceNext

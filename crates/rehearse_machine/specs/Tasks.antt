@@ -34,7 +34,7 @@ abbrev pub task_from : List (Text × Text) → Devices → SourceShown → Bound
 task_from env devices source bounds =
     let environment = entries (environment_of env) in
     record {
-      limits = record { devices = devices; device_bound = bounds.devices; step_bound = bounds.steps; shell = bounds.shell };
+      limits = record { devices = devices; device_bound = bounds.devices; step_bound = bounds.steps; shell = bounds.shell; room = bounds.room };
       environment = environment;
       name = source.name;
       text = unwrap_or (text_by source.given (get environment source.name)) [];
@@ -60,7 +60,7 @@ task_shown env devices name bounds = task_from env devices (variable name) bound
 -- the same, if the variable is set
 abbrev pub task_set : List (Text × Text) → Devices → Text → BoundsShown → Option Task
 task_set env devices name bounds =
-    task_of (record { devices = devices; device_bound = bounds.devices; step_bound = bounds.steps; shell = bounds.shell }) bounds.failures
+    task_of (record { devices = devices; device_bound = bounds.devices; step_bound = bounds.steps; shell = bounds.shell; room = bounds.room }) bounds.failures
     (entries (environment_of env)) name
 
 abbrev pub task_in : Rehearsal → Task

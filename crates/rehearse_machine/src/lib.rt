@@ -25,6 +25,7 @@ mod next_move;
 mod outcomes;
 mod plain_call;
 mod rehearsal;
+mod room;
 mod run_and_exit;
 mod scripts;
 mod simple;

@@ -210,7 +210,7 @@ fn run_other<'d, S: Store>(
     }
     match devices.effect_near(name, words, place) {
         Some(listed) => {
-            let effect = effect_now(store.log(), listed);
+            let effect = effect_now(store, bounds.room(), listed);
             ask(alloc, store, bounds, name, words, effect, BY_OUTCOME)
         }
         None => Ok(Step::Ends(Halt::Unknown(Vec::from_slice(alloc, name)?))),

@@ -1,11 +1,13 @@
-//! What a log says of a device command: the answer that it has, and whether the call that it needs has succeeded.
-ghost use Rattle.std.specs.Prelude.{◌≡◌, ◌∷◌, ◌&&◌, not, false};
+//! What is known of a device command before it is asked: the answer that it has, and whether it can succeed.
+ghost use Rattle.std.specs.Prelude.{◌≡◌, ◌∷◌, ◌&&◌, [], not, false};
 ghost use Rattle.text.specs.TextsShown.{bytes_of_words};
 ghost use Rattle.device_list.specs.CommandsShown.{lent_effect};
 ghost use Rattle.rehearse_rules.specs.Execution.{request_of, told};
 ghost use Rattle.rehearse_rules.specs.Needs.{is_met, effect_now};
 ghost use Rattle.rehearse_terms.specs.State.{same_words, answer_in};
+ghost use Rattle.bootstore_state.specs.StoredState.{state_at};
 
+use crate::room::has_room;
 use bootstore_state::{LogEntry, Store, has_succeeded};
 use device_list::Effect;
 
@@ -50,12 +52,18 @@ fn is_met(needs: &[Vec<u8>], log: &[LogEntry]) -> bool
     }
 }
 
-/// What a device command does at this log: as long as the call that it needs has not succeeded, it
-/// fails without being asked, and this answer does not stay.
-pub(crate) fn effect_now<'d>(log: &[LogEntry], effect: Effect<'d>) -> Effect<'d>
-    ensures { lent_effect result ≡ effect_now log.now (lent_effect effect.entry) }
+/// What a device command does now, with this room for what is saved: if it cannot succeed, since the
+/// call that it needs has not, or since what it saves has no room, it fails without being asked, and
+/// this answer does not stay.
+pub(crate) fn effect_now<'d, S: Store>(
+    store: &S,
+    room: Option<usize>,
+    effect: Effect<'d>,
+) -> Effect<'d>
+    ensures { lent_effect result
+        ≡ effect_now room (state_at (S.record_of store.now).present []) (lent_effect effect.entry) }
 {
-    if is_met(effect.needs, log) {
+    if is_met(effect.needs, store.log()) && has_room(store, room, effect.sets) {
         return effect;
     }
     Effect {

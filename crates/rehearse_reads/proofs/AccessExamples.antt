@@ -38,7 +38,7 @@ devices = record (only ((codes "load", quiet) ∷ (codes "stay", record quiet { 
     }
 
 abbrev limits : Shell → Limits
-limits shell = record { devices = devices; device_bound = 4; step_bound = 20; shell = shell }
+limits shell = record { devices = devices; device_bound = 4; step_bound = 20; shell = shell; room = None }
 
 -- the variable a is set, and so is x, whose text is `true`
 abbrev variables : Variables

@@ -1,20 +1,21 @@
 -- Steps and device commands go alike, as far as the bounds allow.
-use Rattle.std.proofs.Common.{◌≡◌, refl, sym, subst, ℕ, suc, ◌<◌, ◌≤◌, Bool, true, false, List, [], ◌∷◌, ◌++◌, map, length, Option, Some, None, inl, inr, length-append, arith, nat_lt, ltb-true, ltb-false, if◌then◌else◌}
+use Rattle.std.proofs.Common.{◌≡◌, refl, sym, subst, ℕ, suc, ◌<◌, ◌≤◌, Bool, true, false, ◌&&◌, List, [], ◌∷◌, ◌++◌, map, length, Option, Some, None, inl, inr, length-append, arith, nat_lt, ltb-true, ltb-false, if◌then◌else◌}
 use Rattle.device_list.specs.declared.finish.BoardEnd.{BoardEnd}
 use Rattle.device_list.specs.Called.{NewValue, sets_in}
 use Rattle.rehearse_terms.specs.Outcomes.{OutcomeWord, Outcome, Success, Failure}
 use Rattle.rehearse_terms.specs.State.{Text, State, LoggedCommand, answer_in}
 use Rattle.device_list.specs.DeviceList.{Effect}
-use Rattle.rehearse_rules.specs.Needs.{is_met, effect_now}
+use Rattle.rehearse_rules.specs.Needs.{is_met, can_succeed, effect_now}
 use Rattle.rehearse_rules.proofs.NeedsLemmas.{now_same}
 use Rattle.rehearse_rules.specs.Execution.{Limits, Answer, Normal, Ended, CutDevices, CutSteps, Finished, Request, request_of, begin, finish, with_outcome, take_outcome, told, told_again, tell_or_take, outcome_when, device, set_environment, logged, succeeds}
 use Rattle.rehearse_rules.specs.Runs.{state_of}
 use Rattle.rehearse_rules.proofs.TakenOutcomes.{Track-of, KeepsAll}
 use Rattle.rehearse_reads.specs.Keys.{Key, Status, AnswerTo, Succeeded, Access, IsAmong, AreAmong, all_read, ReadsWithin, known_after}
-use Rattle.rehearse_reads.specs.Accesses.{begun_accesses, needs_reads, listed_accesses, told_reads, handing_reads, outcome_writes, outcome_accesses, taken_accesses, answer_accesses, device_accesses, copied_keys, names_written}
+use Rattle.rehearse_reads.specs.Accesses.{begun_accesses, needs_reads, room_reads, success_reads, listed_accesses, told_reads, handing_reads, outcome_writes, outcome_accesses, taken_accesses, answer_accesses, device_accesses, copied_keys, names_written}
 use Rattle.rehearse_reads.specs.Alike.{devices_of, AreAbreast, IsAlike, cut_here, beyond}
-use Rattle.rehearse_reads.proofs.AccessLemmas.{read_first, read_then}
+use Rattle.rehearse_reads.proofs.AccessLemmas.{read_first, read_then, among_first, among_then}
 use Rattle.rehearse_reads.proofs.AbreastLemmas.{near_moved, near_begun, near_logged, near_set, copied_in, copies_among, still_among}
+use Rattle.rehearse_reads.proofs.RoomLemmas.{room_agrees}
 use Rattle.rehearse_reads.proofs.AlikeParts.{further_apart, normal_alike, ended_alike, dry_alike, after_keys}
 
 module _ (limits : Limits) (i j : ℕ) (k l : List LoggedCommand) where
@@ -180,18 +181,26 @@ module _ (limits : Limits) (i j : ℕ) (k l : List LoggedCommand) where
       by true f w = told_knows known request name others e (told request s.log) s u f (read_then known (told_reads request) (answer_accesses (told request s.log) request s) w)
       by false f w = absurd (let g = f in cc)
 
-  -- ---- a command of the list, whose need is met or not
+  -- ---- a command of the list, which can succeed or cannot
 
-  pub met_alike : (known : List Key) (s t : State) (needs : List Text) → Near known s t → AreAmong (needs_reads needs) known → is_met needs t.log ≡ is_met needs s.log
+  met_alike : (known : List Key) (s t : State) (needs : List Text) → Near known s t → AreAmong (needs_reads needs) known → is_met needs t.log ≡ is_met needs s.log
   met_alike known s t [] near h = refl
   met_alike known s t (name ∷ words) near h = near.keys (Succeeded (name ∷ words)) h.0
 
-  pub Alike-listed : (name : Text) (words : List Text) (effect : Effect) → AlwaysDoes (λ x. device limits (request_of name words (effect_now x.log effect)) x) (listed_accesses limits name words effect)
+  pub can_alike : (known : List Key) (s t : State) (effect : Effect) → Near known s t → AreAmong (success_reads limits.room effect) known → can_succeed limits.room t effect ≡ can_succeed limits.room s effect
+  can_alike known s t effect near h =
+      let needs : List Key = needs_reads effect.needs in
+      let copied : List Key = room_reads limits.room effect.sets in
+      let met = met_alike known s t effect.needs near (among_first known needs copied h) in
+      let room = room_agrees known s t near.keys limits.room effect.sets (among_then known needs copied h) in
+      λ i. met i && room i
+
+  pub Alike-listed : (name : Text) (words : List Text) (effect : Effect) → AlwaysDoes (λ x. device limits (request_of name words (effect_now limits.room x effect)) x) (listed_accesses limits name words effect)
   Alike-listed name words effect known s t near w =
       let request : Effect → Request = request_of name words in
-      let keys : List Key = needs_reads effect.needs in
-      let rest : List Access = device_accesses limits (request (effect_now s.log effect)) s in
-      let now : effect_now t.log effect ≡ effect_now s.log effect = now_same effect s.log t.log (met_alike known s t effect.needs near (read_first known keys rest w)) in
-      after_keys limits i j k l known keys rest (device limits (request (effect_now s.log effect)) s) (device limits (request (effect_now t.log effect)) t)
-      (subst (λ (x : Effect). Is (known_after known rest) (device limits (request (effect_now s.log effect)) s) (device limits (request x) t)) (sym now)
-      (Alike-device (request (effect_now s.log effect)) known s t near (read_then known keys rest w)))
+      let keys : List Key = success_reads limits.room effect in
+      let rest : List Access = device_accesses limits (request (effect_now limits.room s effect)) s in
+      let now : effect_now limits.room t effect ≡ effect_now limits.room s effect = now_same limits.room effect s t (can_alike known s t effect near (read_first known keys rest w)) in
+      after_keys limits i j k l known keys rest (device limits (request (effect_now limits.room s effect)) s) (device limits (request (effect_now limits.room t effect)) t)
+      (subst (λ (x : Effect). Is (known_after known rest) (device limits (request (effect_now limits.room s effect)) s) (device limits (request x) t)) (sym now)
+      (Alike-device (request (effect_now limits.room s effect)) known s t near (read_then known keys rest w)))

@@ -17,7 +17,7 @@ use Rattle.rehearse_rules.specs.Execution.{Limits, Answer, Normal, Exit, Ended, 
 use Rattle.rehearse_rules.proofs.TakenOutcomes.{KeepsAll, Keeps-if, Keeps-run, Keeps-simple, Keeps-sized, Keeps-assign, Keeps-script, Keeps-joined, Keeps-arms, Keeps-exec, Keeps-ended, Keeps-words, Keeps-skip, Keeps-stays, Keeps-file, Keeps-one_file, Keeps-chosen}
 use Rattle.rehearse_reads.specs.Keys.{Key, Environment, Status, Access, Reads, Writes, AreAmong, AgreeOn, all_read, ReadsWithin, known_after}
 use Rattle.rehearse_reads.specs.Alike.{AreAbreast, IsAlike, same, cut_here, beyond}
-use Rattle.rehearse_reads.specs.Accesses.{here_accesses, chosen_accesses, one_accesses, behind, behind_text, status_written, words_reads, needs_reads, device_accesses, listed_accesses, computed_accesses, setenv_accesses, tree_accesses, read_accesses, text_accesses, started_accesses, run_accesses, builtin_accesses, call_accesses, simple_accesses, sized_accesses, assign_accesses, script_accesses, list_accesses, joined_accesses, command_accesses, arms_accesses, accesses, modern_accesses, turns_of_accesses, for_words_accesses, turns_accesses, simple_call_accesses, file_accesses, follow_accesses, handed_accesses, sourced_text_accesses}
+use Rattle.rehearse_reads.specs.Accesses.{here_accesses, chosen_accesses, one_accesses, behind, behind_text, status_written, words_reads, success_reads, device_accesses, listed_accesses, computed_accesses, setenv_accesses, tree_accesses, read_accesses, text_accesses, started_accesses, run_accesses, builtin_accesses, call_accesses, simple_accesses, sized_accesses, assign_accesses, script_accesses, list_accesses, joined_accesses, command_accesses, arms_accesses, accesses, modern_accesses, turns_of_accesses, for_words_accesses, turns_accesses, simple_call_accesses, file_accesses, follow_accesses, handed_accesses, sourced_text_accesses}
 use Rattle.rehearse_reads.proofs.AccessLemmas.{read_first, read_then, within_first, within_then}
 use Rattle.rehearse_reads.proofs.AbreastLemmas.{near_status, near_computed, near_sets, near_echoed}
 use Rattle.rehearse_reads.proofs.SameWords.{fields_agree, turns_agree}
@@ -135,19 +135,19 @@ module _ (limits : Limits) (i j : ℕ) (k l : List LoggedCommand) where
     before_alike ks known (Dry u) b g h e (beyond x) y = beyond x
 
     Alike-handed : (name : Text) (words : List Text) (effect : Effect) (runs : List Text) → effect.runs ≡ runs
-        → AlwaysDoes (λ s. handed_over limits script runs s.memory.status (device limits (request_of name words (effect_now s.log effect)) s))
-        (λ s. handed_accesses limits script of_script runs s.memory.status (listed_accesses limits name words effect s) (device limits (request_of name words (effect_now s.log effect)) s))
+        → AlwaysDoes (λ s. handed_over limits script runs s.memory.status (device limits (request_of name words (effect_now limits.room s effect)) s))
+        (λ s. handed_accesses limits script of_script runs s.memory.status (listed_accesses limits name words effect s) (device limits (request_of name words (effect_now limits.room s effect)) s))
     Alike-handed name words effect [] e known s t near w = Alike-listed limits i j k l name words effect known s t near w
     Alike-handed name words effect (file ∷ others) e known s t near w =
-        let request : Request = request_of name words (effect_now s.log effect) in
-        let f : State → Answer = λ x. device limits (request_of name words (effect_now x.log effect)) x in
+        let request : Request = request_of name words (effect_now limits.room s effect) in
+        let f : State → Answer = λ x. device limits (request_of name words (effect_now limits.room x effect)) x in
         let g : ℕ → State → Answer = file_follows limits script file others in
         let asked : List Access = listed_accesses limits name words effect s in
         let v : State → List Access = follow_accesses limits script of_script file others s.memory.status in
         let within : ReadsWithin known asked = within_first known asked (behind (f s) v) w in
         let near_asked : Is (known_after known asked) (f s) (f t) = Alike-listed limits i j k l name words effect known s t near within in
         let status : (u : State) → f s ≡ Normal u → g t.memory.status ≡ g s.memory.status =
-        λ u is. ap g (near.keys Status (asked_knows limits i j k l known request file others (now_runs s.log effect ∙ e) s u is (read_then known (needs_reads effect.needs) (device_accesses limits request s) within))) in
+        λ u is. ap g (near.keys Status (asked_knows limits i j k l known request file others (now_runs limits.room s effect ∙ e) s u is (read_then known (success_reads limits.room effect) (device_accesses limits request s) within))) in
         after_then limits i j k l known asked (behind (f s) v) (go_on (f s) (g s.memory.status)) (go_on (f t) (g t.memory.status))
         (before_alike (known_after known asked) (known_after (known_after known asked) (behind (f s) v)) (f s) (f t) (g s.memory.status) (g t.memory.status) status near_asked
         (go_on_alike limits i j k l (known_after known asked) (f s) (f t) (g s.memory.status) v (Alike-file file others s.memory.status) (Keeps-file limits script kept file others s.memory.status) (within_then known asked (behind (f s) v) w) near_asked))
@@ -173,7 +173,7 @@ module _ (limits : Limits) (i j : ℕ) (k l : List LoggedCommand) where
       where
         by : (o : Option Computed) (b : Option Builtin) (f : Option Effect)
             → AlwaysDoes (command limits again script (elim o [ Some computed ↦ BuiltIn (ChangesVariables (λ ws. carried computed)) | None ↦ elim b [ Some builtin ↦ BuiltIn (deed_of builtin) | None ↦ elim f [ Some effect ↦ Device effect | None ↦ NoCommand ] ] ]) name words)
-            (λ s. elim o [ Some computed ↦ computed_accesses computed | None ↦ elim b [ Some builtin ↦ builtin_accesses limits script of_script builtin name words s | None ↦ elim f [ Some effect ↦ handed_accesses limits script of_script effect.runs s.memory.status (listed_accesses limits name words effect s) (device limits (request_of name words (effect_now s.log effect)) s) | None ↦ [] ] ] ])
+            (λ s. elim o [ Some computed ↦ computed_accesses computed | None ↦ elim b [ Some builtin ↦ builtin_accesses limits script of_script builtin name words s | None ↦ elim f [ Some effect ↦ handed_accesses limits script of_script effect.runs s.memory.status (listed_accesses limits name words effect s) (device limits (request_of name words (effect_now limits.room s effect)) s) | None ↦ [] ] ] ])
         by (Some computed) b f known s t near w =
             normal_alike limits i j k l (known_after known (computed_accesses computed)) (remember (variables_changed (λ ws. carried computed) words) s) (remember (variables_changed (λ ws. carried computed) words) t) (near_computed limits i j k l computed known s t near w)
         by None (Some builtin) f known s t near w = Alike-builtin again builtin name words known s t near w

@@ -3,6 +3,7 @@ pub mod SameWords
 pub mod LookedUpLemmas
 pub mod AbreastLemmas
 pub mod AlikeParts
+mod RoomLemmas
 pub mod AlikeDevices
 pub mod AlikeLoops
 pub mod AlikeScripts

@@ -108,6 +108,15 @@ copied_key (CopyOf name) = Environment name ∷ []
 abbrev pub copied_keys : List Setting → List Key
 copied_keys sets = flat_map (λ set. copied_key set.1) sets
 
+-- if there is not room for all, it reads the variables that it copies to know whether there is room for them
+abbrev pub room_reads : (room : Option ℕ) → List Setting → List Key
+room_reads None sets = []
+room_reads (Some room) sets = copied_keys sets
+
+-- what a command reads to know whether it can succeed
+abbrev pub success_reads : (room : Option ℕ) → Effect → List Key
+success_reads room effect = needs_reads effect.needs ++ room_reads room effect.sets
+
 -- on success it sets what its settings say
 abbrev pub outcome_writes : Outcome → Request → List Access
 outcome_writes Success request =
@@ -258,10 +267,10 @@ module _ (limits : Limits) where
         | false ↦ []
       ]
 
-  -- a command of the list, also one that fails since the call that it needs has not succeeded
+  -- a command of the list, also one that fails since it cannot succeed
   abbrev pub listed_accesses : (name : Text) → (words : List Text) → Effect → State → List Access
   listed_accesses name words effect s =
-      all_read (needs_reads effect.needs) ++ device_accesses (request_of name words (effect_now s.log effect)) s
+      all_read (success_reads limits.room effect) ++ device_accesses (request_of name words (effect_now limits.room s effect)) s
 
   -- `script` is what the tree of a text does, and `of_script` what it accesses
   module _ (script : Script → State → Answer) (of_script : Script → State → List Access) where
@@ -353,7 +362,7 @@ module _ (limits : Limits) where
             | Some builtin ↦ builtin_accesses builtin name words s
             | None ↦ elim (effect_of limits.devices name words) [
               | Some effect ↦ handed_accesses effect.runs s.memory.status (listed_accesses name words effect s)
-                  (device limits (request_of name words (effect_now s.log effect)) s)
+                  (device limits (request_of name words (effect_now limits.room s effect)) s)
               | None ↦ []
             ]
           ]

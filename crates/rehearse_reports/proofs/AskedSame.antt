@@ -13,7 +13,7 @@ use Rattle.bootstore_state.specs.StoredState.{state_at}
 use Rattle.rehearse_terms.specs.Outcomes.{Success}
 use Rattle.rehearse_terms.specs.State.{Text, State}
 use Rattle.device_list.specs.DeviceList.{Effect}
-use Rattle.rehearse_rules.specs.Needs.{is_met, effect_now}
+use Rattle.rehearse_rules.specs.Needs.{can_succeed, effect_now}
 use Rattle.rehearse_terms.specs.declared.shell.Shell.{Shell}
 use Rattle.rehearse_terms.specs.declared.shell.Shell.TheVariants.{Profile, Old2023, Old2025, Modern2025}
 use Rattle.rehearse_rules.specs.Parameters.{parameters_in}
@@ -137,8 +137,8 @@ module _ (limits : Limits) (s t : State) where
   listed_by false there name ws effect ps =
       failed_here (nat_lt (length s.log) limits.device_bound) (place_ask limits (request_of name ws (by_need effect there)) ps t) (request_of name ws (by_need effect false)) ps s
 
-  listed_same : (name : Text) (ws : List Text) (effect : Effect) (ps : List RunningFrame) → AskSame (place_ask limits (request_of name ws (effect_now s.log effect)) ps s) (place_ask limits (request_of name ws (effect_now t.log effect)) ps t)
-  listed_same name ws effect ps = listed_by (is_met effect.needs s.log) (is_met effect.needs t.log) name ws effect ps
+  listed_same : (name : Text) (ws : List Text) (effect : Effect) (ps : List RunningFrame) → AskSame (place_ask limits (request_of name ws (effect_now limits.room s effect)) ps s) (place_ask limits (request_of name ws (effect_now limits.room t effect)) ps t)
+  listed_same name ws effect ps = listed_by (can_succeed limits.room s effect) (can_succeed limits.room t effect) name ws effect ps
 
   called_same : (again : Bool) (b : Called) (name : Text) (ws : List Text) (script : Script) (ps : List RunningFrame) → AskSame (place_called limits again b name ws script ps s) (place_called limits again b name ws script ps t)
   called_same again (BuiltIn (ChangesVariables change)) name ws script ps = tt

@@ -1,8 +1,9 @@
 -- Reports of calls.
-use Rattle.std.proofs.Common.{◌≡◌, ◌∙◌, refl, sym, ap, subst, ℕ, Bool, true, false, List, [], ◌∷◌, ◌++◌, cond, map, length, drop, get_or, Vec, Global, Option, Some, None, ◌<◌, ◌≤◌, arith}
+use Rattle.std.proofs.Common.{◌≡◌, ◌∙◌, refl, sym, ap, subst, ℕ, Bool, true, false, List, [], ◌∷◌, ◌++◌, append_assoc, cond, map, length, drop, get_or, Vec, Global, Option, Some, None, ◌<◌, ◌≤◌, arith}
 use Rattle.std.proofs.Math.Dec.{eqb, eqb-suc-zero}
 use Rattle.std.specs.List.{flat_map}
 use Rattle.std.specs.Prelude.{if◌then◌else◌}
+use Rattle.std.proofs.lemmas.List.{map-append}
 use Rattle.std.proofs.lemmas.List.Concat.{flat_map-cons}
 use Rattle.std.specs.Borrow.{Bor}
 use Rattle.std.specs.Prelude.{OnOk, Result}
@@ -11,17 +12,17 @@ use Rattle.commands.specs.ComputedShown.{computed_shown}
 use Rattle.commands.specs.declared.computed.Computed.{Computed}
 use Rattle.commands.specs.declared.computed.Computed.TheVariants as names
 use Rattle.commands.specs.VariableNames.{is_bad_name}
-use Rattle.device_list.specs.DeviceList.{Effect}
+use Rattle.device_list.specs.DeviceList.{Effect, Setting}
 use Rattle.rehearse_terms.specs.State.{Text, State, LoggedCommand}
-use Rattle.rehearse_rules.specs.Needs.{is_met, effect_now}
+use Rattle.rehearse_rules.specs.Needs.{can_succeed, effect_now}
 use Rattle.rehearse_rules.specs.Execution.{Limits, Request}
 use Rattle.rehearse_reads.specs.Keys.{Key, Access, Reads, Writes, Environment, AnswerTo, Succeeded, Status, all_read, Covers}
-use Rattle.rehearse_reads.specs.Accesses.{status_written, setenv_accesses, deletion_accesses, computed_accesses, needs_reads, told_reads, handing_reads}
+use Rattle.rehearse_reads.specs.Accesses.{status_written, setenv_accesses, deletion_accesses, computed_accesses, needs_reads, room_reads, success_reads, told_reads, handing_reads}
 use Rattle.rehearse_reads.proofs.KeysRead.{covering_joins}
 use Rattle.rehearse_frames.specs.MoveAccesses.{of_asking}
 use Rattle.rehearse_reports.specs.Reports.{Reports, Adds}
 use Rattle.rehearse_reports.proofs.ReportLemmas.{covers_itself, covers_less, covers_through, reads_cover, reads_alone, reports_nothing, reports_as, reports_then}
-use Rattle.rehearse_reports.proofs.CoverLemmas.{covers_status, covers_asking, early_reads}
+use Rattle.rehearse_reports.proofs.CoverLemmas.{covers_status, covers_asking, covers_room, early_reads}
 
 -- an access, and then the status is written
 pub then_status : (old new : List Access) (access : Access) → Reports old new (access ∷ []) → Reports old new (access ∷ status_written)
@@ -107,6 +108,24 @@ asks_all old mid new limits request s h k =
     reports_as old new (all_read (told_reads request) ++ early_reads request.effect) (of_asking limits request s)
     (reports_then old mid new (all_read (told_reads request)) (early_reads request.effect) h k) (covers_asking limits request s)
 
+-- the same, where there may be no room for what it saves
+pub asks_in_room : (old mid new : List Access) (limits : Limits) (request : Request) (s : State) (sets : List Setting) → request.effect.sets ≡ sets → Reports old mid (all_read (told_reads request)) → Reports mid new (early_reads request.effect)
+    → Reports old new (all_read (room_reads limits.room sets) ++ of_asking limits request s)
+asks_in_room old mid new limits request s sets same h k =
+    subst (λ (xs : List Setting). Reports old new (all_read (room_reads limits.room xs) ++ of_asking limits request s)) same
+    (reports_as old new (all_read (told_reads request) ++ early_reads request.effect) (all_read (room_reads limits.room request.effect.sets) ++ of_asking limits request s)
+    (reports_then old mid new (all_read (told_reads request)) (early_reads request.effect) h k) (covers_room limits request s))
+
+-- and before that, what it needs
+pub needed_in_room : (old mid new : List Access) (limits : Limits) (request : Request) (s : State) (effect : Effect) → Reports old mid (all_read (needs_reads effect.needs)) → Reports mid new (all_read (room_reads limits.room effect.sets) ++ of_asking limits request s)
+    → Reports old new (all_read (success_reads limits.room effect) ++ of_asking limits request s)
+needed_in_room old mid new limits request s effect h k =
+    let needs : List Key = needs_reads effect.needs in
+    let room : List Key = room_reads limits.room effect.sets in
+    subst (Reports old new)
+    (sym (append_assoc (all_read needs) (all_read room) (of_asking limits request s)) ∙ ap (λ (xs : List Access). xs ++ of_asking limits request s) (sym (map-append Reads needs room)))
+    (reports_then old mid new (all_read needs) (all_read room ++ of_asking limits request s) h k)
+
 -- a command that runs no file and makes no setting reads its answer alone
 pub asks_alone : (old new : List Access) (limits : Limits) (request : Request) (s : State) → early_reads request.effect ≡ [] → Reports old new (all_read (told_reads request)) → Reports old new (of_asking limits request s)
 asks_alone old new limits request s none h =
@@ -123,16 +142,16 @@ needs_one old new [] call is some h = absurd (let f = some in cc)
 needs_one old new (n ∷ ns) call is some h = subst (λ (ws : List Text). Reports old new (Reads (Succeeded ws) ∷ [])) is h
 
 -- a command does not stay that the list does not say to stay
-pub now_steady : (log : List LoggedCommand) (effect : Effect) → (effect_now log effect).stays ≡ true → effect.stays ≡ true
-now_steady log effect = by (is_met effect.needs log)
+pub now_steady : (room : Option ℕ) (s : State) (effect : Effect) → (effect_now room s effect).stays ≡ true → effect.stays ≡ true
+now_steady room s effect = by (can_succeed room s effect)
   where
     by : (b : Bool) → (let e : Effect = cond b effect (record effect { stays = false; always = Some false }) in e.stays) ≡ true → effect.stays ≡ true
     by true e = e
     by false e = absurd (let g = e in cc)
 
 -- and makes the settings that it would make
-pub now_sets : (log : List LoggedCommand) (effect : Effect) → (effect_now log effect).sets ≡ effect.sets
-now_sets log effect = by (is_met effect.needs log)
+pub now_sets : (room : Option ℕ) (s : State) (effect : Effect) → (effect_now room s effect).sets ≡ effect.sets
+now_sets room s effect = by (can_succeed room s effect)
   where
     by : (b : Bool) → (let e : Effect = cond b effect (record effect { stays = false; always = Some false }) in e.sets) ≡ effect.sets
     by true = refl

@@ -1,5 +1,5 @@
 -- What may be reported in the place of what commands read and write.
-use Rattle.std.proofs.Common.{◌≡◌, ◌∙◌, refl, sym, ap, subst, ℕ, suc, Bool, true, false, List, [], ◌∷◌, ◌++◌, append_assoc, map, length, Option, Some, None, nat_lt, nat_le, nat_eq, if◌then◌else◌}
+use Rattle.std.proofs.Common.{◌≡◌, ◌∙◌, refl, sym, ap, subst, ℕ, suc, Bool, true, false, List, [], ◌∷◌, ◌++◌, append_assoc, map, length, Option, Some, None, inl, nat_lt, nat_le, nat_eq, if◌then◌else◌}
 use Rattle.std.specs.List.{flat_map}
 use Rattle.hushlang.specs.Tree as tree
 use Rattle.hushlang.specs.Tree.{Arms}
@@ -14,9 +14,10 @@ use Rattle.rehearse_terms.specs.declared.shell.Shell.TheVariants.{Profile, Old20
 use Rattle.rehearse_rules.specs.ByShell.{fields_in, turns_in, assigned_in, is_refused, reads_again, follows_turns}
 use Rattle.rehearse_rules.specs.Parameters.{parameters_in}
 use Rattle.rehearse_rules.specs.Execution.{Limits, Request, told, outcome_when, assign_local, for_begun}
-use Rattle.rehearse_reads.specs.Keys.{Key, Access, Reads, Writes, Environment, Local, Status, all_read, Covers}
-use Rattle.rehearse_reads.specs.Accesses.{status_written, variable_reads, inside_reads, piece_reads, word_reads, words_reads, copied_keys, names_written, told_reads, handing_reads, outcome_writes, outcome_accesses, sized_accesses, local_accesses, assign_accesses, nothing_accesses, begun_accesses, modern_accesses}
+use Rattle.rehearse_reads.specs.Keys.{Key, Access, Reads, Writes, Environment, Local, Status, all_read, AreAmong, keys_in_front, Covers}
+use Rattle.rehearse_reads.specs.Accesses.{status_written, variable_reads, inside_reads, piece_reads, word_reads, words_reads, copied_keys, room_reads, names_written, told_reads, handing_reads, outcome_writes, outcome_accesses, sized_accesses, local_accesses, assign_accesses, nothing_accesses, begun_accesses, modern_accesses}
 use Rattle.rehearse_reads.proofs.KeysRead.{covering_joins}
+use Rattle.rehearse_reads.proofs.AbreastLemmas.{still_among}
 use Rattle.rehearse_frames.specs.MoveAccesses.{of_asking, of_telling, of_beginning_for, of_beginning_arms, of_fields, of_command, of_beginning_turns, of_beginning_words}
 use Rattle.rehearse_reports.proofs.ReportLemmas.{covers_itself, covers_through, covers_less, covers_write, covers_written, reads_cover, reads_alone, nothing_after}
 
@@ -74,6 +75,36 @@ covers_asking limits request s = by (nat_lt (length s.log) limits.device_bound)
     by : (b : Bool) → Covers (keys ++ early) (elim b [ true ↦ keys ++ of_telling (told request s.log) request | false ↦ [] ])
     by true = covering_joins keys (of_telling (told request s.log) request) keys early (covers_itself keys) (covers_told (told request s.log) request)
     by false = reads_cover (told_reads request) early [] (early_alone request.effect.runs (copied_keys request.effect.sets))
+
+-- what may be read in front of the outcome may also be reported before that
+behind_reads : (keys first : List Key) (others : List Access) (later : List Key) → AreAmong keys (keys_in_front others later) → AreAmong keys (keys_in_front (all_read first ++ others) later)
+behind_reads keys [] others later h = h
+behind_reads keys (key ∷ first) others later h = still_among (keys_in_front (all_read first ++ others) later) key keys (behind_reads keys first others later h)
+
+read_in_front : (keys later : List Key) → AreAmong keys (keys_in_front (all_read keys) later)
+read_in_front [] later = tt
+read_in_front (key ∷ keys) later = (inl refl, still_among (keys_in_front (all_read keys) later) key keys (read_in_front keys later))
+
+reads_before : (keys : List Key) (others accesses : List Access) → ((later : List Key) → AreAmong keys (keys_in_front others later)) → Covers others accesses → Covers others (all_read keys ++ accesses)
+reads_before [] others accesses h k = k
+reads_before (key ∷ keys) others accesses h k = λ later. ((h later).0, reads_before keys others accesses (λ ks. (h ks).1) k later)
+
+room_in_front : (room : Option ℕ) (first : List Key) (effect : Effect) (later : List Key) → AreAmong (room_reads room effect.sets) (keys_in_front (all_read first ++ early_reads effect) later)
+room_in_front None first effect later = tt
+room_in_front (Some room) first effect later = behind_reads copied first (early_reads effect) later (by effect.runs)
+  where
+    copied : List Key
+    copied = copied_keys effect.sets
+
+    by : (runs : List Text) → AreAmong copied (keys_in_front (handing_reads runs ++ all_read copied) later)
+    by [] = read_in_front copied later
+    by (name ∷ others) = still_among (keys_in_front (all_read copied) later) Status copied (read_in_front copied later)
+
+-- so the room is read with it
+pub covers_room : (limits : Limits) (request : Request) (s : State) → Covers (all_read (told_reads request) ++ early_reads request.effect) (all_read (room_reads limits.room request.effect.sets) ++ of_asking limits request s)
+covers_room limits request s =
+    reads_before (room_reads limits.room request.effect.sets) (all_read (told_reads request) ++ early_reads request.effect) (of_asking limits request s)
+    (room_in_front limits.room (told_reads request) request.effect) (covers_asking limits request s)
 
 -- ---- commands that begin
 

@@ -1,12 +1,12 @@
 -- Over a device list on which no answer stays, no command is told an answer again.
-use Rattle.std.proofs.Common.{None, ◌≡◌, ◌∙◌, Bool, true, false, not, cond, List, [], ◌∷◌, ◌++◌, length, map, refl, sym, ap, subst, nat_lt, Option, Some, if◌then◌else◌}
+use Rattle.std.proofs.Common.{ℕ, ◌&&◌, None, ◌≡◌, ◌∙◌, Bool, true, false, not, cond, List, [], ◌∷◌, ◌++◌, length, map, refl, sym, ap, subst, nat_lt, Option, Some, if◌then◌else◌}
 use Rattle.std.proofs.lemmas.List.Elements.{filter-append}
 use Rattle.device_list.specs.declared.finish.BoardEnd.{BoardEnd}
 use Rattle.device_list.specs.Called.{sets_in}
 use Rattle.device_list.specs.DeviceList.{Effect}
 use Rattle.rehearse_rules.specs.Execution.{Limits, Answer, Ended, CutDevices, Request, take_outcome, device, logged, set_environment, finish}
 use Rattle.rehearse_rules.specs.Laws.{WholeLogIsWord}
-use Rattle.rehearse_rules.specs.Needs.{is_met, effect_now}
+use Rattle.rehearse_rules.specs.Needs.{is_met, has_room, effect_now}
 use Rattle.rehearse_terms.specs.Outcomes.{OutcomeWord, Success, Failure}
 use Rattle.rehearse_rules.specs.Runs.{run_on, state_of}
 use Rattle.rehearse_terms.specs.State.{Text, LoggedCommand, State, asked_of, start}
@@ -50,13 +50,15 @@ asks-device limits r fresh anew s h =
     by true = asks-take r s.word s fresh h
     by false = h
 
--- a command that needs none does what the list says
-pub now_as_said : (log : List LoggedCommand) (effect : Effect) → effect.needs ≡ [] → effect_now log effect ≡ effect
-now_as_said log effect none = ap (λ (needs : List Text). if is_met needs log then effect else record effect { stays = false; always = Some false }) none
+-- a command that needs none does what the list says, if there is room for all
+pub now_as_said : (room : Option ℕ) (s : State) (effect : Effect) → room ≡ None → effect.needs ≡ [] → effect_now room s effect ≡ effect
+now_as_said room s effect all none =
+    ap (λ (o : Option ℕ). effect_now o s effect) all
+    ∙ ap (λ (needs : List Text). if is_met needs s.log && has_room None s.memory.environment effect.sets then effect else record effect { stays = false; always = Some false }) none
 
 pub whole_log_is_word : WholeLogIsWord
-whole_log_is_word task w each always run =
-    let all : AllAsked (state_of (run_on task w)) = run-keeps AllTook task.limits (λ log name words effect. AsksAnew effect) (λ name named log words. (each.1, refl)) (λ name words effect e log.
+whole_log_is_word task w all_saved each always run =
+    let all : AllAsked (state_of (run_on task w)) = run-keeps AllTook task.limits (λ s name words effect. AsksAnew effect) (λ name named s words. (each.1, refl)) (λ name words effect e s.
     let said = always name words effect e in
-    subst AsksAnew (sym (now_as_said log effect said.1)) (each.0 name words effect e, said.0)) (λ r fresh s anew h. asks-device task.limits r fresh anew s h) task.limits.step_bound task.name task.text (start task.written task.environment w) refl in
+    subst AsksAnew (sym (now_as_said task.limits.room s effect all_saved said.1)) (each.0 name words effect e, said.0)) (λ r fresh s anew h. asks-device task.limits r fresh anew s h) task.limits.step_bound task.name task.text (start task.written task.environment w) refl in
     ap (map (λ e. e.success)) (sym all) ∙ log_is_word task w run

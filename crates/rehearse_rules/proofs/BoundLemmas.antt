@@ -188,7 +188,7 @@ module _ (limits : Limits) where
     command-ends again (BuiltIn (WritesText written)) name ws t h r = h
     command-ends again (BuiltIn Exits) name ws t h r = leave-ends (leaves_in limits.shell again ws) (status_of_exit limits.shell ws) t h
     command-ends again (Device effect) name ws t h r =
-        let q : Request = request_of name ws (effect_now t.log effect) in
+        let q : Request = request_of name ws (effect_now limits.room t effect) in
         handed-ends effect.runs t.memory.status t (device limits q t) (Keeps-device limits q refl t).0 (device-ends t q h) r
     command-ends again NoCommand name ws t h r = (h, tt)
 

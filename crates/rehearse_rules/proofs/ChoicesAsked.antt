@@ -15,7 +15,7 @@ use Rattle.device_list.specs.DeviceList.{Effect, Devices, effect_of, asked_about
 use Rattle.rehearse_terms.specs.Outcomes.{Outcome, OutcomeWord, Success, Failure}
 use Rattle.rehearse_terms.specs.State.{Text, LoggedCommand, State, asked_of, answer_in, start}
 use Rattle.rehearse_rules.specs.Expected.{Answered, asked_in, choices_of}
-use Rattle.rehearse_rules.specs.Needs.{is_met, effect_now}
+use Rattle.rehearse_rules.specs.Needs.{can_succeed, effect_now}
 use Rattle.rehearse_rules.specs.Execution.{Limits, Answer, Ended, CutDevices, Request, succeeds, told, told_again, tell_or_take, take_outcome, with_outcome, device, logged, set_environment, finish}
 use Rattle.rehearse_rules.specs.Runs.{Task, run_on, state_of}
 use Rattle.rehearse_rules.proofs.KeptLogs.{run-keeps}
@@ -84,26 +84,26 @@ module _ (devices : Devices) where
   abbrev StayAnswer : Answer → Type 0
   StayAnswer a = AllStay (state_of a).log
 
-  -- the effect of a call is what the list says of it, at this log
-  abbrev AsSaid : List LoggedCommand → (name : Text) → (words : List Text) → Effect → Type 0
-  AsSaid log name words effect = (listed : Effect) → builtin_of name ≡ None → effect_of devices name words ≡ Some listed → effect ≡ effect_now log listed
+  -- the effect of a call is what the list says of it, in this state
+  abbrev AsSaid : Option ℕ → State → (name : Text) → (words : List Text) → Effect → Type 0
+  AsSaid room s name words effect = (listed : Effect) → builtin_of name ≡ None → effect_of devices name words ≡ Some listed → effect ≡ effect_now room s listed
 
   abbrev entry : Outcome → Request → LoggedCommand
   entry outcome r = record { success = succeeds outcome; words = r.name ∷ r.words; stays = r.effect.stays; again = r.again }
 
-  asked_stays : (r : Request) (s : State) → told r s.log ≡ None → AsSaid s.log r.name r.words r.effect → is_choice devices (r.name ∷ r.words) ≡ true → r.effect.stays ≡ true
-  asked_stays r s none said choice = by (listed_choice r.name r.words choice)
+  asked_stays : (room : Option ℕ) (r : Request) (s : State) → told r s.log ≡ None → AsSaid room s r.name r.words r.effect → is_choice devices (r.name ∷ r.words) ≡ true → r.effect.stays ≡ true
+  asked_stays room r s none said choice = by (listed_choice r.name r.words choice)
     where
       by : Listed r.name r.words → r.effect.stays ≡ true
-      by l = when (is_met listed.needs s.log) refl
+      by l = when (can_succeed room s listed) refl
         where
           listed : Effect
           listed = l.1.0
 
-          now : r.effect ≡ effect_now s.log listed
+          now : r.effect ≡ effect_now room s listed
           now = said listed l.0 l.1.1.0
 
-          when : (b : Bool) → is_met listed.needs s.log ≡ b → r.effect.stays ≡ true
+          when : (b : Bool) → can_succeed room s listed ≡ b → r.effect.stays ≡ true
           when true met = ap (λ (x : Effect). x.stays) (now ∙ ap (λ (b : Bool). cond b listed (record listed { stays = false; always = Some false })) met) ∙ l.1.1.1
           when false unmet =
               absurd (let fails : told r s.log ≡ Some false = ap (λ (x : Effect). cond x.stays (answer_in s.log (r.name ∷ r.words)) x.always) (now ∙ ap (λ (b : Bool). cond b listed (record listed { stays = false; always = Some false })) unmet) in
@@ -121,16 +121,16 @@ module _ (devices : Devices) where
   takes-stays r [] s h stays = h
   takes-stays r (outcome ∷ rest) s h stays = outcome-stays outcome r (record s { word = rest }) h (stays outcome)
 
-  tells-stays : (r : Request) (s : State) (o : Option Bool) → told r s.log ≡ o → AsSaid s.log r.name r.words r.effect → AllStay s.log → StayAnswer (tell_or_take o r s)
-  tells-stays r s None e said h = takes-stays r s.word s h (λ outcome choice fresh. asked_stays r s e said choice)
-  tells-stays r s (Some true) e said h = outcome-stays Success (told_again r) s h (λ choice fresh. absurd (let f = fresh in cc))
-  tells-stays r s (Some false) e said h = outcome-stays Failure (told_again r) s h (λ choice fresh. absurd (let f = fresh in cc))
+  tells-stays : (room : Option ℕ) (r : Request) (s : State) (o : Option Bool) → told r s.log ≡ o → AsSaid room s r.name r.words r.effect → AllStay s.log → StayAnswer (tell_or_take o r s)
+  tells-stays room r s None e said h = takes-stays r s.word s h (λ outcome choice fresh. asked_stays room r s e said choice)
+  tells-stays room r s (Some true) e said h = outcome-stays Success (told_again r) s h (λ choice fresh. absurd (let f = fresh in cc))
+  tells-stays room r s (Some false) e said h = outcome-stays Failure (told_again r) s h (λ choice fresh. absurd (let f = fresh in cc))
 
-  device-stays : (limits : Limits) (r : Request) (s : State) → AsSaid s.log r.name r.words r.effect → AllStay s.log → StayAnswer (device limits r s)
+  device-stays : (limits : Limits) (r : Request) (s : State) → AsSaid limits.room s r.name r.words r.effect → AllStay s.log → StayAnswer (device limits r s)
   device-stays limits r s said h = by (nat_lt (length s.log) limits.device_bound)
     where
       by : (room : Bool) → StayAnswer (elim room [ true ↦ tell_or_take (told r s.log) r s | false ↦ Ended CutDevices s ])
-      by true = tells-stays r s (told r s.log) refl said h
+      by true = tells-stays limits.room r s (told r s.log) refl said h
       by false = h
 
   -- ---- the files of the choices in a log that took an outcome
@@ -217,9 +217,9 @@ module _ (devices : Devices) where
 all-stay : (task : Task) (w : OutcomeWord) → AllStay task.limits.devices (state_of (run_on task w)).log
 all-stay task w =
     let devices = task.limits.devices in
-    run-keeps (AllStay devices) task.limits (AsSaid devices)
-    (λ name named log words listed free found. absurd (let g = sym free ∙ named in cc))
-    (λ name words effect e log listed free found. ap (effect_now log) (effect_same effect listed (sym e ∙ found)))
+    run-keeps (AllStay devices) task.limits (AsSaid devices task.limits.room)
+    (λ name named s words listed free found. absurd (let g = sym free ∙ named in cc))
+    (λ name words effect e s listed free found. ap (effect_now task.limits.room s) (effect_same effect listed (sym e ∙ found)))
     (λ r fresh s said h. device-stays devices task.limits r s said h)
     task.limits.step_bound task.name task.text (start task.written task.environment w) tt
 

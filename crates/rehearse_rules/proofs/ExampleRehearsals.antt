@@ -26,7 +26,7 @@ abbrev pub only_load : Devices
 only_load = only ((codes "load", quiet) ∷ [])
 
 abbrev pub limits : Devices → ℕ → ℕ → Limits
-limits devices device_bound step_bound = record { devices = devices; device_bound = device_bound; step_bound = step_bound; shell = Profile }
+limits devices device_bound step_bound = record { devices = devices; device_bound = device_bound; step_bound = step_bound; shell = Profile; room = None }
 
 -- only `load` is listed, and both bounds are the usual ones
 abbrev pub usual : Limits

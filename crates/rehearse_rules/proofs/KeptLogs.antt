@@ -79,15 +79,15 @@ module _ (P : List LoggedCommand → Type 0) where
       keeps-if (nat_le (length value) most_bytes) (assign shell pairs (assign_local shell pair.0 value s)) (Ended Size s) (keeps-assign shell pairs (assign_local shell pair.0 value s) h) h
 
   -- `Allowed` is what the device list says of the effects that the calls of device commands have, at a log
-  module _ (limits : Limits) (Allowed : List LoggedCommand → (name : Text) → (words : List Text) → Effect → Type 0)
-      (test : (name : Text) → builtin_of name ≡ Some Test → (log : List LoggedCommand) (words : List Text) → Allowed log name words (test_effect limits.devices))
-      (calls : (name : Text) (words : List Text) (effect : Effect) → effect_of limits.devices name words ≡ Some effect → (log : List LoggedCommand) → Allowed log name words (effect_now log effect))
-      (step : (r : Request) → r.again ≡ false → (s : State) → Allowed s.log r.name r.words r.effect → Holds s → Holds (state_of (device limits r s))) where
+  module _ (limits : Limits) (Allowed : State → (name : Text) → (words : List Text) → Effect → Type 0)
+      (test : (name : Text) → builtin_of name ≡ Some Test → (s : State) (words : List Text) → Allowed s name words (test_effect limits.devices))
+      (calls : (name : Text) (words : List Text) (effect : Effect) → effect_of limits.devices name words ≡ Some effect → (s : State) → Allowed s name words (effect_now limits.room s effect))
+      (step : (r : Request) → r.again ≡ false → (s : State) → Allowed s r.name r.words r.effect → Holds s → Holds (state_of (device limits r s))) where
     abbrev IsAllowed : (name : Text) → (words : List Text) → Called → Type 0
-    IsAllowed name words (Device effect) = (log : List LoggedCommand) → Allowed log name words (effect_now log effect)
+    IsAllowed name words (Device effect) = (s : State) → Allowed s name words (effect_now limits.room s effect)
     IsAllowed name words (BuiltIn (ChangesVariables change)) = Unit {0}
     IsAllowed name words (BuiltIn RunsTexts) = Unit {0}
-    IsAllowed name words (BuiltIn Tests) = (log : List LoggedCommand) (question : List Text) → Allowed log name question (test_effect limits.devices)
+    IsAllowed name words (BuiltIn Tests) = (s : State) (question : List Text) → Allowed s name question (test_effect limits.devices)
     IsAllowed name words (BuiltIn (WritesText written)) = Unit {0}
     IsAllowed name words (BuiltIn Exits) = Unit {0}
     IsAllowed name words NoCommand = Unit {0}
@@ -100,7 +100,7 @@ module _ (P : List LoggedCommand → Type 0) where
         by (Some computed) b named f e = tt
         by None (Some SetEnv) named f e = tt
         by None (Some Run) named f e = tt
-        by None (Some Test) named f e = λ log question. test name named log question
+        by None (Some Test) named f e = λ s question. test name named s question
         by None (Some Echo) named f e = tt
         by None (Some True) named f e = tt
         by None (Some False) named f e = tt
@@ -170,12 +170,12 @@ module _ (P : List LoggedCommand → Type 0) where
       keeps-command again (BuiltIn RunsTexts) name (w ∷ ws) allowed s h = keeps-run (w ∷ ws) s h
       keeps-command again (BuiltIn Tests) name words allowed s h =
           let r : Request = test_request limits name words in
-          keeps-if (asks_in limits.shell words) (device limits r s) (Normal (set_status (status_when (truth_in limits.shell words)) s)) (step r refl s (allowed s.log (question_in limits.shell words)) h) h
+          keeps-if (asks_in limits.shell words) (device limits r s) (Normal (set_status (status_when (truth_in limits.shell words)) s)) (step r refl s (allowed s (question_in limits.shell words)) h) h
       keeps-command again (BuiltIn (WritesText written)) name words allowed s h = h
       keeps-command again (BuiltIn Exits) name words allowed s h = keeps-leave (leaves_in limits.shell again words) (status_of_exit limits.shell words) s h
       keeps-command again (Device effect) name words allowed s h =
-          let r : Request = request_of name words (effect_now s.log effect) in
-          keeps-handed effect.runs s.memory.status (device limits r s) (step r refl s (allowed s.log) h)
+          let r : Request = request_of name words (effect_now limits.room s effect) in
+          keeps-handed effect.runs s.memory.status (device limits r s) (step r refl s (allowed s) h)
       keeps-command again NoCommand name words allowed s h = h
 
       keeps-call : (again : Bool) (fs : List Text) → KeepsLog (simple_call limits again script fs)

@@ -507,7 +507,7 @@ module _ (limits : Limits) where
     Keeps-command again (BuiltIn (WritesText written)) name ws s = Keeps-normal limits.device_bound s (text_written written ws)
     Keeps-command again (BuiltIn Exits) name ws s = Keeps-leave (leaves_in limits.shell again ws) (status_of_exit limits.shell ws) s
     Keeps-command again (Device effect) name ws s =
-        let r : Request = request_of name ws (effect_now s.log effect) in
+        let r : Request = request_of name ws (effect_now limits.room s effect) in
         Keeps-handed effect.runs s (device limits r) (Keeps-device r refl s)
     Keeps-command again NoCommand name ws s = Keeps-ended limits.device_bound s (Unknown name)
 

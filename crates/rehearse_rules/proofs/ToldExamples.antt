@@ -1,13 +1,13 @@
 -- Worked examples, computed: what a device command is told again, and what it takes from the word.
-use Rattle.std.proofs.Common.{◌≡◌, ℕ, Bool, true, false, List, [], ◌∷◌, Some, None, codes, refl, map}
+use Rattle.std.proofs.Common.{◌≡◌, ℕ, Bool, true, false, List, [], ◌∷◌, Option, Some, None, codes, refl, map}
 use Rattle.device_list.specs.declared.finish.BoardEnd.TheVariants.{Boots}
 use Rattle.rehearse_terms.specs.Outcomes.{OutcomeWord, Success, Failure}
 use Rattle.rehearse_terms.specs.State.{Text, Variables, LoggedCommand, State, start}
 use Rattle.rehearse_terms.specs.declared.written.Written.TheVariants.{Kept}
-use Rattle.device_list.specs.DeviceList.{Variable, Literal, Effect, only}
+use Rattle.device_list.specs.DeviceList.{Variable, Literal, ValueAt, LastValue, Deleted, CopyOf, Setting, Effect, only}
 use Rattle.device_list.specs.DeviceLaws.{quiet}
 use Rattle.rehearse_terms.specs.declared.shell.Shell.TheVariants.{Profile}
-use Rattle.rehearse_rules.specs.Needs.{is_met, effect_now}
+use Rattle.rehearse_rules.specs.Needs.{is_met, bytes_saved, has_room, can_succeed, effect_now}
 use Rattle.rehearse_rules.specs.Execution.{Limits, Normal, Ended, Dry, Finished, CutDevices, Request, told, tell_or_take, device, test_effect, request_of}
 
 abbrev steady : Effect
@@ -129,18 +129,67 @@ met_without_a_word = refl
 abbrev needing : Effect → Effect
 needing effect = record effect { needs = codes "load" ∷ [] }
 
-needed : map (λ effect. effect_now [] (needing effect)) (quiet ∷ steady ∷ record quiet { always = Some true } ∷ [])
+needed : map (λ effect. effect_now None (at [] []) (needing effect)) (quiet ∷ steady ∷ record quiet { always = Some true } ∷ [])
     ≡ (let failing : Effect = record (needing quiet) { always = Some false } in failing ∷ failing ∷ failing ∷ [])
 needed = refl
 
-as_said : map (λ effect. effect_now (entry true false false ∷ []) (needing effect)) (quiet ∷ steady ∷ record quiet { always = Some true } ∷ [])
+as_said : map (λ effect. effect_now None (at (entry true false false ∷ []) []) (needing effect)) (quiet ∷ steady ∷ record quiet { always = Some true } ∷ [])
     ≡ needing quiet ∷ needing steady ∷ needing (record quiet { always = Some true }) ∷ []
 as_said = refl
+
+-- ---- room for what a call saves
+
+-- `b=2` and a byte 0
+bytes_of_one : bytes_saved (codes "b") (Some (codes "2")) ≡ 4
+bytes_of_one = refl
+
+bytes_of_a_name : bytes_saved (codes "bb") (Some (codes "2")) ≡ 5
+bytes_of_a_name = refl
+
+bytes_of_a_value : bytes_saved (codes "b") (Some (codes "22")) ≡ 5
+bytes_of_a_value = refl
+
+no_bytes_unset : bytes_saved (codes "b") None ≡ 0
+no_bytes_unset = refl
+
+no_bytes_empty : bytes_saved (codes "b") (Some []) ≡ 0
+no_bytes_empty = refl
+
+abbrev copies : List Text → List Setting
+copies names = map (λ name. (Variable (0 ∷ name), CopyOf name)) names
+
+abbrev two : Variables
+two = (codes "a", codes "1") ∷ (codes "b", codes "22") ∷ []
+
+room_for_one : map (λ room. has_room room two (copies (codes "b" ∷ []))) (Some 6 ∷ Some 5 ∷ Some 4 ∷ Some 0 ∷ None ∷ []) ≡ true ∷ true ∷ false ∷ false ∷ true ∷ []
+room_for_one = refl
+
+room_for_both : map (λ room. has_room room two (copies (codes "a" ∷ codes "c" ∷ codes "b" ∷ []))) (Some 9 ∷ Some 8 ∷ []) ≡ true ∷ false ∷ []
+room_for_both = refl
+
+-- a call that copies nothing needs no room
+room_for_none : has_room (Some 0) two ((Variable (codes "x"), Literal (codes "long")) ∷ (Variable (codes "a"), Deleted) ∷ (Variable (codes "b"), LastValue) ∷ (Variable (codes "c"), ValueAt 1) ∷ []) ≡ true
+room_for_none = refl
+
+-- without room it fails as a call does whose need is not met; with both it is what the list says
+abbrev saving_b : Effect
+saving_b = record steady { sets = copies (codes "b" ∷ []) }
+
+no_room : effect_now (Some 3) (at [] []) saving_b ≡ record saving_b { stays = false; always = Some false }
+no_room = refl
+
+just_room : effect_now (Some 4) (at [] []) saving_b ≡ saving_b
+just_room = refl
+
+-- both are needed
+room_and_need : map (λ room. map (λ log. can_succeed room (at log []) (needing saving_b)) ([] ∷ (entry true false false ∷ []) ∷ [])) (Some 3 ∷ Some 4 ∷ [])
+    ≡ (false ∷ false ∷ []) ∷ (false ∷ true ∷ []) ∷ []
+room_and_need = refl
 
 -- ---- the bound counts what is told: one more in the log, or none
 
 abbrev bounded : ℕ → Limits
-bounded bound = record { devices = only []; device_bound = bound; step_bound = 9; shell = Profile }
+bounded bound = record { devices = only []; device_bound = bound; step_bound = 9; shell = Profile; room = None }
 
 told_within : device (bounded 2) (request steady) (at (entry true true false ∷ []) (Failure ∷ [])) ≡ Normal (then_at (entry true true false ∷ entry true true true ∷ []) (Failure ∷ []) 0 unchanged)
 told_within = refl

@@ -21,12 +21,14 @@ use Rattle.device_list.specs.Called.{Called, BuiltIn, NoCommand, Device, called_
 use Rattle.device_list.specs.Saving.{copy_of}
 use Rattle.commands.specs.BuiltInCommands.{ChangesVariables, WritesText, RunsTexts, Tests, Exits, variables_changed, text_written}
 
--- the device list, how many device commands a run may ask, how many steps it may begin, and the shell
+-- the device list, how many device commands a run may ask, how many steps it may begin, the shell, and how many bytes there are
+-- for the variables that a call saves, none if there is room for all
 pub record Limits : Type 0 where
   pub devices : Devices
   pub device_bound : ℕ
   pub step_bound : ℕ
   pub shell : Shell
+  pub room : Option ℕ
 
 -- the result of a part of a script
 pub data Answer : Type 0 where
@@ -376,7 +378,7 @@ module _ (limits : Limits) where
         | None ↦ Normal (set_status (status_of_exit limits.shell words) s)
       ]
   command again script (Device effect) name words s =
-      handed_over script effect.runs s.memory.status (device (request_of name words (effect_now s.log effect)) s)
+      handed_over script effect.runs s.memory.status (device (request_of name words (effect_now limits.room s effect)) s)
   command again script NoCommand name words s = Ended (Unknown name) s
 
   -- a call by its fields. Without a field it does nothing

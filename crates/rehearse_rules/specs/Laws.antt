@@ -47,10 +47,10 @@ abbrev pub LogIsWord : Type 0
 LogIsWord = (task : Task) (w : OutcomeWord) → kind task w ≡ Run →
     map (λ e. e.success) (asked_of (state_of (run_on task w)).log) ≡ map succeeds w
 
--- Over a device list that says of no answer that it stays or is always the same, and of no call that it is needed, each
--- command takes an outcome, so the outcomes in the whole log are its word.
+-- Over a device list that says of no answer that it stays or is always the same, and of no call that it is needed, and with
+-- room for all that is saved, each command takes an outcome, so the outcomes in the whole log are its word.
 abbrev pub WholeLogIsWord : Type 0
-WholeLogIsWord = (task : Task) (w : OutcomeWord) → SaysNothing Steady task.limits.devices →
+WholeLogIsWord = (task : Task) (w : OutcomeWord) → task.limits.room ≡ None → SaysNothing Steady task.limits.devices →
     EachCall (λ effect. (effect.always ≡ None) × (effect.needs ≡ [])) task.limits.devices → kind task w ≡ Run →
     map (λ e. e.success) (state_of (run_on task w)).log ≡ map succeeds w
 

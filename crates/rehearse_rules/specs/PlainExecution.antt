@@ -26,7 +26,7 @@ pub record PlainTask : Type 0 where
 -- the same over the commands of a device list
 abbrev pub task_over : Devices → PlainTask → Task
 task_over devices task = record {
-  limits = record { devices = devices; device_bound = task.device_bound; step_bound = task.step_bound; shell = Profile };
+  limits = record { devices = devices; device_bound = task.device_bound; step_bound = task.step_bound; shell = Profile; room = None };
   environment = task.environment;
   name = task.name;
   text = task.text;

@@ -4,15 +4,20 @@ use Rattle.rehearse_terms.specs.declared.shell.Shell.{Shell}
 use Rattle.rehearse_terms.specs.declared.shell.Shell.TheVariants.{Profile}
 
 -- how many device commands a run may ask, how many steps it may begin, and how many of its device commands may fail for
--- it to be listed, none for any number; and by the rules of which shell it runs
+-- it to be listed, none for any number; by the rules of which shell it runs; and how many bytes there are for the variables
+-- that it saves, none if there is room for all
 pub record BoundsShown : Type 0 where
   pub devices : ℕ
   pub steps : ℕ
   pub failures : Option ℕ
   pub shell : Shell
+  pub room : Option ℕ
 
 abbrev pub in_shell : Shell → BoundsShown → BoundsShown
 in_shell shell bounds = record bounds { shell = shell }
+
+abbrev pub with_room : Option ℕ → BoundsShown → BoundsShown
+with_room room bounds = record bounds { room = room }
 
 -- the most device commands that a listing may allow to a run
 abbrev pub most_devices : ℕ
@@ -45,9 +50,9 @@ are_run_bounds devices steps = nat_le devices most_run_devices && nat_le steps m
 
 abbrev pub run_bounds_of : ℕ → ℕ → Option BoundsShown
 run_bounds_of devices steps =
-    if are_run_bounds devices steps then Some (record { devices = devices; steps = steps; failures = None; shell = Profile }) else None
+    if are_run_bounds devices steps then Some (record { devices = devices; steps = steps; failures = None; shell = Profile; room = None }) else None
 
 abbrev pub bounds_of : ℕ → ℕ → (failures : Option ℕ) → Option BoundsShown
 bounds_of devices steps failures =
     if are_bounds devices steps failures
-    then Some (record { devices = devices; steps = steps; failures = failures; shell = Profile }) else None
+    then Some (record { devices = devices; steps = steps; failures = failures; shell = Profile; room = None }) else None

@@ -26,13 +26,15 @@ fn are_few(failures: Option<u32>) -> bool
 }
 
 /// How many device commands each run of a listing may ask, how many steps it may begin, and how many of its device
-/// commands may fail; without such a number, any number may. And by the rules of which shell they run.
+/// commands may fail; without such a number, any number may. By the rules of which shell they run, and how many bytes there
+/// are for what they save.
 #[derive(Clone, Copy, Debug)]
 pub struct Bounds {
     devices: u32,
     steps: u32,
     failures: Option<u32>,
     shell: Shell,
+    room: Option<usize>,
 }
 
 impl Model for Bounds {
@@ -41,11 +43,11 @@ impl Model for Bounds {
 
     ghost Value = { BoundsShown };
 
-    ghost view = { λ b. record { devices = b.devices; steps = b.steps; failures = b.failures; shell = b.shell } };
+    ghost view = { λ b. record { devices = b.devices; steps = b.steps; failures = b.failures; shell = b.shell; room = b.room } };
 
     ghost invariant = { λ b. are_bounds b.devices b.steps b.failures ≡ true };
 
-    ghost inverse = { λ b. record { devices = b.devices; steps = b.steps; failures = b.failures; shell = b.shell } };
+    ghost inverse = { λ b. record { devices = b.devices; steps = b.steps; failures = b.failures; shell = b.shell; room = b.room } };
 }
 
 impl Bounds {
@@ -72,6 +74,7 @@ impl Bounds {
                 steps,
                 failures,
                 shell: Shell::Profile,
+                room: None,
             })
         } else {
             None
@@ -117,6 +120,7 @@ impl Bounds {
             steps: self.steps,
             failures: self.failures,
             shell,
+            room: self.room,
         }
     }
 
@@ -124,6 +128,12 @@ impl Bounds {
     pub fn of_run(self) -> RunBounds
         ensures { result ≡ self }
     {
-        RunBounds::of(self.devices, self.steps, self.failures, self.shell)
+        RunBounds::of(
+            self.devices,
+            self.steps,
+            self.failures,
+            self.shell,
+            self.room,
+        )
     }
 }

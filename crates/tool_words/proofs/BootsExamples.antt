@@ -12,7 +12,7 @@ use Rattle.tool_words.proofs.CommandLineExamples.{AsksFor, IsRefused, IsUnread, 
 abbrev pub usual : Boots
 usual = record {
   variable = codes "bootcmd";
-  bounds = record { devices = 1000; steps = 1000000; failures = None; shell = Profile };
+  bounds = record { devices = 1000; steps = 1000000; failures = None; shell = Profile; room = None };
   states = 1000000;
   work = 1000000000;
   memory = 512;
@@ -40,7 +40,7 @@ all_options : AsksFor
       files = Some (codes "s");
     }) (record {
       variable = codes "q";
-      bounds = record { devices = 3; steps = 4; failures = None; shell = Modern2025 };
+      bounds = record { devices = 3; steps = 4; failures = None; shell = Modern2025; room = None };
       states = 5;
       work = 6;
       memory = 7;
@@ -190,7 +190,7 @@ signed_alternative_of_boots = (refl, refl)
 -- boots -d d --shell old-2023.01 --boots 1
 boots_in_old_2023 : AsksFor (codes "boots" ∷ codes "-d" ∷ codes "d" ∷ codes "--shell" ∷ codes "old-2023.01" ∷ codes "--boots" ∷ codes "1" ∷ [])
     (booting usual_list (record usual {
-      bounds = record { devices = 1000; steps = 1000000; failures = None; shell = Old2023 };
+      bounds = record { devices = 1000; steps = 1000000; failures = None; shell = Old2023; room = None };
       boots = 1;
     }) Little)
 unfolding clap_on_literals ubtool

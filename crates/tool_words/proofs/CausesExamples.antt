@@ -1,5 +1,5 @@
 -- Worked calls of `causes`, computed: what the words ask for, and that `clap` accepts them or not.
-use Rattle.std.proofs.Common.{true, false, refl, [], ◌∷◌, Some, codes}
+use Rattle.std.proofs.Common.{true, false, refl, [], ◌∷◌, None, Some, codes}
 use Rattle.clap.proofs.OnLiterals.{clap_on_literals}
 use Rattle.envimage.specs.declared.image.ByteOrder.TheVariants.{Big, Little}
 use Rattle.tool_words.specs.declared.ask.OriginError.TheVariants.{SecondNeedsImage}
@@ -12,7 +12,7 @@ use Rattle.tool_words.proofs.CommandLineExamples.{AsksFor, IsRefused, IsUnread, 
 all_causes : AsksFor (codes "causes" ∷ codes "-d" ∷ codes "d" ∷ [])
     (causing usual_list (record {
       variable = codes "bootcmd";
-      bounds = record { devices = 1000; steps = 1000000; failures = Some 2; shell = Profile };
+      bounds = record { devices = 1000; steps = 1000000; failures = Some 2; shell = Profile; room = None };
       check = false;
     }) Little)
 unfolding clap_on_literals ubtool
@@ -22,7 +22,7 @@ all_causes = (refl, refl)
 few_causes : AsksFor (codes "causes" ∷ codes "-c" ∷ codes "f" ∷ codes "-d" ∷ codes "d" ∷ codes "-b" ∷ codes "q" ∷ codes "--devices" ∷ codes "0" ∷ codes "--steps" ∷ codes "7" ∷ codes "--failures" ∷ codes "0" ∷ codes "--check" ∷ codes "--big-endian" ∷ [])
     (causing (read_from (configured (codes "f")) (codes "d")) (record {
       variable = codes "q";
-      bounds = record { devices = 0; steps = 7; failures = Some 0; shell = Profile };
+      bounds = record { devices = 0; steps = 7; failures = Some 0; shell = Profile; room = None };
       check = true;
     }) Big)
 unfolding clap_on_literals ubtool
@@ -32,7 +32,7 @@ few_causes = (refl, refl)
 most_causes : AsksFor (codes "causes" ∷ codes "-d" ∷ codes "d" ∷ codes "--failures=3" ∷ codes "--devices" ∷ codes "1000" ∷ codes "--steps" ∷ codes "1000000" ∷ [])
     (causing usual_list (record {
       variable = codes "bootcmd";
-      bounds = record { devices = 1000; steps = 1000000; failures = Some 3; shell = Profile };
+      bounds = record { devices = 1000; steps = 1000000; failures = Some 3; shell = Profile; room = None };
       check = false;
     }) Little)
 unfolding clap_on_literals ubtool
@@ -42,7 +42,7 @@ most_causes = (refl, refl)
 causes_of_pair : AsksFor (codes "causes" ∷ codes "-i" ∷ codes "f" ∷ codes "--second" ∷ codes "g" ∷ codes "-d" ∷ codes "d" ∷ [])
     (causing (read_from (whole (codes "f") (Some (codes "g"))) (codes "d")) (record {
       variable = codes "bootcmd";
-      bounds = record { devices = 1000; steps = 1000000; failures = Some 2; shell = Profile };
+      bounds = record { devices = 1000; steps = 1000000; failures = Some 2; shell = Profile; room = None };
       check = false;
     }) Little)
 unfolding clap_on_literals ubtool
@@ -52,7 +52,7 @@ causes_of_pair = (refl, refl)
 causes_in_newest_old : AsksFor (codes "causes" ∷ codes "-d" ∷ codes "d" ∷ codes "--shell" ∷ codes "old" ∷ [])
     (causing usual_list (record {
       variable = codes "bootcmd";
-      bounds = record { devices = 1000; steps = 1000000; failures = Some 2; shell = Old2025 };
+      bounds = record { devices = 1000; steps = 1000000; failures = Some 2; shell = Old2025; room = None };
       check = false;
     }) Little)
 unfolding clap_on_literals ubtool
@@ -62,7 +62,7 @@ causes_in_newest_old = (refl, refl)
 causes_in_newest_modern : AsksFor (codes "causes" ∷ codes "-d" ∷ codes "d" ∷ codes "--shell" ∷ codes "modern" ∷ [])
     (causing usual_list (record {
       variable = codes "bootcmd";
-      bounds = record { devices = 1000; steps = 1000000; failures = Some 2; shell = Modern2025 };
+      bounds = record { devices = 1000; steps = 1000000; failures = Some 2; shell = Modern2025; room = None };
       check = false;
     }) Little)
 unfolding clap_on_literals ubtool
@@ -72,7 +72,7 @@ causes_in_newest_modern = (refl, refl)
 checked : AsksFor (codes "causes" ∷ codes "--check" ∷ codes "-d" ∷ codes "d" ∷ codes "--shell" ∷ codes "old-2023.01" ∷ codes "--failures" ∷ codes "1" ∷ [])
     (causing usual_list (record {
       variable = codes "bootcmd";
-      bounds = record { devices = 1000; steps = 1000000; failures = Some 1; shell = Old2023 };
+      bounds = record { devices = 1000; steps = 1000000; failures = Some 1; shell = Old2023; room = None };
       check = true;
     }) Little)
 unfolding clap_on_literals ubtool

@@ -18,7 +18,7 @@ ended_without_image = (refl, refl)
 pair_ended : AsksFor (codes "endings" ∷ codes "-i" ∷ codes "f" ∷ codes "--second" ∷ codes "g" ∷ codes "-d" ∷ codes "d" ∷ [])
     (ending (read_from (whole (codes "f") (Some (codes "g"))) (codes "d")) (record {
       variable = codes "bootcmd";
-      bounds = record { devices = 1000; steps = 1000000; failures = None; shell = Profile };
+      bounds = record { devices = 1000; steps = 1000000; failures = None; shell = Profile; room = None };
       states = 1000000;
       work = 1000000000;
       memory = 512;
@@ -32,7 +32,7 @@ pair_ended = (refl, refl)
 all_endings : AsksFor (codes "endings" ∷ codes "-d" ∷ codes "d" ∷ [])
     (ending usual_list (record {
       variable = codes "bootcmd";
-      bounds = record { devices = 1000; steps = 1000000; failures = None; shell = Profile };
+      bounds = record { devices = 1000; steps = 1000000; failures = None; shell = Profile; room = None };
       states = 1000000;
       work = 1000000000;
       memory = 512;
@@ -47,7 +47,7 @@ few_endings : AsksFor
     (codes "endings" ∷ codes "-c" ∷ codes "f" ∷ codes "-d" ∷ codes "d" ∷ codes "-b" ∷ codes "q" ∷ codes "--devices" ∷ codes "0" ∷ codes "--steps" ∷ codes "7" ∷ codes "--states" ∷ codes "0" ∷ codes "--flow" ∷ codes "--big-endian" ∷ [])
     (ending (read_from (configured (codes "f")) (codes "d")) (record {
       variable = codes "q";
-      bounds = record { devices = 0; steps = 7; failures = None; shell = Profile };
+      bounds = record { devices = 0; steps = 7; failures = None; shell = Profile; room = None };
       states = 0;
       work = 1000000000;
       memory = 512;
@@ -61,7 +61,7 @@ few_endings = (refl, refl)
 endings_of_names : AsksFor (codes "endings" ∷ codes "bootargs" ∷ codes "-d" ∷ codes "d" ∷ codes "fdtfile" ∷ [])
     (ending usual_list (record {
       variable = codes "bootcmd";
-      bounds = record { devices = 1000; steps = 1000000; failures = None; shell = Profile };
+      bounds = record { devices = 1000; steps = 1000000; failures = None; shell = Profile; room = None };
       states = 1000000;
       work = 1000000000;
       memory = 512;
@@ -85,7 +85,7 @@ too_many_states = refl
 most_steps_in_all : AsksFor (codes "endings" ∷ codes "-d" ∷ codes "d" ∷ codes "--work" ∷ codes "4294967295" ∷ [])
     (ending usual_list (record {
       variable = codes "bootcmd";
-      bounds = record { devices = 1000; steps = 1000000; failures = None; shell = Profile };
+      bounds = record { devices = 1000; steps = 1000000; failures = None; shell = Profile; room = None };
       states = 1000000;
       work = 4294967295;
       memory = 512;
@@ -100,7 +100,7 @@ no_steps_in_all : AsksFor
     (codes "endings" ∷ codes "-d" ∷ codes "d" ∷ codes "--states" ∷ codes "7" ∷ codes "--work" ∷ codes "0" ∷ [])
     (ending usual_list (record {
       variable = codes "bootcmd";
-      bounds = record { devices = 1000; steps = 1000000; failures = None; shell = Profile };
+      bounds = record { devices = 1000; steps = 1000000; failures = None; shell = Profile; room = None };
       states = 7;
       work = 0;
       memory = 512;
@@ -114,7 +114,7 @@ no_steps_in_all = (refl, refl)
 most_memory : AsksFor (codes "endings" ∷ codes "-d" ∷ codes "d" ∷ codes "--memory" ∷ codes "4294967295" ∷ [])
     (ending usual_list (record {
       variable = codes "bootcmd";
-      bounds = record { devices = 1000; steps = 1000000; failures = None; shell = Profile };
+      bounds = record { devices = 1000; steps = 1000000; failures = None; shell = Profile; room = None };
       states = 1000000;
       work = 1000000000;
       memory = 4294967295;
@@ -129,7 +129,7 @@ no_memory : AsksFor
     (codes "endings" ∷ codes "-d" ∷ codes "d" ∷ codes "--memory" ∷ codes "0" ∷ codes "--work" ∷ codes "7" ∷ [])
     (ending usual_list (record {
       variable = codes "bootcmd";
-      bounds = record { devices = 1000; steps = 1000000; failures = None; shell = Profile };
+      bounds = record { devices = 1000; steps = 1000000; failures = None; shell = Profile; room = None };
       states = 1000000;
       work = 7;
       memory = 0;
@@ -178,7 +178,7 @@ signed_steps = (refl, refl)
 flow_in_old_2023 : AsksFor (codes "endings" ∷ codes "-d" ∷ codes "d" ∷ codes "--shell" ∷ codes "old-2023.01" ∷ codes "--flow" ∷ [])
     (ending usual_list (record {
       variable = codes "bootcmd";
-      bounds = record { devices = 1000; steps = 1000000; failures = None; shell = Old2023 };
+      bounds = record { devices = 1000; steps = 1000000; failures = None; shell = Old2023; room = None };
       states = 1000000;
       work = 1000000000;
       memory = 512;
@@ -192,7 +192,7 @@ flow_in_old_2023 = (refl, refl)
 endings_in_newest_old : AsksFor (codes "endings" ∷ codes "-d" ∷ codes "d" ∷ codes "--shell" ∷ codes "old" ∷ [])
     (ending usual_list (record {
       variable = codes "bootcmd";
-      bounds = record { devices = 1000; steps = 1000000; failures = None; shell = Old2025 };
+      bounds = record { devices = 1000; steps = 1000000; failures = None; shell = Old2025; room = None };
       states = 1000000;
       work = 1000000000;
       memory = 512;
@@ -206,7 +206,7 @@ endings_in_newest_old = (refl, refl)
 endings_in_modern_2025 : AsksFor (codes "endings" ∷ codes "-d" ∷ codes "d" ∷ codes "--shell" ∷ codes "modern-2025.01" ∷ [])
     (ending usual_list (record {
       variable = codes "bootcmd";
-      bounds = record { devices = 1000; steps = 1000000; failures = None; shell = Modern2025 };
+      bounds = record { devices = 1000; steps = 1000000; failures = None; shell = Modern2025; room = None };
       states = 1000000;
       work = 1000000000;
       memory = 512;

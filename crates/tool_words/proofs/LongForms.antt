@@ -49,7 +49,7 @@ long_script = (refl, refl)
 long_rehearsal : AsksFor (codes "rehearse" ∷ codes "--device-list" ∷ codes "d" ∷ codes "--variable" ∷ codes "q" ∷ [])
     (rehearsing usual_list (record {
       variable = codes "q";
-      bounds = record { devices = 16; steps = 10000; failures = None; shell = Profile };
+      bounds = record { devices = 16; steps = 10000; failures = None; shell = Profile; room = None };
       wanted = Listed None whole_page;
       names = [];
     }) Little)

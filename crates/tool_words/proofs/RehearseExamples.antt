@@ -14,7 +14,7 @@ rehearsal : AsksFor
     (codes "rehearse" ∷ codes "-d" ∷ codes "d.txt" ∷ codes "--limit" ∷ codes "1" ∷ codes "z" ∷ [])
     (rehearsing (read_from (configured (codes "/etc/fw_env.config")) (codes "d.txt")) (record {
       variable = codes "bootcmd";
-      bounds = record { devices = 16; steps = 10000; failures = None; shell = Profile };
+      bounds = record { devices = 16; steps = 10000; failures = None; shell = Profile; room = None };
       wanted = Listed None (page_with (Some 1));
       names = codes "z" ∷ [];
     }) Little)
@@ -36,7 +36,7 @@ bounded : AsksFor
     (codes "rehearse" ∷ codes "-d" ∷ codes "d" ∷ codes "--devices" ∷ codes "32" ∷ codes "--steps" ∷ codes "0" ∷ codes "--after" ∷ codes "." ∷ codes "--big-endian" ∷ [])
     (rehearsing usual_list (record {
       variable = codes "bootcmd";
-      bounds = record { devices = 32; steps = 0; failures = None; shell = Profile };
+      bounds = record { devices = 32; steps = 0; failures = None; shell = Profile; room = None };
       wanted = Listed (Some (codes ".")) whole_page;
       names = [];
     }) Big)
@@ -59,7 +59,7 @@ rehearsed_beside_two = (refl, refl)
 image_rehearsed : AsksFor (codes "rehearse" ∷ codes "-d" ∷ codes "d" ∷ codes "-i" ∷ codes "f" ∷ [])
     (rehearsing (read_from (whole (codes "f") None) (codes "d")) (record {
       variable = codes "bootcmd";
-      bounds = record { devices = 16; steps = 10000; failures = None; shell = Profile };
+      bounds = record { devices = 16; steps = 10000; failures = None; shell = Profile; room = None };
       wanted = Listed None whole_page;
       names = [];
     }) Little)
@@ -80,7 +80,7 @@ more_devices_than_listed = (refl, refl)
 one_run : AsksFor (codes "rehearse" ∷ codes "-d" ∷ codes "d" ∷ codes "--word" ∷ codes "01" ∷ codes "z" ∷ [])
     (rehearsing usual_list (record {
       variable = codes "bootcmd";
-      bounds = record { devices = 1000; steps = 1000000; failures = None; shell = Profile };
+      bounds = record { devices = 1000; steps = 1000000; failures = None; shell = Profile; room = None };
       wanted = Alone (codes "01");
       names = codes "z" ∷ [];
     }) Little)
@@ -96,7 +96,7 @@ word_beside_limit = (refl, refl)
 few_failures : AsksFor (codes "rehearse" ∷ codes "-d" ∷ codes "d" ∷ codes "--failures" ∷ codes "3" ∷ codes "--devices" ∷ codes "1000" ∷ [])
     (rehearsing usual_list (record {
       variable = codes "bootcmd";
-      bounds = record { devices = 1000; steps = 10000; failures = Some 3; shell = Profile };
+      bounds = record { devices = 1000; steps = 10000; failures = Some 3; shell = Profile; room = None };
       wanted = Listed None whole_page;
       names = [];
     }) Little)
@@ -147,7 +147,7 @@ signed_limit = (refl, refl)
 rehearsed_in_old_2023 : AsksFor (codes "rehearse" ∷ codes "-d" ∷ codes "d" ∷ codes "--shell" ∷ codes "old-2023.01" ∷ [])
     (rehearsing usual_list (record {
       variable = codes "bootcmd";
-      bounds = record { devices = 16; steps = 10000; failures = None; shell = Old2023 };
+      bounds = record { devices = 16; steps = 10000; failures = None; shell = Old2023; room = None };
       wanted = Listed None whole_page;
       names = [];
     }) Little)
@@ -158,7 +158,7 @@ rehearsed_in_old_2023 = (refl, refl)
 failures_in_newest_old : AsksFor (codes "rehearse" ∷ codes "-d" ∷ codes "d" ∷ codes "--shell=old" ∷ codes "--failures" ∷ codes "1" ∷ [])
     (rehearsing usual_list (record {
       variable = codes "bootcmd";
-      bounds = record { devices = 16; steps = 10000; failures = Some 1; shell = Old2025 };
+      bounds = record { devices = 16; steps = 10000; failures = Some 1; shell = Old2025; room = None };
       wanted = Listed None whole_page;
       names = [];
     }) Little)
@@ -169,7 +169,7 @@ failures_in_newest_old = (refl, refl)
 word_in_old_2025 : AsksFor (codes "rehearse" ∷ codes "-d" ∷ codes "d" ∷ codes "--word" ∷ codes "01" ∷ codes "--shell" ∷ codes "old-2025.01" ∷ [])
     (rehearsing usual_list (record {
       variable = codes "bootcmd";
-      bounds = record { devices = 1000; steps = 1000000; failures = None; shell = Old2025 };
+      bounds = record { devices = 1000; steps = 1000000; failures = None; shell = Old2025; room = None };
       wanted = Alone (codes "01");
       names = [];
     }) Little)
@@ -180,7 +180,7 @@ word_in_old_2025 = (refl, refl)
 after_in_profile : AsksFor (codes "rehearse" ∷ codes "-d" ∷ codes "d" ∷ codes "--shell" ∷ codes "profile" ∷ codes "--after" ∷ codes "0" ∷ [])
     (rehearsing usual_list (record {
       variable = codes "bootcmd";
-      bounds = record { devices = 16; steps = 10000; failures = None; shell = Profile };
+      bounds = record { devices = 16; steps = 10000; failures = None; shell = Profile; room = None };
       wanted = Listed (Some (codes "0")) whole_page;
       names = [];
     }) Little)
@@ -191,7 +191,7 @@ after_in_profile = (refl, refl)
 word_in_newest_modern : AsksFor (codes "rehearse" ∷ codes "-d" ∷ codes "d" ∷ codes "--word" ∷ codes "01" ∷ codes "--shell" ∷ codes "modern" ∷ [])
     (rehearsing usual_list (record {
       variable = codes "bootcmd";
-      bounds = record { devices = 1000; steps = 1000000; failures = None; shell = Modern2025 };
+      bounds = record { devices = 1000; steps = 1000000; failures = None; shell = Modern2025; room = None };
       wanted = Alone (codes "01");
       names = [];
     }) Little)

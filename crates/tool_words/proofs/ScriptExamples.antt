@@ -17,7 +17,7 @@ runs_script origin = record { origin = origin; device_list = codes "d"; taking =
 script_alone : AsksFor (codes "rehearse" ∷ codes "--script" ∷ codes "f" ∷ codes "-d" ∷ codes "d" ∷ [])
     (rehearsing (runs_script (no_images Little)) (record {
       variable = codes "f";
-      bounds = record { devices = 16; steps = 10000; failures = None; shell = Profile };
+      bounds = record { devices = 16; steps = 10000; failures = None; shell = Profile; room = None };
       wanted = Listed None whole_page;
       names = [];
     }) Little)
@@ -28,7 +28,7 @@ script_alone = (refl, refl)
 script_big_endian : AsksFor (codes "rehearse" ∷ codes "--script" ∷ codes "f" ∷ codes "-d" ∷ codes "d" ∷ codes "--big-endian" ∷ [])
     (rehearsing (runs_script (no_images Big)) (record {
       variable = codes "f";
-      bounds = record { devices = 16; steps = 10000; failures = None; shell = Profile };
+      bounds = record { devices = 16; steps = 10000; failures = None; shell = Profile; room = None };
       wanted = Listed None whole_page;
       names = [];
     }) Big)
@@ -39,7 +39,7 @@ script_big_endian = (refl, refl)
 script_beside_config : AsksFor (codes "rehearse" ∷ codes "--script" ∷ codes "f" ∷ codes "-c" ∷ codes "c" ∷ codes "-d" ∷ codes "d" ∷ [])
     (rehearsing (runs_script (configured (codes "c"))) (record {
       variable = codes "f";
-      bounds = record { devices = 16; steps = 10000; failures = None; shell = Profile };
+      bounds = record { devices = 16; steps = 10000; failures = None; shell = Profile; room = None };
       wanted = Listed None whole_page;
       names = [];
     }) Little)
@@ -50,7 +50,7 @@ script_beside_config = (refl, refl)
 script_beside_image : AsksFor (codes "rehearse" ∷ codes "--script" ∷ codes "f" ∷ codes "-i" ∷ codes "i" ∷ codes "-d" ∷ codes "d" ∷ [])
     (rehearsing (runs_script (whole (codes "i") None)) (record {
       variable = codes "f";
-      bounds = record { devices = 16; steps = 10000; failures = None; shell = Profile };
+      bounds = record { devices = 16; steps = 10000; failures = None; shell = Profile; room = None };
       wanted = Listed None whole_page;
       names = [];
     }) Little)
@@ -61,7 +61,7 @@ script_beside_image = (refl, refl)
 script_beside_pair : AsksFor (codes "rehearse" ∷ codes "--script" ∷ codes "f" ∷ codes "-i" ∷ codes "i" ∷ codes "--second" ∷ codes "j" ∷ codes "-d" ∷ codes "d" ∷ [])
     (rehearsing (runs_script (whole (codes "i") (Some (codes "j")))) (record {
       variable = codes "f";
-      bounds = record { devices = 16; steps = 10000; failures = None; shell = Profile };
+      bounds = record { devices = 16; steps = 10000; failures = None; shell = Profile; room = None };
       wanted = Listed None whole_page;
       names = [];
     }) Little)
@@ -72,7 +72,7 @@ script_beside_pair = (refl, refl)
 script_beside_text : AsksFor (codes "rehearse" ∷ codes "--script" ∷ codes "f" ∷ codes "--text" ∷ codes "t" ∷ codes "-d" ∷ codes "d" ∷ [])
     (rehearsing (runs_script (texts (codes "t") Little)) (record {
       variable = codes "f";
-      bounds = record { devices = 16; steps = 10000; failures = None; shell = Profile };
+      bounds = record { devices = 16; steps = 10000; failures = None; shell = Profile; room = None };
       wanted = Listed None whole_page;
       names = [];
     }) Little)
@@ -107,7 +107,7 @@ word_before_script = (refl, refl)
 script_ended : AsksFor (codes "endings" ∷ codes "--script" ∷ codes "f" ∷ codes "-d" ∷ codes "d" ∷ [])
     (ending (runs_script (no_images Little)) (record {
       variable = codes "f";
-      bounds = record { devices = 1000; steps = 1000000; failures = None; shell = Profile };
+      bounds = record { devices = 1000; steps = 1000000; failures = None; shell = Profile; room = None };
       states = 1000000;
       work = 1000000000;
       memory = 512;
@@ -121,7 +121,7 @@ script_ended = (refl, refl)
 script_of_causes : AsksFor (codes "causes" ∷ codes "--script" ∷ codes "f" ∷ codes "-d" ∷ codes "d" ∷ [])
     (causing (runs_script (no_images Little)) (record {
       variable = codes "f";
-      bounds = record { devices = 1000; steps = 1000000; failures = Some 2; shell = Profile };
+      bounds = record { devices = 1000; steps = 1000000; failures = Some 2; shell = Profile; room = None };
       check = false;
     }) Little)
 unfolding clap_on_literals ubtool

@@ -16,7 +16,7 @@ steady_list = record usual_list { taking = record { steady = true; alternative =
 steady_rehearsal : AsksFor (codes "rehearse" ∷ codes "-d" ∷ codes "d" ∷ codes "--steady" ∷ codes "z" ∷ [])
     (rehearsing steady_list (record {
       variable = codes "bootcmd";
-      bounds = record { devices = 16; steps = 10000; failures = None; shell = Profile };
+      bounds = record { devices = 16; steps = 10000; failures = None; shell = Profile; room = None };
       wanted = Listed None whole_page;
       names = codes "z" ∷ [];
     }) Little)
@@ -27,7 +27,7 @@ steady_rehearsal = (refl, refl)
 steady_word : AsksFor (codes "rehearse" ∷ codes "--steady" ∷ codes "-d" ∷ codes "d" ∷ codes "--word" ∷ codes "01" ∷ [])
     (rehearsing steady_list (record {
       variable = codes "bootcmd";
-      bounds = record { devices = 1000; steps = 1000000; failures = None; shell = Profile };
+      bounds = record { devices = 1000; steps = 1000000; failures = None; shell = Profile; room = None };
       wanted = Alone (codes "01");
       names = [];
     }) Little)
@@ -38,7 +38,7 @@ steady_word = (refl, refl)
 steady_script : AsksFor (codes "rehearse" ∷ codes "--script" ∷ codes "f" ∷ codes "--steady" ∷ codes "-d" ∷ codes "d" ∷ [])
     (rehearsing (record steady_list { origin = no_images Little; script = Some (codes "f") }) (record {
       variable = codes "f";
-      bounds = record { devices = 16; steps = 10000; failures = None; shell = Profile };
+      bounds = record { devices = 16; steps = 10000; failures = None; shell = Profile; room = None };
       wanted = Listed None whole_page;
       names = [];
     }) Little)
@@ -49,7 +49,7 @@ steady_script = (refl, refl)
 steady_endings : AsksFor (codes "endings" ∷ codes "-d" ∷ codes "d" ∷ codes "--steady" ∷ [])
     (ending steady_list (record {
       variable = codes "bootcmd";
-      bounds = record { devices = 1000; steps = 1000000; failures = None; shell = Profile };
+      bounds = record { devices = 1000; steps = 1000000; failures = None; shell = Profile; room = None };
       states = 1000000;
       work = 1000000000;
       memory = 512;
@@ -63,7 +63,7 @@ steady_endings = (refl, refl)
 steady_check : AsksFor (codes "causes" ∷ codes "-d" ∷ codes "d" ∷ codes "--check" ∷ codes "--steady" ∷ codes "--failures" ∷ codes "1" ∷ [])
     (causing steady_list (record {
       variable = codes "bootcmd";
-      bounds = record { devices = 1000; steps = 1000000; failures = Some 1; shell = Profile };
+      bounds = record { devices = 1000; steps = 1000000; failures = Some 1; shell = Profile; room = None };
       check = true;
     }) Little)
 unfolding clap_on_literals ubtool
@@ -93,7 +93,7 @@ third_list = record usual_list { taking = record { steady = false; alternative =
 third_given : AsksFor (codes "rehearse" ∷ codes "-d" ∷ codes "d" ∷ codes "--given" ∷ codes "3" ∷ [])
     (rehearsing third_list (record {
       variable = codes "bootcmd";
-      bounds = record { devices = 16; steps = 10000; failures = None; shell = Profile };
+      bounds = record { devices = 16; steps = 10000; failures = None; shell = Profile; room = None };
       wanted = Listed None whole_page;
       names = [];
     }) Little)
@@ -104,7 +104,7 @@ third_given = (refl, refl)
 last_given : AsksFor (codes "causes" ∷ codes "--given=64" ∷ codes "-d" ∷ codes "d" ∷ codes "--steady" ∷ [])
     (causing (record usual_list { taking = record { steady = true; alternative = Some 64 } }) (record {
       variable = codes "bootcmd";
-      bounds = record { devices = 1000; steps = 1000000; failures = Some 2; shell = Profile };
+      bounds = record { devices = 1000; steps = 1000000; failures = Some 2; shell = Profile; room = None };
       check = false;
     }) Little)
 unfolding clap_on_literals ubtool

@@ -72,7 +72,7 @@ text_twice = refl
 text_rehearsed : AsksFor (codes "rehearse" ∷ codes "--text" ∷ codes "f" ∷ codes "-d" ∷ codes "d" ∷ [])
     (rehearsing (read_from (texts (codes "f") Little) (codes "d")) (record {
       variable = codes "bootcmd";
-      bounds = record { devices = 16; steps = 10000; failures = None; shell = Profile };
+      bounds = record { devices = 16; steps = 10000; failures = None; shell = Profile; room = None };
       wanted = Listed None whole_page;
       names = [];
     }) Little)
@@ -83,7 +83,7 @@ text_rehearsed = (refl, refl)
 text_ended : AsksFor (codes "endings" ∷ codes "--text" ∷ codes "f" ∷ codes "-d" ∷ codes "d" ∷ [])
     (ending (read_from (texts (codes "f") Little) (codes "d")) (record {
       variable = codes "bootcmd";
-      bounds = record { devices = 1000; steps = 1000000; failures = None; shell = Profile };
+      bounds = record { devices = 1000; steps = 1000000; failures = None; shell = Profile; room = None };
       states = 1000000;
       work = 1000000000;
       memory = 512;
