@@ -1,7 +1,7 @@
 -- Worked examples, computed: what is kept from one boot to the next, the numbers of boots, and their lines.
-use Rattle.std.proofs.Common.{◌≡◌, ℕ, Bool, true, false, List, [], ◌∷◌, Option, Some, None, codes, refl}
+use Rattle.std.proofs.Common.{◌≡◌, ℕ, Bool, true, false, List, [], ◌∷◌, Option, Some, None, codes, map, refl}
 use Rattle.std.specs.Fmt.{digits}
-use Rattle.rehearse_boots.specs.Boots.{Asked, Kept, each_once, first_of, found_by, has_room, is_followed, has_booted, kept_after, next_of, number_of, saved_after, saved_at, told_apart, Expected, Started}
+use Rattle.rehearse_boots.specs.Boots.{Asked, Kept, bounds_in, each_once, first_of, found_by, has_room, is_followed, has_booted, kept_after, next_of, number_of, room_kept, saved_after, saved_at, told_apart, Expected, Started}
 use Rattle.rehearse_boots.specs.Expecting.{is_clean, is_expected, starts_with}
 use Rattle.rehearse_boots.specs.BootLines.{changed_lines, way_lines}
 use Rattle.device_list.specs.DeviceList.{Devices}
@@ -35,7 +35,7 @@ abbrev asked : Option ℕ → (failures : Option ℕ) → Asked
 asked room failures = record {
   environment = (codes "left", codes "2") ∷ [];
   name = codes "bootcmd";
-  bounds = record { devices = 3; steps = 20; failures = None; shell = Profile };
+  bounds = record { devices = 3; steps = 20; failures = None; shell = Profile; room = None };
   failures = failures;
   names = codes "x" ∷ [];
   kept = codes "left" ∷ codes "note" ∷ [];
@@ -63,6 +63,17 @@ just_room = refl
 
 no_room : has_room (Some 7) (found_by (asked None None) (codes "2" ∷ [] ∷ [])) ≡ false
 no_room = refl
+
+-- the variables that are kept have what the others leave: here there are none
+room_of_all : map (λ room. room_kept (asked room None)) (Some 8 ∷ Some 1 ∷ Some 0 ∷ None ∷ []) ≡ Some 7 ∷ Some 0 ∷ Some 0 ∷ None ∷ []
+room_of_all = refl
+
+-- and here `left=2` is not kept
+room_beside : map (λ room. room_kept (record (asked room None) { kept = codes "note" ∷ [] })) (Some 20 ∷ Some 8 ∷ Some 7 ∷ []) ≡ Some 12 ∷ Some 0 ∷ Some 0 ∷ []
+room_beside = refl
+
+in_its_room : bounds_in (asked (Some 8) None) ≡ record { devices = 3; steps = 20; failures = None; shell = Profile; room = Some 7 }
+in_its_room = refl
 
 -- an ending of one run, which leaves x and has saved this, with so many failures
 abbrev ending : (copies : List (Option Text)) → (failures : ℕ) → Row

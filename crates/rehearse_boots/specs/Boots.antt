@@ -1,7 +1,7 @@
 -- Boots of a board, one after another: each starts with what was saved last. It follows a boot whatever became of this one, since
 -- after any ending the power may go, or a watchdog bite. Ours; that a boot starts with the environment that was saved is
 -- U-Boot's (doc/usage/environment).
-use Rattle.std.specs.Prelude.{◌≡◌, ℕ, ◌+◌, ◌<◌, nat_lt, Bool, true, false, List, [], ◌∷◌, ◌++◌, length, map, filter, drop, fold, Option, Some, None, option_map, unwrap_or, Contains, Result, Ok, Err, if◌then◌else◌}
+use Rattle.std.specs.Prelude.{◌≡◌, ℕ, ◌+◌, ◌-◌, ◌<◌, nat_lt, Bool, true, false, List, [], ◌∷◌, ◌++◌, length, map, filter, drop, fold, Option, Some, None, option_map, unwrap_or, Contains, Result, Ok, Err, if◌then◌else◌}
 use Rattle.std.specs.List.{AllByRecursion, flat_map, list_any, position_or_len, zip}
 use Rattle.std.specs.Option.{option_to_list}
 use Rattle.std.specs.Cmp.Lexicographic.{pointwise}
@@ -18,7 +18,7 @@ use Rattle.rehearse_machine.specs.Tasks.{task_found}
 use Rattle.rehearse_rules.specs.Execution.{Ending, Finished}
 use Rattle.rehearse_rules.specs.Runs.{Task, is_at_most}
 use Rattle.rehearse_states.specs.Endings.{Row, endings}
-use Rattle.rehearse_terms.specs.Bounds.{BoundsShown}
+use Rattle.rehearse_terms.specs.Bounds.{BoundsShown, with_room}
 use Rattle.rehearse_terms.specs.State.{Text}
 
 -- ---- what is kept from one boot to the next
@@ -107,6 +107,19 @@ found_by asked kept = with_kept asked.environment asked.kept kept
 
 -- ---- a boot
 
+-- an environment without these variables
+abbrev pub without_kept : List Pair → (names : List Text) → List Pair
+without_kept environment names = with_changes environment (map (λ name. (name, [])) names)
+
+-- how many bytes an image has for the variables that are kept: those that the others leave, and the byte that ends all
+abbrev pub room_kept : Asked → Option ℕ
+room_kept asked =
+    option_map (λ room. room - (length (flat_map entry (without_kept asked.environment asked.kept)) + 1)) asked.room
+
+-- the bounds of its run, in which a call that saves more fails
+abbrev pub bounds_in : Asked → BoundsShown
+bounds_in asked = with_room (room_kept asked) asked.bounds
+
 -- what is saved, if the image has room for it; else what was saved before
 abbrev pub saved_if : (asked : Asked) → (before after : Kept) → Kept
 saved_if asked before after = if has_room asked.room (found_by asked after) then after else before
@@ -127,7 +140,7 @@ boot_with asked kept s task = record { task = task; saved = saved_at asked kept 
 abbrev pub rehearsed : Asked → Kept → Started → Option Boot
 rehearsed asked kept s =
     option_map (boot_with asked kept s)
-    (task_found s.environment s.devices (record { name = asked.name; given = s.text }) asked.bounds)
+    (task_found s.environment s.devices (record { name = asked.name; given = s.text }) (bounds_in asked))
 
 abbrev pub rehearsed_by : Asked → Kept → Result Started Fault → Option Boot
 rehearsed_by asked kept (Ok s) = rehearsed asked kept s

@@ -7,7 +7,7 @@ use Rattle.board_start.specs.declared.board_error.BoardError.TheVariants as boar
 use Rattle.envimage.specs.Data.{Pair}
 use Rattle.envtools.specs.Scripting.{scripted}
 use Rattle.envtools.specs.declared.script.ScriptError.TheVariants as script
-use Rattle.rehearse_boots.specs.Boots.{Asked, Boot, IsReached, Kept, Next, StartOf, Started, boot_of, both, first_of, found_by, found_from, is_followed, next_after, number_of, rehearsed, same_kept, told_apart, ways_of, with_boot}
+use Rattle.rehearse_boots.specs.Boots.{Asked, Boot, IsReached, Kept, Next, StartOf, Started, boot_of, bounds_in, both, first_of, found_by, found_from, is_followed, next_after, number_of, rehearsed, same_kept, told_apart, ways_of, with_boot}
 use Rattle.rehearse_boots.specs.BootLines.{way_text}
 use Rattle.rehearse_boots.specs.Expecting.{is_clean}
 use Rattle.rehearse_boots.specs.BootsShown.{asked_of, started_shown}
@@ -37,9 +37,11 @@ use Rattle.text.specs.TextsShown.{bytes_of_words}
 abbrev pub asked_in : Telling → Asked
 asked_in t = asked_of t.env.now t.ask.now
 
--- the names and what the first boot finds are those of what is asked
+-- the names, what the first boot finds, and the bounds are those of what is asked
 abbrev pub IsRight : Telling → Type 0
-IsRight t = (map (λ n. n.now) t.apart.now ≡ told_apart (asked_in t)) × (bytes_of_words t.first.now ≡ first_of (asked_in t))
+IsRight t =
+    (map (λ n. n.now) t.apart.now ≡ told_apart (asked_in t)) × ((bytes_of_words t.first.now ≡ first_of (asked_in t))
+    × (t.bounds ≡ bounds_in (asked_in t)))
 
 abbrev pub graph_shown : List (Vec rt_way.Way Global) → List (List Way)
 graph_shown graph = map (λ ways. map way_shown ways.items) graph

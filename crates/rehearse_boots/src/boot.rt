@@ -19,6 +19,7 @@ use bootstore_state::StoreError;
 use device_list::Devices;
 use envtools::Env;
 use rehearse_states::{Node, Row};
+use rehearse_terms::RunBounds;
 use std::alloc::Global;
 
 /// What the endings of each boot are found by.
@@ -33,6 +34,8 @@ pub(crate) struct Telling<'a> {
     pub(crate) apart: &'a [&'a [u8]],
     /// What the first boot finds saved.
     pub(crate) first: &'a [Vec<u8>],
+    /// The bounds of a run, in which a call fails that saves more than an image has room for.
+    pub(crate) bounds: RunBounds,
 }
 
 /// A boot whose endings are looked at.

@@ -101,7 +101,7 @@ fn add_endings<S: Store>(
         &started.env,
         &started.devices,
         source,
-        telling.ask.bounds,
+        telling.bounds,
     ) else {
         return Err(BootsError::NoSuchVariable);
     };

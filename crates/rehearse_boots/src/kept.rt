@@ -1,7 +1,8 @@
 //! What is kept from one boot to the next: the values of variables, an empty one of a variable that is not set.
-ghost use Rattle.std.specs.Prelude.{◌≡◌, ◌++◌, [], map, unwrap_or, IfOk, OnOk};
-ghost use Rattle.std.specs.List.{zip};
+ghost use Rattle.std.specs.Prelude.{◌≡◌, ◌++◌, ◌+◌, ◌-◌, [], length, map, option_map, unwrap_or, IfOk, OnOk};
+ghost use Rattle.std.specs.List.{flat_map, zip};
 ghost use Rattle.envtools.specs.Environment.{value_of};
+ghost use Rattle.envimage.specs.Data.{entry};
 ghost use Rattle.envimage.specs.Entries.{pair_at};
 ghost use Rattle.rehearse_boots.specs.Boots as spec;
 ghost use Rattle.rehearse_states.specs.RowsShown.{value_shown};
@@ -117,4 +118,33 @@ pub(crate) fn has_room(room: Option<usize>, env: &Env) -> bool
         None => true,
         Some(room) => env.entries_len() < room,
     }
+}
+
+/// An environment without these variables. Errors: memory ran out.
+fn without_kept(alloc: Global, env: &Env, names: &[&[u8]]) -> Result<Env, AllocError>
+    ensures { IfOk result (λ others. others ≡ spec.without_kept env.now (map (λ n. n.now) names.now)) }
+{
+    let mut changes: Vec<(&[u8], &[u8])> = Vec::new(alloc);
+    for name in names {
+        changes.push((*name, &[]))?;
+    }
+    env.changed_by(&changes)
+}
+
+/// How many bytes an image has for these variables: those that the others leave, and the byte that ends all; without a
+/// number, it has room for any. Errors: memory ran out.
+pub(crate) fn room_kept(
+    alloc: Global,
+    env: &Env,
+    names: &[&[u8]],
+    room: Option<usize>,
+) -> Result<Option<usize>, AllocError>
+    ensures { IfOk result (λ left. left
+        ≡ option_map (λ r. r - (length (flat_map entry (spec.without_kept env.now (map (λ n. n.now) names.now))) + 1)) room) }
+{
+    let Some(room) = room else {
+        return Ok(None);
+    };
+    let others = without_kept(alloc, env, names)?;
+    Ok(Some(room.saturating_sub(others.entries_len()).saturating_sub(1)))
 }

@@ -11,7 +11,7 @@ use crate::ask::{Board, BootsAsk};
 use crate::boot::Telling;
 use crate::boots_error::BootsError;
 use crate::exploring::explore;
-use crate::kept::values_kept;
+use crate::kept::{room_kept, values_kept};
 use bootstore_state::Store;
 use device_list::saved_name;
 use envtools::{Env, ScriptError, apply_script};
@@ -77,12 +77,14 @@ fn answer_of<S: Store, B: Board>(
     let first = values_kept(alloc, env, ask.kept)?;
     let copies = saved_names(alloc, ask.kept)?;
     let apart = with_copies(alloc, ask.names, &copies)?;
+    let room = room_kept(alloc, env, ask.kept, ask.room)?;
     let telling = Telling {
         alloc,
         env,
         ask,
         apart: &apart,
         first: &first,
+        bounds: ask.bounds.with_room(room),
     };
     let explored = explore::<S, B>(&telling, board)?;
     Ok(answered(&telling, &explored)?)
@@ -90,9 +92,10 @@ fn answer_of<S: Store, B: Board>(
 
 /// Writes how the boots of a board follow one another, or whether each leads to an ending that is expected. The first finds
 /// this environment saved. A boot is followed, after each of its endings, by the one that finds saved what its start or the
-/// run has saved last, or what was saved before, if neither has saved, or nothing that the image has room for. After an ending
-/// that boots, it is followed also by the one that finds the changes that are given, which the system may make. Boots
-/// that find the same saved are one; they are numbered in the order in which they are found.
+/// run has saved last, or what was saved before, if neither has saved. What the image has no room for is not saved: a call of
+/// a run that would save it fails, without an outcome. After an ending that boots, a boot is followed also by the one that
+/// finds the changes that are given, which the system may make. Boots that find the same saved are one; they are numbered in
+/// the order in which they are found.
 ///
 /// If no ending is expected, writes of each boot a line, what it finds saved otherwise than the first one, and its endings,
 /// each with the number of the boot that follows, the values that are asked for, and what fails; then how many there are.

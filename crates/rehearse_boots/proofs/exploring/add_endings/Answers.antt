@@ -1,5 +1,5 @@
 use Rattle.std.proofs.Common.{rules, ◌≡◌, ◌≢◌, ◌∙◌, [], ap, sym, subst, List, map, Option, Some, option_map}
-use Rattle.rehearse_boots.specs.Boots.{boot_with, rehearsed, told_apart}
+use Rattle.rehearse_boots.specs.Boots.{boot_with, bounds_in, rehearsed, told_apart}
 use Rattle.rehearse_boots.specs.BootsShown.{started_shown}
 use Rattle.rehearse_boots.specs.Exploring.{AddsStarted, AddsWays, BreaksAt, IsUntoldStarted, asked_in, next_of_all}
 use Rattle.rehearse_boots.specs.Ways.{way_shown}
@@ -10,6 +10,7 @@ use Rattle.rehearse_rules.specs.Runs.{Task}
 use Rattle.rehearse_states.specs.Drawing.{failing_on, nodes_shown}
 use Rattle.rehearse_states.specs.Endings.{Row, endings}
 use Rattle.rehearse_states.specs.RowsShown.{rows_shown, saturated}
+use Rattle.rehearse_terms.specs.Bounds.{BoundsShown}
 use Rattle.rehearse_terms.specs.State.{Text}
 use Rattle.text.specs.TextsShown.{bytes_of_words, option_bytes, option_items}
 use Rattle.rehearse_boots.proofs.FoundLemmas.{next_of_saturated, started_adds}
@@ -26,7 +27,9 @@ returns-in-Ok-clause-ok g c =
     let nodes = nodes_shown c.in-Ok.endings.nodes in
     let rows = rows_shown c.in-Ok.endings.rows in
     let given : option_bytes c.as_deref.result ≡ option_items c.args.started.now.text = search rules in
-    let set : task_found s.environment s.devices (record { name = asked.name; given = s.text }) asked.bounds ≡ Some task = sym (c.in-Some.ensures.found ∙ ap (λ (t : Option Text). task_found s.environment s.devices (record { name = asked.name; given = t }) asked.bounds) given) in
+    let set : task_found s.environment s.devices (record { name = asked.name; given = s.text }) (bounds_in asked) ≡ Some task =
+    ap (λ (b : BoundsShown). task_found s.environment s.devices (record { name = asked.name; given = s.text }) b) (sym c.requires.1.1)
+    ∙ sym (c.in-Some.ensures.found ∙ ap (λ (t : Option Text). task_found s.environment s.devices (record { name = asked.name; given = t }) c.args.telling.now.bounds) given) in
     let found : rehearsed asked kept s ≡ Some b = ap (option_map (boot_with asked kept s)) set in
     let saved : bytes_of_words c.deref.result.now ≡ b.saved = ap bytes_of_words c.deref.ensures.value ∙ c.in_ok-saved.ensures in
     if_ok c.ways_of.result (λ ways. AddsWays asked (bytes_of_words c.deref.result.now) (failing_on s.devices nodes) rows c.args.found.now.boots c.ways_of.new.found.boots [] (map way_shown ways.items))
@@ -44,7 +47,9 @@ returns-in-Ok-clause-err g c =
     let b = boot_with asked kept s task in
     let rows = rows_shown c.in-Ok.endings.rows in
     let given : option_bytes c.as_deref.result ≡ option_items c.args.started.now.text = search rules in
-    let set : task_found s.environment s.devices (record { name = asked.name; given = s.text }) asked.bounds ≡ Some task = sym (c.in-Some.ensures.found ∙ ap (λ (t : Option Text). task_found s.environment s.devices (record { name = asked.name; given = t }) asked.bounds) given) in
+    let set : task_found s.environment s.devices (record { name = asked.name; given = s.text }) (bounds_in asked) ≡ Some task =
+    ap (λ (b : BoundsShown). task_found s.environment s.devices (record { name = asked.name; given = s.text }) b) (sym c.requires.1.1)
+    ∙ sym (c.in-Some.ensures.found ∙ ap (λ (t : Option Text). task_found s.environment s.devices (record { name = asked.name; given = t }) c.args.telling.now.bounds) given) in
     let found : rehearsed asked kept s ≡ Some b = ap (option_map (boot_with asked kept s)) set in
     let saved : bytes_of_words c.deref.result.now ≡ b.saved = ap bytes_of_words c.deref.ensures.value ∙ c.in_ok-saved.ensures in
     let all : List Row = endings (told_apart asked) task in
@@ -64,7 +69,9 @@ returns-clause-err g c =
     let task = task_in c.in-Some.rehearsal in
     let b = boot_with asked kept s task in
     let given : option_bytes c.as_deref.result ≡ option_items c.args.started.now.text = search rules in
-    let set : task_found s.environment s.devices (record { name = asked.name; given = s.text }) asked.bounds ≡ Some task = sym (c.in-Some.ensures.found ∙ ap (λ (t : Option Text). task_found s.environment s.devices (record { name = asked.name; given = t }) asked.bounds) given) in
+    let set : task_found s.environment s.devices (record { name = asked.name; given = s.text }) (bounds_in asked) ≡ Some task =
+    ap (λ (b : BoundsShown). task_found s.environment s.devices (record { name = asked.name; given = s.text }) b) (sym c.requires.1.1)
+    ∙ sym (c.in-Some.ensures.found ∙ ap (λ (t : Option Text). task_found s.environment s.devices (record { name = asked.name; given = t }) c.args.telling.now.bounds) given) in
     let found : rehearsed asked kept s ≡ Some b = ap (option_map (boot_with asked kept s)) set in
     subst (λ (e : BootsError). IsUntoldStarted asked kept ask.states ask.work ask.memory ask.boots s c.args.found.now.boots c.args.found.now.boots e) (sym c.untold.ensures)
     (untold_endings asked kept ask.states ask.work ask.memory ask.boots s b c.args.found.now.boots c.args.found.now.boots found (map (λ n. n.now) c.args.telling.now.apart.now) c.in-Err.error c.requires.0 c.in-Err.ensures.err c.in-Err.ensures.costly c.in-Err.ensures.large)
