@@ -469,7 +469,7 @@ fn boots_what(
         memory: limits.memory,
         boots: numbers.boots,
         failures: numbers.failures,
-        names: with_expected(names, &expected)?,
+        names: with_expected(alloc, names, &expected)?,
         changes: text_of(alloc, matches, "then")?,
         expected,
     })
