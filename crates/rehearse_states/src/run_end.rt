@@ -68,11 +68,15 @@ fn same_value(a: &Option<Vec<u8>>, b: &Option<Vec<u8>>) -> bool
 fn same_values(a: &[Option<Vec<u8>>], b: &[Option<Vec<u8>>]) -> bool
     ensures { result ≡ values_eq (map value_shown a.now) (map value_shown b.now) }
 {
-    match (a.split_first(), b.split_first()) {
-        (None, None) => true,
-        (Some((x, xs)), Some((y, ys))) => same_value(x, y) && same_values(xs, ys),
-        _ => false,
+    if a.len() != b.len() {
+        return false;
     }
+    for (x, y) in a.iter().zip(b) {
+        if !same_value(x, y) {
+            return false;
+        }
+    }
+    true
 }
 
 /// Whether both end alike, and leave the same values.

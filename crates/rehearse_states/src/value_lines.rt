@@ -86,11 +86,8 @@ pub(crate) fn put_values(
     ensures { OnOk result (text.new.items ≡ text.old.items
         ++ value_lines (map (λ n. n.now) names.now) (map value_shown values.now)) }
 {
-    match (names.split_first(), values.split_first()) {
-        (Some((name, names)), Some((value, values))) => {
-            put_value(text, name, value)?;
-            put_values(text, names, values)
-        }
-        _ => Ok(()),
+    for (name, value) in names.iter().zip(values) {
+        put_value(text, name, value)?;
     }
+    Ok(())
 }
