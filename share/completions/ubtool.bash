@@ -52,7 +52,7 @@ _ubtool_value() {
         -l | --lock) value='folder' ;;
         -b | --variable) value='name' ;;
         --files | --given | --devices | --steps | --word | --failures | --after | --limit | --states | --work | --memory | --boots | --expect | --within | --expect-var | --size | --fill) value='other' ;;
-        --shell) value='listed profile old old-2023.01 old-2025.01 modern modern-2025.01' ;;
+        --shell) value='listed profile old-2023.01 old-2025.01 old modern-2025.01 modern' ;;
         *) value='' ;;
     esac
 }

@@ -46,13 +46,13 @@ digits_read ds (Err e) h = go (is_small ds) refl
 unsigned_text : (text : Text) → (slice_index text 0 == 43) ≡ false → without_leading_plus text ≡ text
 unsigned_text text plain = rw plain refl
 
--- what `from_str` reads at a `u32`, of a text that begins with no plus
+-- what `from_str` reads at a `u32`, of a text that starts with no plus
 pub number_read : {E : Type 0} (text : Text) (r : Result ℕ E) → (slice_index text 0 == 43) ≡ false → ParsesUnsigned 32 10 text r → result_ok r ≡ number_of text
 number_read {E} text r plain h =
     let P : Text → Type 0 = λ ds. Reads {E = E} ds r in
     digits_read text r (subst P (unsigned_text text plain) h)
 
--- a text that does not begin with a plus
+-- a text that does not start with a plus
 pub plus_false : (text : Text) → false ≡ starts_with (λ (x y : ℕ). x == y) text (43 ∷ []) → (slice_index text 0 == 43) ≡ false
 plus_false [] e = refl
 plus_false (c ∷ cs) e = elim (cases_Bool (c == 43)) [

@@ -15,7 +15,7 @@ use Rattle.clap.proofs.FaultLemmas.{stopped_fault}
 use Rattle.clap.proofs.WalkLemmas.{walk_stopped}
 use Rattle.tool_words.specs.CommandLine.{boots, causes, endings, inspect, making, named, printenv, rehearse, setenv, subcommands, ubtool, ubtool_for, with_one}
 
--- where the walk stands after a first word that names a subcommand, and these words behind it
+-- where the walk is after a first word that names a subcommand, and these words after it
 abbrev stopped_at : Text → List Text → Walk
 stopped_at name rest = record (walk_from nothing_held) { stopped = Some (name, rest) }
 

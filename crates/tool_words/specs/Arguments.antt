@@ -1,4 +1,4 @@
--- The arguments of a command by rows: what `clap` is told of each.
+-- The arguments of a command by rows: what `clap` knows of each.
 use Rattle.std.specs.Prelude.{◌≡◌, ℕ, List, [], ◌∷◌, Some, map, pos}
 use Rattle.std.specs.List.{fold}
 use Rattle.std.specs.Option.{option_map_or}

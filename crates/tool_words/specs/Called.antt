@@ -39,7 +39,7 @@ is_tool Ubtool = false
 is_tool FwPrintenv = true
 is_tool FwSetenv = true
 
--- the flag that a word alone stands for
+-- the flag that a word alone means
 abbrev pub flag_meant : Text → Option Text
 flag_meant word =
     if bytes_eq word (codes "help") then Some (codes "--help")

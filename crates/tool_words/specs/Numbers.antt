@@ -17,7 +17,7 @@ abbrev pub number_in : (base : ℕ) → List ℕ → Option ℕ
 number_in base text =
     if (length text == 0) || not (are_digits_in base text) then None else value_of base text
 
--- hexadecimal digits stand behind `0x`
+-- hexadecimal digits are after `0x`
 abbrev pub any_number : List ℕ → Option ℕ
 any_number text =
     if starts_with nat_eq text (codes "0x") then number_in 16 (drop 2 text) else number_in 10 text

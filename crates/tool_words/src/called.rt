@@ -72,7 +72,7 @@ pub fn called_as(args: &[String]) -> CalledAs
     }
 }
 
-/// The flag that a word alone stands for: `help` and `version` are `--help` and `--version`.
+/// The flag that a word alone means: `help` and `version` are `--help` and `--version`.
 fn flag_meant(word: &[u8]) -> Option<&'static str>
     ensures { option_copied result ≡ flag_meant word.now }
 {

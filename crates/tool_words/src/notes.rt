@@ -2,15 +2,15 @@
 
 pub(crate) const UBTOOL_NOTES: &str = "\
 Without words, one image is read from standard input, and all its variables
-are printed. Words that begin with - come after --, as in 'printenv -- -x'.
+are printed. Words that start with - come after --, as in 'printenv -- -x'.
 
-The status is 0 when all is done, 1 when something is refused, a variable is
-missing or a check finds something, and 2 when the words are wrong.
+The status is 0 if all is done, 1 if something is refused, a variable is missing
+or a check finds something, and 2 if the command line is invalid.
 
 Example:
   ubtool rehearse -d devices.txt
 
-'ubtool help COMMAND' tells more of a command, and ubtool(1) tells all.
+See 'ubtool help COMMAND' and the manual, ubtool(1).
 ";
 
 pub(crate) const PRINTENV_NOTES: &str = "\
@@ -37,7 +37,7 @@ Example:
 pub(crate) const SETENV_NOTES: &str = "\
 The VALUEs are joined by one space. Of a redundant pair, the copy that is not
 current is written, and becomes current. A line of a script is 'NAME VALUE', or
-'NAME' alone to delete the variable; lines that begin with # are skipped.
+'NAME' alone to delete the variable; lines that start with # are skipped.
 
 Example:
   ubtool setenv bootdelay 3
@@ -47,7 +47,7 @@ Example:
 pub(crate) const FW_SETENV_NOTES: &str = "\
 The VALUEs are joined by one space. Of a redundant pair, the copy that is not
 current is written, and becomes current. A line of a script is 'NAME VALUE', or
-'NAME' alone to delete the variable; lines that begin with # are skipped. The
+'NAME' alone to delete the variable; lines that start with # are skipped. The
 script of '-s -' is standard input, where the last line needs its newline.
 
 Example:
@@ -60,9 +60,9 @@ listed once, success before failure. A run's word has a digit for each answer: 0
 for a success, 1 for a failure. A run that meets a bound is listed as cut. The
 image is never written.
 
-A line of the device list is a NAME, a command that succeeds or fails, or says
-more of it, as 'final bootm' or 'dhcp serverip=10.0.0.1'. The manual, ubtool(1),
-tells what a line may say.
+A line of the device list is the NAME of a command, which succeeds or fails, or
+says more of it, as in 'final bootm' or 'dhcp serverip=10.0.0.1'. The manual,
+ubtool(1), has all kinds of lines.
 
 Example:
   ubtool rehearse -d devices.txt
@@ -88,12 +88,12 @@ Example:
 pub(crate) const BOOTS_NOTES: &str = "\
 A boot starts with what a run before it has saved, by a call that 'saves' in the
 device list. Each boot has a line 'boot NUMBER', lines 'var NAME=VALUE' of what
-differs from boot 1, and for each ending a line as this, with 'fails WORDS':
+differs from boot 1, and for each ending this line, and lines 'fails WORDS':
   ends COUNT first WORD fewest FAILURES WORD ENDING next NUMBER
 The last line is 'all BOOTS'. With --then, the line of an ending that booted has
-also 'then NUMBER'. With --expect, only the boots on the way to the first one
-from which nothing leads to ENDING are written, with 'lost NUMBER' last; status
-1 then. The image is never written.
+also 'then NUMBER'. With --expect, the status is 1 if a boot does not lead to
+ENDING: then only the boots on the way to the first such one are written, and
+'lost NUMBER'. The image is never written.
 
 Example:
   ubtool boots -d devices.txt BOOT_ORDER
@@ -122,8 +122,9 @@ Example:
 pub(crate) const INSPECT_NOTES: &str = "\
 The report says of each copy where it is, whether its CRC is right, its flag,
 and whether it counts; of the data how many bytes are used, or their first
-fault. If no copy counts, it says as what the bytes would be right. The status
-is 1 if no copy counts or the data have a fault. Nothing is written.
+fault. If no copy counts, it says as what kind of image the bytes would be
+valid. The status is 1 if no copy counts or the data have a fault. Nothing is
+written.
 
 Example:
   ubtool inspect -i env.img

@@ -31,7 +31,7 @@ fn number_in(base: u64, text: &[u8]) -> Option<u32>
     }
 }
 
-/// The number below 2^32 that a text writes: in decimal digits, or in hexadecimal ones behind `0x`.
+/// The number below 2^32 that a text writes: in decimal digits, or in hexadecimal ones after `0x`.
 pub(crate) fn any_number(text: &str) -> Option<u32>
     ensures { result ≡ any_number text.now }
 {

@@ -197,8 +197,8 @@ const SHELL: Argument<'static> = Argument {
     alias: None,
     required: false,
     value: "NAME",
-    help: "Run the scripts as this shell does: profile, old, old-2023.01, old-2025.01, modern or \
-        modern-2025.01 [default: profile]",
+    help: "Run the scripts as this shell does: profile, old-2023.01, old-2025.01, old, modern-2025.01 \
+        or modern [default: profile]",
 };
 
 const WORD: Argument<'static> = Argument {
@@ -228,7 +228,7 @@ const AFTER: Argument<'static> = Argument {
     alias: None,
     required: false,
     value: "WORD",
-    help: "Begin after the run of WORD, . for the empty one [default: the first]",
+    help: "Start after the run of WORD, . for the empty one [default: the first]",
 };
 
 const LIMIT: Argument<'static> = Argument {
