@@ -57,7 +57,7 @@ a warning, a command and a note
   $ printf 'ls\n' >one.list
   $ text 'if ls; then if ls; then load;fi fi; run $a; load' -d one.list
   bootcmd: ok
-  bootcmd:1:33: warning: U-Boot's old shell wants ; before this word
+  bootcmd:1:33: warning: U-Boot's old shell needs ; before this word
   if ls; then if ls; then load;fi fi; run $a; load
                                   ^
   bootcmd:1:25: the device list lacks load
@@ -135,7 +135,7 @@ one that is no script, before another name and before all, and one that the list
   r:1:1: the device list lacks boot
   q: ok
 
-behind a script
+after a script
   $ printf 'load' >boot.cmd
   $ hushcheck --script boot.cmd -c first.config -d first.list
   boot.cmd: ok

@@ -45,7 +45,7 @@ an empty name
   \e: not set
   [1]
 
-a name that begins with -
+a name that starts with -
   $ hushcheck -c env.config -- -x
   -x: not set
   [1]

@@ -27,7 +27,7 @@ a fault in ./boot.scr
        ^
   [1]
 
-The text ends before its first NUL byte. What is behind the data of an image does not count.
+The text ends before its first NUL byte. What is after the data of an image does not count.
 
 two.cmd, and no environment
   $ printf 'run a b\0fi' >two.cmd

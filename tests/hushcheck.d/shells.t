@@ -43,7 +43,7 @@ a text that is not followed, by old
   bootcmd:1:1: warning: a rehearsal by this shell does not run this text
   ls
   ^
-  bootcmd:2:32: warning: U-Boot's old shell wants ; before this word
+  bootcmd:2:32: warning: U-Boot's old shell needs ; before this word
   if ls; then if ls; then ls; fi fi
                                  ^
 
@@ -76,7 +76,7 @@ a text that no shell reads, by old
   bootcmd:1:1: warning: a rehearsal by this shell does not run this text
   fi ls
   ^
-  bootcmd:1:4: warning: U-Boot's old shell wants ; before this word
+  bootcmd:1:4: warning: U-Boot's old shell needs ; before this word
   fi ls
      ^
   [1]

@@ -27,7 +27,7 @@ the end of the text
                ^
   [1]
 
-the end of the text, behind a newline
+the end of the text, after a newline
   $ text 'if true; then\n'
   bootcmd:2:1: unexpected end of the text
   
@@ -150,27 +150,27 @@ a block that is not empty
                              ^
   [1]
 
-fi behind fi, and no block
+fi after fi, and no block
   $ text 'if ls; fi fi'
   bootcmd:1:8: unexpected token
   if ls; fi fi
          ^
-  bootcmd:1:11: warning: U-Boot's old shell wants ; before this word
+  bootcmd:1:11: warning: U-Boot's old shell needs ; before this word
   if ls; fi fi
             ^
   [1]
 
-a command behind fi
+a command after fi
   $ text 'if ls; then ls; fi ls'
   bootcmd:1:20: unexpected token
   if ls; then ls; fi ls
                      ^
-  bootcmd:1:20: warning: U-Boot's old shell wants ; before this word
+  bootcmd:1:20: warning: U-Boot's old shell needs ; before this word
   if ls; then ls; fi ls
                      ^
   [1]
 
-a warning in front of the fault, and one behind it
+a warning in front of the fault, and one after it
   $ text 'exit; & exit'
   bootcmd:1:7: a single &
   exit; & exit

@@ -68,7 +68,7 @@ a name of run, and a command
   run $x; $y a
           ^
 
-the status, a byte behind $, and a variable that is asked for by name alone
+the status, a byte after $, and a variable that is asked for by name alone
   $ text 'echo $? ${?} $ \$x '"'"'$y'"'"'; env exists z'
   bootcmd: ok
   bootcmd:1:9: warning: ${?} is empty in U-Boot's old shell

@@ -2,24 +2,24 @@
 
 Warnings.
 
-fi behind fi
+fi after fi
   $ text 'if true; then if true; then ls; fi fi'
   bootcmd: ok
-  bootcmd:1:36: warning: U-Boot's old shell wants ; before this word
+  bootcmd:1:36: warning: U-Boot's old shell needs ; before this word
   if true; then if true; then ls; fi fi
                                      ^
 
-done behind done, on line 2
+done after done, on line 2
   $ text 'ls\nwhile ls; do until ls; do ls; done done'
   bootcmd: ok
-  bootcmd:2:36: warning: U-Boot's old shell wants ; before this word
+  bootcmd:2:36: warning: U-Boot's old shell needs ; before this word
   while ls; do until ls; do ls; done done
                                      ^
 
-then behind fi
+then after fi
   $ text 'if if ls; then ls; fi then ls; fi'
   bootcmd: ok
-  bootcmd:1:23: warning: U-Boot's old shell wants ; before this word
+  bootcmd:1:23: warning: U-Boot's old shell needs ; before this word
   if if ls; then ls; fi then ls; fi
                         ^
 
@@ -87,7 +87,7 @@ the variable of a for
   bootcmd:1:5: warning: U-Boot's old shell refuses a reserved word here
   for fi in a; do ls; done; for _a in b; do ls; done
       ^
-  bootcmd:1:31: warning: no variable of U-Boot's old shell has a name that begins with _
+  bootcmd:1:31: warning: no variable of U-Boot's old shell has a name that starts with _
   for fi in a; do ls; done; for _a in b; do ls; done
                                 ^
 
@@ -111,13 +111,13 @@ no value
 an underscore
   $ text '_a=1; ls "$_a" ${_b} $c_'
   bootcmd: ok
-  bootcmd:1:1: warning: no variable of U-Boot's old shell has a name that begins with _
+  bootcmd:1:1: warning: no variable of U-Boot's old shell has a name that starts with _
   _a=1; ls "$_a" ${_b} $c_
   ^
-  bootcmd:1:10: warning: no variable of U-Boot's old shell has a name that begins with _
+  bootcmd:1:10: warning: no variable of U-Boot's old shell has a name that starts with _
   _a=1; ls "$_a" ${_b} $c_
            ^
-  bootcmd:1:16: warning: no variable of U-Boot's old shell has a name that begins with _
+  bootcmd:1:16: warning: no variable of U-Boot's old shell has a name that starts with _
   _a=1; ls "$_a" ${_b} $c_
                  ^
   bootcmd:1:16: warning: nothing sets _b
@@ -245,7 +245,7 @@ a parenthesis
 a backslash at the end of a line, in a word
   $ text 'ls a\\\nb'
   bootcmd: ok
-  bootcmd:1:4: warning: U-Boot's old shell keeps the line's end behind this backslash
+  bootcmd:1:4: warning: U-Boot's old shell keeps the line's end after this backslash
   ls a\
      ^
 

@@ -62,7 +62,7 @@ run_by_old : run_by_text (Some Old2025) (codes "if a; then else run b; fi") ≡ 
 unfolding whole script command simple keyword next behind sees expect joined joined_all and_or lists lists_all block arm arms arms_all if_command body_of loop_command for_command name name_next expect_in in_next all_words separators separator_next closes_next op_next refusal missing at_last word_next assignment_next assignments reserved_of reserved assignment name_in name_of is_in_word pieces step bare dollar braced inside front word_front old_tree_of fields atoms
 run_by_old = refl
 
--- ---- what is told
+-- ---- what is reported
 
 told_none : told_by None ((0, Warns MixedList) ∷ (1, Warns Exit) ∷ []) ≡ (0, Warns MixedList) ∷ (1, Warns Exit) ∷ []
 told_none = refl

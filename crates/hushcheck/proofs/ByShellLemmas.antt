@@ -1,4 +1,4 @@
--- What is told of a shell, as contracts see it.
+-- What is said of a shell, as contracts see it.
 use Rattle.std.proofs.Common.{◌≡◌, Bool, true, false, List, [], ◌∷◌, Option, refl, ap, ◌∙◌, if◌then◌else◌}
 use Rattle.std.specs.Prelude.{filter}
 use Rattle.hushcheck.specs.Remarks.{all_found, found_at, remark}

@@ -22,7 +22,7 @@ use Rattle.hushcheck.specs.Report.{BeginsTurns, TakesTurns, is_fine, lines_of}
 use Rattle.hushcheck.specs.Unset.{Used, used_by}
 use Rattle.hushcheck.proofs.OrderLemmas.{with_names-append}
 
--- at a place or behind it
+-- at a place or after it
 past : (a b : ℕ) → nat_lt a b ≡ false → b ≤ a
 past a b none = elim (cases_lt a b) [ inl less ↦ absurd (let some = lt-ltb a b less in cc) | inr more ↦ more ]
 
@@ -503,7 +503,7 @@ module _ (rules : Rules) (env : List Pair) (before : List Used) (asked called : 
         told_is = ap (λ ts. ts ++ lines_of rules env n) s.told_is ∙ sym (one_more (lines_of rules env) s.turns n);
       }
 
--- before the first turn nothing is told
+-- before the first turn nothing is reported
 pub begins_first : (rules : Rules) (env : List Pair) (asked called : List Text) → BeginsTurns rules env asked called []
 begins_first rules env asked called = record {
   turns = [];

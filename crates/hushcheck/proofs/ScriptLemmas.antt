@@ -1,4 +1,4 @@
--- A check of a script, and of the names behind it.
+-- A check of a script, and of the names after it.
 use Rattle.std.proofs.Common.{◌≡◌, Bool, ◌&&◌, List, [], ◌++◌, refl, sym, subst, inl, Result, Ok, Err}
 use Rattle.std.proofs.lemmas.List.{append-nil}
 use Rattle.envimage.specs.Data.{Pair}
@@ -15,7 +15,7 @@ use Rattle.hushcheck.specs.declared.check_error.CheckError.{CheckError}
 use Rattle.hushcheck.proofs.CheckLemmas.{begins_first}
 use Rattle.hushcheck.proofs.TellingLemmas.{stops-after, stops-as}
 
--- no script is behind the names that are asked for
+-- no script is after the names that are asked for
 pub none-behind : (rules : Rules) (env : List Pair) (used : List Used) (asked : List Text) (so_far : Bool) (answer : Result Bool CheckError) (old new : Sink) → so_far ≡ all_found env asked → used ≡ []
     → WritesNames rules env used (asked ++ []) [] so_far answer old new → WritesCheck rules env asked answer old new
 none-behind rules env used asked so_far answer old new is none h =
@@ -30,7 +30,7 @@ module _ (rules : Rules) (env : List Pair) (name text : Text) (asked : List Text
       let lines = lines_of_text rules name text in
       (lines ++ [], record { rest = []; told_is = refl; begins = inl (begins_first rules env (behind_script rules text asked) (files_by_text rules text)) }, stops-as old new lines (lines ++ []) error (sym (append-nil lines)) h)
 
-  -- the script's lines were written, and then those of the names behind it
+  -- the script's lines were written, and then those of the names after it
   pub script-behind : (so_far : Bool) (run called : List Text) (used : List Used) (old mid new : Sink) (answer : Result Bool CheckError) → so_far ≡ (all_found env asked && is_fine_text rules text) → run ≡ run_by_text rules.shell text → called ≡ files_by_text rules text → used ≡ used_by_text rules name text
       → Wrote old mid (lines_of_text rules name text) → WritesNames rules env used (asked ++ run) called so_far answer mid new → WritesScript rules env name text asked answer old new
   script-behind so_far run called used old mid new answer is runs calls uses wrote h =

@@ -162,7 +162,7 @@ quiet : told_in (codes "echo $a $c $i; for i in 1; do c=$i; done") ≡ []
 unfolding whole script command simple keyword next behind sees expect joined joined_all and_or lists lists_all block arm arms arms_all if_command body_of loop_command for_command name name_next expect_in in_next all_words separators separator_next closes_next op_next refusal missing at_last word_next assignment_next assignments reserved_of reserved assignment name_in name_of is_in_word pieces step bare dollar braced inside front word_front digits
 quiet = refl
 
--- in a word that is assigned, in quotes and beside other bytes; `c` is told once
+-- in a word that is assigned, in quotes and beside other bytes; `c` is reported once
 told : told_in (codes "x=$c\ntest \"a${c}$d\"") ≡ codes "b:1:1: warning: nothing sets c\nx=$c\n^\nb:2:6: warning: nothing sets d\ntest \"a${c}$d\"\n     ^\n"
 unfolding whole script command simple keyword next behind sees expect joined joined_all and_or lists lists_all block arm arms arms_all if_command body_of loop_command for_command name name_next expect_in in_next all_words separators separator_next closes_next op_next refusal missing at_last word_next assignment_next assignments reserved_of reserved assignment name_in name_of is_in_word pieces step bare dollar braced inside front word_front digits
 told = refl

@@ -6,7 +6,7 @@ use Rattle.hushcheck.specs.Calls.{Warns}
 use Rattle.hushcheck.specs.Warnings.{blocks_of, warnings_of}
 use Rattle.hushcheck.specs.declared.warning.Warning.TheVariants.{Apostrophe, BackslashAtLineEnd, BackslashInDouble, BackslashInSingle, EmptyAssignment, EmptyWord, Exit, FileTest, LooseOperand, ManyWords, MixedList, OddName, OperatorAtLineEnd, OptionOfSetenv, Parenthesis, PartlyQuoted, ReservedName, SpecialParameter, StatusInBraces, StraightBehind, UnderscoreName, WordOfFor}
 
--- the first `||` behind `&&`, and the `&&` behind it; lists of one operator; two lists
+-- the first `||` after `&&`, and the `&&` after it; lists of one operator; two lists
 mixed : warnings_of (codes "a && b || c && d; e && f && g; h || i; j && k") ≡ (7, Warns MixedList) ∷ (12, Warns MixedList) ∷ []
 unfolding step bare dollar braced inside front word_front
 mixed = refl
@@ -16,7 +16,7 @@ other_lists : warnings_of (codes "a && b\nc || d; if e || f; then g && h; else i
 unfolding step bare dollar braced inside front word_front
 other_lists = refl
 
--- the list goes on behind a compound command that is in it, and the list inside is one of its own
+-- the list goes on after a compound command that is in it, and the list inside is one of its own
 around_if : warnings_of (codes "a && if b && c; then d; fi || e") ≡ (27, Warns MixedList) ∷ []
 unfolding step bare dollar braced inside front word_front
 around_if = refl
@@ -26,7 +26,7 @@ around_for : warnings_of (codes "a || for i in b; do while c; do d; done; done &
 unfolding step bare dollar braced inside front word_front
 around_for = refl
 
--- the operator at the end of a line; empty lines and a comment behind it change nothing
+-- the operator at the end of a line; empty lines and a comment after it change nothing
 line_end : warnings_of (codes "a && # b\n\n\nc || d") ≡ (2, Warns OperatorAtLineEnd) ∷ (13, Warns MixedList) ∷ []
 unfolding step bare dollar braced inside front word_front
 line_end = refl
@@ -36,7 +36,7 @@ no_line_end : warnings_of (codes "a && b\n\nc;\nd") ≡ []
 unfolding step bare dollar braced inside front word_front
 no_line_end = refl
 
--- a blank, a variable in quotes, both empty words and a blank behind a backslash; not a variable without quotes, and not quotes alone
+-- a blank, a variable in quotes, both empty words and a blank after a backslash; not a variable without quotes, and not quotes alone
 for_words : warnings_of (codes "for i in \"a b\" \"$x\" '' \"\" a\\ b $y \"z\" '$x'; do b; done") ≡ (9, Warns WordOfFor) ∷ (15, Warns WordOfFor) ∷ (20, Warns WordOfFor) ∷ (23, Warns WordOfFor) ∷ (26, Warns WordOfFor) ∷ []
 unfolding step bare dollar braced inside front word_front
 for_words = refl
@@ -46,12 +46,12 @@ for_rest : warnings_of (codes "for i in a; do b \"c d\"; done; for \"$x\"") ≡ 
 unfolding step bare dollar braced inside front word_front
 for_rest = refl
 
--- a reserved word as the variable, and one that begins with `_`
+-- a reserved word as the variable, and one that starts with `_`
 for_names : warnings_of (codes "for fi in a; do b; done; for _x in a; do b; done; for x in fi; do b; done") ≡ (4, Warns ReservedName) ∷ (29, Warns UnderscoreName) ∷ []
 unfolding step bare dollar braced inside front word_front
 for_names = refl
 
--- words straight behind compound commands
+-- words straight after compound commands
 straight : warnings_of (codes "if a; then if b; then c; fi fi; for i in a; do b; done done") ≡ (28, Warns StraightBehind) ∷ (55, Warns StraightBehind) ∷ []
 unfolding step bare dollar braced inside front word_front
 straight = refl
@@ -61,7 +61,7 @@ not_straight : warnings_of (codes "if a; then if b; then c; fi; fi && d; echo fi
 unfolding step bare dollar braced inside front word_front
 not_straight = refl
 
--- `exit` as a command, behind assignments too, and not as a word of another
+-- `exit` as a command, after assignments too, and not as a word of another
 exit : warnings_of (codes "exit; x=1 exit 2; echo exit") ≡ (0, Warns Exit) ∷ (10, Warns Exit) ∷ []
 unfolding step bare dollar braced inside front word_front
 exit = refl
@@ -71,7 +71,7 @@ empty_assignments : warnings_of (codes "x=; y='' z=\"\"; echo x=; a==; =; 1=") �
 unfolding step bare dollar braced inside front word_front
 empty_assignments = refl
 
--- a variable in or outside quotes, in braces, and an assignment; not in single quotes or behind a backslash
+-- a variable in or outside quotes, in braces, and an assignment; not in single quotes or after a backslash
 underscores : warnings_of (codes "echo $_a \"$_b\" ${_c} '$_d' \\$_e $a_; _x=1") ≡ (5, Warns UnderscoreName) ∷ (9, Warns UnderscoreName) ∷ (15, Warns UnderscoreName) ∷ (37, Warns UnderscoreName) ∷ []
 unfolding step bare dollar braced inside front word_front
 underscores = refl
@@ -96,12 +96,12 @@ operands : warnings_of (codes "test $x = a; test \"$x\" = a -a $? = 0; echo $x; 
 unfolding step bare dollar braced inside front word_front
 operands = refl
 
--- `-e` that is compared, and one behind a comparison
+-- `-e` that is compared, and one after a comparison
 compared : warnings_of (codes "test a = -e; test a != -e; test = -e; test a = -e -o -e b") ≡ (34, Warns FileTest) ∷ (53, Warns FileTest) ∷ []
 unfolding step bare dollar braced inside front word_front
 compared = refl
 
--- `-e` that is not the first word of `test`, and a word too many behind it; not `-e` with three words
+-- `-e` that is not the first word of `test`, and a word too many after it; not `-e` with three words
 file_tests : warnings_of (codes "test ! -e mmc 0 a; test -e mmc 0 a; test -e mmc 0 a -a b; echo a -e") ≡ (7, Warns FileTest) ∷ (52, Warns FileTest) ∷ []
 unfolding step bare dollar braced inside front word_front
 file_tests = refl
@@ -126,7 +126,7 @@ braces : warnings_of (codes "echo ${?} ${a.b} ${1a} ${a1} $?") ≡ (5, Warns Sta
 unfolding step bare dollar braced inside front word_front
 braces = refl
 
--- a digit and a sign behind `$`, in double quotes too; not behind a backslash and not in single quotes
+-- a digit and a sign after `$`, in double quotes too; not after a backslash and not in single quotes
 parameters : warnings_of (codes "echo $1 \"$@\" $# $* $- \\$1 '$1' $$") ≡ (5, Warns SpecialParameter) ∷ (8, Warns SpecialParameter) ∷ (13, Warns SpecialParameter) ∷ (16, Warns SpecialParameter) ∷ (19, Warns SpecialParameter) ∷ []
 unfolding step bare dollar braced inside front word_front
 parameters = refl
@@ -151,7 +151,7 @@ open_quote : warnings_of (codes "exit; echo \"exit; exit") ≡ (0, Warns Exit) �
 unfolding step bare dollar braced inside front word_front
 open_quote = refl
 
--- the words behind blocks and conditions without a command
+-- the words after blocks and conditions without a command
 empty_blocks : blocks_of (codes "if a; then # b\nelse; fi; while; do c; done; until a; do; done") ≡ 15 ∷ 21 ∷ 32 ∷ 57 ∷ []
 unfolding step bare dollar braced inside front word_front
 empty_blocks = refl

@@ -1,7 +1,7 @@
 -- What a call sets and deletes, and of which files the text may run after it, as far as its words say it. That `setenv`,
 -- `setexpr` and `env` set and delete variables, and how their words name these, is U-Boot's (doc/usage/cmd/env,
 -- doc/usage/cmd/setexpr). What other commands set and delete, and what runs after them, is what the device list says. That a
--- word with a variable names nothing that is known, and that `-a` stands for all names, is ours.
+-- word with a variable names nothing that is known, and that `-a` means all names, is ours.
 use Rattle.std.specs.Prelude.{◌-◌, ◌||◌, ◌++◌, ◌∷◌, Bool, true, false, List, [], length, map, slice_get, Option, Some, None, codes, if◌then◌else◌}
 use Rattle.std.specs.List.{fold}
 use Rattle.text.specs.Bytes as ascii
@@ -63,7 +63,7 @@ set_by_words s words = set_to_value s (behind_options words)
 abbrev pub takes_names : Text → Bool
 takes_names word = same word (codes "import") || (same word (codes "default") || same word (codes "load"))
 
--- an option `-a` stands for all names
+-- an option `-a` means all names
 abbrev pub stands_for_all : Option Text → Bool
 stands_for_all None = false
 stands_for_all (Some word) = same word (codes "-a")
@@ -93,7 +93,7 @@ set_by_name s command words =
 
 -- ---- the settings of a device list
 
--- a variable as it stands in a pattern: a list may write a pattern word so
+-- a variable as it is in a pattern: a list may write a pattern word so
 abbrev pub variable_part : (name : Text) → Text
 variable_part name = codes "${" ++ (name ++ codes "}")
 

@@ -19,7 +19,7 @@ place_in text at = record {
 
 -- ---- how much of a line is shown: at most 80 bytes, and all of a line that has no more
 
--- The byte and those behind it, up to the next newline: as many as leave room for the bytes before it, but for no more
+-- The byte and those after it, up to the next newline: as many as leave room for the bytes before it, but for no more
 -- than 40 of these.
 abbrev pub rest_shown : (text : List ℕ) → (at : ℕ) → List ℕ
 rest_shown text at = before_first is_newline (take (80 - min (length (line_front text at)) 40) (drop at text))

@@ -11,7 +11,7 @@ abbrev pub place_form : Text → Place → Text
 place_form name place =
     word_form name ++ codes ":" ++ decimal place.line ++ codes ":" ++ decimal place.column ++ codes ": "
 
--- the bytes before a byte, it and those behind it, and a mark under it
+-- the bytes before a byte, it and those after it, and a mark under it
 abbrev pub marked : (front rest : Text) → Text
 marked front rest = shown_line (front ++ rest) ++ codes "\n" ++ mark_line front ++ codes "\n"
 

@@ -31,7 +31,7 @@ byte_of (AssignmentBeforeCommand at) = at
 byte_of (TooDeep at) = at
 byte_of Memory = 0
 
--- what is wrong there, in a text of this many bytes, in which these words are behind blocks without a command
+-- what is wrong there, in a text of this many bytes, in which these words are after blocks without a command
 abbrev pub what_of : (size : ℕ) → (blocks : List ℕ) → SyntaxError → Text
 what_of size blocks (OpenQuote at) = codes "the quote is not closed"
 what_of size blocks (LoneBackslash at) = codes "the backslash is the last byte"
@@ -132,7 +132,7 @@ pub record ChecksNames (rules : Rules) (env : List Pair) (before : List Used) (a
 abbrev pub Checks : Rules → List Pair → (asked : List Text) → (told : Text) → (sound : Bool) → Type 0
 Checks rules env asked told sound = ChecksNames rules env [] asked [] (all_found env asked) told sound
 
--- What is told of a check that does not end: the lines of the variables and files whose turn has come.
+-- What is said of a check that does not end: the lines of the variables and files whose turn has come.
 pub record BeginsTurns (rules : Rules) (env : List Pair) (asked called : List Text) (told : Text) : Type 0 where
   pub turns : List Turn
   pub are_turns : AreTurns rules env asked called turns
@@ -152,7 +152,7 @@ BeginsCheck rules env asked told = BeginsNames rules env [] asked [] told
 abbrev pub behind_script : Rules → (text : Text) → (asked : List Text) → List Text
 behind_script rules text asked = asked ++ run_by_text rules.shell text
 
--- The lines of the script under its name, then those of the names behind it and of the files that it leads to; and whether all
+-- The lines of the script under its name, then those of the names after it and of the files that it leads to; and whether all
 -- is well: each name that is asked for is set, and each text is fine, that of the script too.
 pub record ChecksScript (rules : Rules) (env : List Pair) (name text : Text) (asked : List Text) (told : Text) (sound : Bool) :
     Type 0 where
@@ -161,7 +161,7 @@ pub record ChecksScript (rules : Rules) (env : List Pair) (name text : Text) (as
   pub checks : ChecksNames rules env (used_by_text rules name text) (behind_script rules text asked)
       (files_by_text rules text) (all_found env asked && is_fine_text rules text) rest sound
 
--- what is told if that does not end
+-- what is reported if that does not end
 pub record BeginsScript (rules : Rules) (env : List Pair) (name text : Text) (asked : List Text) (told : Text) : Type 0 where
   pub rest : Text
   pub told_is : told ≡ lines_of_text rules name text ++ rest

@@ -1,4 +1,4 @@
--- Where a token stands among the commands of a text, as far as U-Boot's shells read something otherwise there. Ours. It
+-- Where a token is among the commands of a text, as far as U-Boot's shells read something otherwise there. Ours. It
 -- is found in a text that is no script too, token by token, from the bytes of each word.
 use Rattle.std.specs.Prelude.{ℕ, ◌+◌, ◌==◌, ◌&&◌, ◌||◌, Bool, true, false, nat_le, List, drop, codes, if◌then◌else◌}
 use Rattle.std.specs.List.{prefix_len}
@@ -58,7 +58,7 @@ is_reserved Closes = true
 is_reserved Assigns = false
 is_reserved Command = false
 
--- ---- where a word stands, behind another
+-- ---- where a word is, after another
 
 abbrev pub name_of : List ℕ → Name
 name_of text = if same text (codes "test") then Test else (if same text (codes "setenv") then SetEnv else Other)
@@ -71,7 +71,7 @@ behind_first start text = Called (name_of text) 1
 abbrev pub compares : List ℕ → Bool
 compares text = same text (codes "=") || same text (codes "!=")
 
--- `-e` as the first word of `test`, and the word behind a comparison
+-- `-e` as the first word of `test`, and the word after a comparison
 abbrev pub name_behind : Name → ℕ → List ℕ → Name
 name_behind Test words text =
     if (words == 1) && same text (codes "-e") then TestFile

@@ -1,4 +1,4 @@
--- What stands in the bytes of a word, as a lexer passes it: its quotes, its backslashes and its variables. Ours; the
+-- What is in the bytes of a word, as a lexer passes it: its quotes, its backslashes and its variables. Ours; the
 -- quotes, backslashes and variables are those of the hush shell of the U-Boot documentation, doc/usage/cmdline.
 use Rattle.std.specs.Prelude.{◌==◌, ◌||◌, ℕ, Bool, true, false, List, if◌then◌else◌}
 use Rattle.std.specs.List.{fold}
@@ -24,19 +24,19 @@ asterisk = 42
 abbrev pub at_sign : ℕ
 at_sign = 64
 
--- a digit, `@`, `*`, `-` or `#`, which behind a `$` is a variable of other shells
+-- a digit, `@`, `*`, `-` or `#`, which after a `$` is a variable of other shells
 abbrev pub is_special : ℕ → Bool
 is_special b = is_between ascii.digit_zero ascii.digit_nine b || b == at_sign || b == asterisk || b == ascii.minus
     || b == ascii.hash
 
--- ---- in which quotes a byte stands, and what the bytes before it have begun
+-- ---- in which quotes a byte is, and what the bytes before it have begun
 
 abbrev pub quotes_behind : Quotes → ℕ → Quotes
 quotes_behind Outside b = if b == ascii.quote then Single else (if b == ascii.double_quote then Double else Outside)
 quotes_behind Single b = if b == ascii.quote then Outside else Single
 quotes_behind Double b = if b == ascii.double_quote then Outside else Double
 
--- a quote behind a backslash opens and closes nothing
+-- a quote after a backslash opens and closes nothing
 abbrev pub quotes_after : Quotes → Begun → ℕ → Quotes
 quotes_after quotes Backslash b = quotes
 quotes_after quotes begun b = quotes_behind quotes b
@@ -79,21 +79,21 @@ abbrev pub kept_sight : Quotes → ℕ → Sight
 kept_sight Double b = if is_escapable b then DoubleBackslash else Plain
 kept_sight quotes b = Plain
 
--- behind a backslash
+-- after a backslash
 abbrev pub escaped_sight : Quotes → ℕ → Sight
 escaped_sight quotes b = if b == ascii.newline then LineEnd else (if b == ascii.space then Space else kept_sight quotes b)
 
--- behind a `$`
+-- after a `$`
 abbrev pub dollar_sight : Quotes → ℕ → Sight
 dollar_sight quotes b = if begins_name b then name_sight quotes b
     else (if is_special b then Special else plain_sight quotes b)
 
--- behind `${`
+-- after `${`
 abbrev pub brace_sight : Quotes → ℕ → Sight
 brace_sight quotes b = if b == ascii.question_mark then BracedStatus
     else (if begins_name b then name_sight quotes b else OddName)
 
--- in braces, behind a first byte
+-- in braces, after a first byte
 abbrev pub inner_sight : ℕ → Sight
 inner_sight b = if is_name_byte b || b == ascii.close_brace then Plain else OddName
 

@@ -43,7 +43,7 @@ WritesNames rules env before asked called so_far (Err error) old new =
 abbrev pub WritesCheck : Rules → List Pair → (asked : List Text) → Result Bool CheckError → Sink → Sink → Type 0
 WritesCheck rules env asked answer old new = WritesNames rules env [] asked [] (all_found env asked) answer old new
 
--- the same of a script, and of the names behind it
+-- the same of a script, and of the names after it
 abbrev pub WritesScript : Rules → List Pair → (name text : Text) → (asked : List Text) → Result Bool CheckError → Sink → Sink →
     Type 0
 WritesScript rules env name text asked (Ok sound) old new =

@@ -25,7 +25,7 @@ use Rattle.hushcheck.specs.declared.seat.Seat.{Seat}
 use Rattle.hushcheck.specs.declared.warning.Warning.{Warning}
 use Rattle.hushcheck.specs.declared.warning.Warning.TheVariants.{StraightBehind, MixedList, OperatorAtLineEnd, WordOfFor, ReservedName, Exit, EmptyAssignment, UnderscoreName, BackslashInSingle, BackslashInDouble, Apostrophe, PartlyQuoted, LooseOperand, FileTest, EmptyWord, OptionOfSetenv, ManyWords, StatusInBraces, OddName, SpecialParameter, Parenthesis, BackslashAtLineEnd}
 
--- ---- what was found, and where the next token stands
+-- ---- what was found, and where the next token is
 
 pub record Watch : Type 0 where
   -- the operators of the lists that the compound commands around a token are in
@@ -44,9 +44,9 @@ when false at warning found = found
 abbrev pub is_empty_word : Text → Bool
 is_empty_word text = same text (codes "''") || same text (codes "\"\"")
 
--- ---- the words: by what stands in them, and by where they stand
+-- ---- the words: by what is in them, and by where they are
 
--- what stands in any word
+-- what is in any word
 abbrev pub by_sights : Seen → ℕ → List (ℕ × Remark) → List (ℕ × Remark)
 by_sights seen at found =
     when seen.line_end at BackslashAtLineEnd
@@ -79,12 +79,12 @@ is_file_test Test words text = nat_le 2 words && same text (codes "-e")
 is_file_test TestFile words text = words == 5
 is_file_test name words text = false
 
--- a first word of `setenv` that is empty or begins with `-`
+-- a first word of `setenv` that is empty or starts with `-`
 abbrev pub is_option : Name → (words : ℕ) → Text → Bool
 is_option SetEnv words text = (words == 1) && (starts_with ascii.minus text || is_empty_word text)
 is_option name words text = false
 
--- a word of a call behind so many others
+-- a word of a call after so many others
 abbrev pub by_operand : Name → (words : ℕ) → Seen → Text → ℕ → List (ℕ × Remark) → List (ℕ × Remark)
 by_operand name words seen text at found =
     when (words == 16) at ManyWords
@@ -117,7 +117,7 @@ by_stand Items seen text at found = when (is_read_otherwise seen text) at WordOf
 abbrev pub by_word : Stand → Text → ℕ → List (ℕ × Remark) → List (ℕ × Remark)
 by_word stand text at found = by_sights (seen_in text) at (by_stand stand (seen_in text) text at found)
 
--- ---- where the next token stands
+-- ---- where the next token is
 
 abbrev pub seated : Stand → Link → Seat
 seated stand link = record { stand = stand; link = link; operator = None }
@@ -152,7 +152,7 @@ behind_start GoesOn text w = begins_block w
 behind_start Closes text w = closed w
 behind_start start text w = stands (behind_first start text) w
 
--- behind assignments no word is reserved
+-- after assignments no word is reserved
 abbrev pub behind_assigned : Start → Text → Watch → Watch
 behind_assigned Assigns text w = stands Assigned w
 behind_assigned start text w = stands (behind_first Command text) w

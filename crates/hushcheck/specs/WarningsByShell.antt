@@ -27,7 +27,7 @@ stops_modern SpecialParameter = true
 stops_modern Parenthesis = true
 stops_modern warning = false
 
--- All warnings are told if no shell is named. Of a shell those are told of which a rehearsal stops there, and ubtool's own
+-- All warnings are reported if no shell is named. Of a shell those are reported of which a rehearsal stops there, and ubtool's own
 -- reading has none.
 abbrev pub tells : Option Shell → Warning → Bool
 tells None warning = true
@@ -54,12 +54,12 @@ is_uboot (Some Modern2025) = true
 abbrev pub is_unread : Option Shell → (text : Text) → Bool
 is_unread shell text = is_uboot shell && not (is_some (uboot_script shell text))
 
--- it is told at the first byte
+-- it is reported at the first byte
 abbrev pub unread : Bool → List (ℕ × Remark)
 unread true = (0, Warns NotFollowedText) ∷ []
 unread false = []
 
--- those of the warnings that are told of a shell
+-- those of the warnings that are reported of a shell
 abbrev pub told_by : Option Shell → List (ℕ × Remark) → List (ℕ × Remark)
 told_by shell found = filter (λ f. tells_remark shell f.1) found
 

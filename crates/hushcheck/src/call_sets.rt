@@ -102,7 +102,7 @@ fn is_deletion(side: &RightSide) -> bool
     matches!(side, RightSide::Deleted)
 }
 
-/// Whether a word of `env delete` stands for all names.
+/// Whether a word of `env delete` means all names.
 fn stands_for_all(word: &Option<Vec<u8>>) -> bool
     ensures { result ≡ spec.stands_for_all (shown.written word.now) }
 {

@@ -32,7 +32,7 @@ fn is_among(places: &[usize], at: usize) -> bool
     places.iter().any(|place| *place == at)
 }
 
-/// What is unexpected at a place, in a text of this many bytes, in which these words are behind
+/// What is unexpected at a place, in a text of this many bytes, in which these words are after
 /// blocks without a command.
 fn unexpected(size: usize, blocks: &[usize], at: usize) -> &'static [u8]
     ensures { result.now ≡ spec.what_of size blocks.now (Unexpected at) }
@@ -46,7 +46,7 @@ fn unexpected(size: usize, blocks: &[usize], at: usize) -> &'static [u8]
     }
 }
 
-/// What is wrong there, in a text of this many bytes, in which these words are behind blocks
+/// What is wrong there, in a text of this many bytes, in which these words are after blocks
 /// without a command.
 pub(crate) fn what_of(size: usize, blocks: &[usize], error: SyntaxError) -> &'static [u8]
     ensures { result.now ≡ spec.what_of size blocks.now error }

@@ -10,7 +10,7 @@ use memchr::{memchr, memrchr};
 /// How many bytes of a line are shown at most.
 const SHOWN_MAX: usize = 80;
 
-/// How many of them are before the byte, if the line goes on for as many behind it.
+/// How many of them are before the byte, if the line goes on for as many after it.
 const FRONT_MAX: usize = 40;
 
 /// Where a byte is in a text. Lines and columns count from 1, and columns count bytes.
@@ -38,7 +38,7 @@ pub(crate) struct Point {
 pub(crate) struct Shown<'a> {
     /// The bytes before it.
     pub(crate) front: &'a [u8],
-    /// The byte and those behind it.
+    /// The byte and those after it.
     pub(crate) rest: &'a [u8],
 }
 

@@ -1,4 +1,4 @@
-//! Where a token stands among the commands of a text.
+//! Where a token is among the commands of a text.
 ghost use Rattle.std.specs.Prelude.{◌≡◌, ◌≤◌, length};
 ghost use Rattle.std.specs.List.{prefix_len};
 ghost use Rattle.hushlang.specs.ByteClasses as bytes;
@@ -30,7 +30,7 @@ pub(crate) enum Name {
     Test,
     /// `test -e`.
     TestFile,
-    /// `test`, straight behind `=` or `!=`.
+    /// `test`, straight after `=` or `!=`.
     TestText,
     /// `setenv`.
     SetEnv,
@@ -38,16 +38,16 @@ pub(crate) enum Name {
     Other,
 }
 
-/// Where a word stands.
+/// Where a word is.
 #[derive(Clone, Copy)]
 pub(crate) enum Stand {
     /// A command may start here, the first one of a block.
     Fresh,
     /// A command may start here.
     Begins,
-    /// Behind assignments.
+    /// After assignments.
     Assigned,
-    /// Among the words of a call, behind so many of them, but for no more than 17.
+    /// Among the words of a call, after so many of them, but for no more than 17.
     Called(Name, usize),
     /// The variable of a `for`.
     Variable,
@@ -55,7 +55,7 @@ pub(crate) enum Stand {
     In,
     /// Among the words of a `for`.
     Items,
-    /// Straight behind a compound command.
+    /// Straight after a compound command.
     Behind,
 }
 
@@ -70,14 +70,14 @@ pub(crate) enum Link {
     Or,
 }
 
-/// Where a token stands.
+/// Where a token is.
 #[derive(Clone, Copy)]
 pub(crate) struct Seat {
-    /// Where it stands if it is a word.
+    /// Where it is if it is a word.
     pub(crate) stand: Stand,
     /// The operators of its list.
     pub(crate) link: Link,
-    /// Where the operator starts that the token is behind, if it is.
+    /// Where the operator starts that the token is after, if it is.
     pub(crate) operator: Option<usize>,
 }
 
@@ -113,7 +113,7 @@ fn name_len(text: &[u8]) -> usize
     text.iter().take_while(|b| is_name_byte(**b)).count()
 }
 
-/// What is behind the bytes of a name.
+/// What is after the bytes of a name.
 fn behind_name(text: &[u8]) -> &[u8]
     ensures { result.now ≡ spec.behind_name text.now }
 {
@@ -203,7 +203,7 @@ fn name_of(text: &[u8]) -> Name
     }
 }
 
-/// Where the words stand behind a word that may start a command and is no reserved word.
+/// Where the words are after a word that may start a command and is no reserved word.
 pub(crate) fn behind_first(start: Start, text: &[u8]) -> Stand
     ensures { result ≡ spec.behind_first start text.now }
 {
@@ -213,14 +213,14 @@ pub(crate) fn behind_first(start: Start, text: &[u8]) -> Stand
     }
 }
 
-/// Whether a word of `test` compares texts, so that the word behind it is one.
+/// Whether a word of `test` compares texts, so that the word after it is one.
 fn compares(text: &[u8]) -> bool
     ensures { result ≡ spec.compares text.now }
 {
     text == b"=".as_slice() || text == b"!=".as_slice()
 }
 
-/// The command, behind a word of its call.
+/// The command, after a word of its call.
 fn name_behind(name: Name, words: usize, text: &[u8]) -> Name
     ensures { result ≡ spec.name_behind name words text.now }
 {
@@ -239,7 +239,7 @@ fn one_more(words: usize) -> usize
     if words > 16 { 17 } else { words + 1 }
 }
 
-/// Where the words stand behind a word that is not the first of its command.
+/// Where the words are after a word that is not the first of its command.
 pub(crate) fn behind_later(stand: Stand, text: &[u8]) -> Stand
     ensures { result ≡ spec.behind_later stand text.now }
 {

@@ -1,10 +1,10 @@
-//! What stands in the bytes of a word.
+//! What is in the bytes of a word.
 ghost use Rattle.std.specs.Prelude.{◌≡◌};
 ghost use Rattle.std.specs.List.{fold};
 ghost use Rattle.hushlang.specs.ByteClasses as bytes;
 ghost use Rattle.hushcheck.specs.Sights as spec;
 
-/// In which quotes a byte stands.
+/// In which quotes a byte is.
 #[derive(Clone, Copy)]
 pub(crate) enum Quotes {
     /// In none.
@@ -26,7 +26,7 @@ pub(crate) enum Begun {
     Dollar,
     /// `${` is before it.
     Brace,
-    /// It is in braces, behind a first byte.
+    /// It is in braces, after a first byte.
     Name,
 }
 
@@ -53,7 +53,7 @@ pub(crate) enum Sight {
     DoubleBackslash,
     /// An apostrophe in double quotes.
     Apostrophe,
-    /// A byte that is a variable of other shells, behind a `$`.
+    /// A byte that is a variable of other shells, after a `$`.
     Special,
     /// `${?`.
     BracedStatus,
@@ -61,7 +61,7 @@ pub(crate) enum Sight {
     OddName,
     /// An opening parenthesis outside quotes.
     Parenthesis,
-    /// The end of a line behind a backslash.
+    /// The end of a line after a backslash.
     LineEnd,
 }
 
@@ -76,7 +76,7 @@ pub(crate) struct Seen {
     pub(crate) loose: bool,
     /// A variable in double quotes.
     pub(crate) held: bool,
-    /// A variable whose name begins with `_`.
+    /// A variable whose name starts with `_`.
     pub(crate) underscore: bool,
     /// A backslash in single quotes.
     pub(crate) single_backslash: bool,
@@ -99,7 +99,7 @@ pub(crate) struct Seen {
 /// How far a word is read.
 #[derive(Clone, Copy)]
 pub(crate) struct Look {
-    /// In which quotes the next byte stands.
+    /// In which quotes the next byte is.
     pub(crate) quotes: Quotes,
     /// What the bytes before it have begun.
     pub(crate) begun: Begun,
@@ -128,14 +128,14 @@ fn is_escapable(b: u8) -> bool
     b == b'$' || b == b'"' || b == b'\\'
 }
 
-/// Whether a byte is a variable of other shells behind a `$`.
+/// Whether a byte is a variable of other shells after a `$`.
 fn is_special(b: u8) -> bool
     ensures { result ≡ spec.is_special b }
 {
     (b'0' <= b && b <= b'9') || b == b'@' || b == b'*' || b == b'-' || b == b'#'
 }
 
-/// In which quotes the byte behind a byte stands that is itself in these and behind no backslash.
+/// In which quotes the byte after a byte is that is itself in these and after no backslash.
 fn quotes_behind(quotes: Quotes, b: u8) -> Quotes
     ensures { result ≡ spec.quotes_behind quotes b }
 {
@@ -148,7 +148,7 @@ fn quotes_behind(quotes: Quotes, b: u8) -> Quotes
     }
 }
 
-/// In which quotes the byte behind a byte stands.
+/// In which quotes the byte after a byte is.
 fn quotes_after(quotes: Quotes, begun: Begun, b: u8) -> Quotes
     ensures { result ≡ spec.quotes_after quotes begun b }
 {
@@ -170,7 +170,7 @@ fn begins(quotes: Quotes, b: u8) -> Begun
     }
 }
 
-/// What is begun in braces behind a byte.
+/// What is begun in braces after a byte.
 fn in_braces(b: u8) -> Begun
     ensures { result ≡ spec.in_braces b }
 {
@@ -181,7 +181,7 @@ fn in_braces(b: u8) -> Begun
     }
 }
 
-/// What is begun behind a byte.
+/// What is begun after a byte.
 fn begun_after(quotes: Quotes, begun: Begun, b: u8) -> Begun
     ensures { result ≡ spec.begun_after quotes begun b }
 {
@@ -220,7 +220,7 @@ fn name_sight(quotes: Quotes, b: u8) -> Sight
     }
 }
 
-/// What is seen at a byte behind a backslash.
+/// What is seen at a byte after a backslash.
 fn escaped_sight(quotes: Quotes, b: u8) -> Sight
     ensures { result ≡ spec.escaped_sight quotes b }
 {
@@ -232,7 +232,7 @@ fn escaped_sight(quotes: Quotes, b: u8) -> Sight
     }
 }
 
-/// What is seen at a byte behind a `$`.
+/// What is seen at a byte after a `$`.
 fn dollar_sight(quotes: Quotes, b: u8) -> Sight
     ensures { result ≡ spec.dollar_sight quotes b }
 {
@@ -245,7 +245,7 @@ fn dollar_sight(quotes: Quotes, b: u8) -> Sight
     }
 }
 
-/// What is seen at a byte behind `${`.
+/// What is seen at a byte after `${`.
 fn brace_sight(quotes: Quotes, b: u8) -> Sight
     ensures { result ≡ spec.brace_sight quotes b }
 {
@@ -346,7 +346,7 @@ fn with_sight(sight: Sight, seen: Seen) -> Seen
     }
 }
 
-/// How far a word is read behind a byte.
+/// How far a word is read after a byte.
 fn look_after(look: Look, b: u8) -> Look
     ensures { result ≡ spec.look_after look b }
 {

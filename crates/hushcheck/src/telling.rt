@@ -70,7 +70,7 @@ pub(crate) fn write_read<O: Out>(
     write_found(alloc, name, text, found, out)
 }
 
-/// Writes what is wrong with a text, in which these words are behind blocks without a command.
+/// Writes what is wrong with a text, in which these words are after blocks without a command.
 fn write_wrong<O: Out>(
     alloc: Global,
     name: &[u8],

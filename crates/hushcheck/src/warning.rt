@@ -5,7 +5,7 @@ ghost use Rattle.hushcheck.specs.WarningTexts as spec;
 /// What a shell of U-Boot reads otherwise at a place of a text.
 #[derive(Clone, Copy)]
 pub(crate) enum Warning {
-    /// A word straight behind a compound command.
+    /// A word straight after a compound command.
     StraightBehind,
     /// An operator of a list that has both `&&` and `||`.
     MixedList,
@@ -19,7 +19,7 @@ pub(crate) enum Warning {
     Exit,
     /// `x=`, `x=''` or `x=""`.
     EmptyAssignment,
-    /// A name that begins with `_`.
+    /// A name that starts with `_`.
     UnderscoreName,
     /// A backslash in single quotes.
     BackslashInSingle,
@@ -35,7 +35,7 @@ pub(crate) enum Warning {
     FileTest,
     /// `''`.
     EmptyWord,
-    /// A word of `setenv` that is empty or begins with `-`.
+    /// A word of `setenv` that is empty or starts with `-`.
     OptionOfSetenv,
     /// The seventeenth word of a command.
     ManyWords,
@@ -58,7 +58,7 @@ pub(crate) fn warning_text(warning: Warning) -> &'static [u8]
     ensures { result.now ≡ spec.warning_text warning }
 {
     match warning {
-        Warning::StraightBehind => b"warning: U-Boot's old shell wants ; before this word",
+        Warning::StraightBehind => b"warning: U-Boot's old shell needs ; before this word",
         Warning::MixedList => {
             b"warning: once U-Boot's old shell skips a command, it skips the rest of the list"
         }
@@ -75,7 +75,7 @@ pub(crate) fn warning_text(warning: Warning) -> &'static [u8]
         Warning::EmptyAssignment =>
             b"warning: U-Boot 2023.01 keeps the value that the variable has",
         Warning::UnderscoreName => {
-            b"warning: no variable of U-Boot's old shell has a name that begins with _"
+            b"warning: no variable of U-Boot's old shell has a name that starts with _"
         }
         Warning::BackslashInSingle => {
             b"warning: U-Boot's old shell drops a backslash in single quotes"
@@ -105,7 +105,7 @@ pub(crate) fn warning_text(warning: Warning) -> &'static [u8]
         }
         Warning::Parenthesis => b"warning: U-Boot's modern shell refuses ( outside quotes",
         Warning::BackslashAtLineEnd => {
-            b"warning: U-Boot's old shell keeps the line's end behind this backslash"
+            b"warning: U-Boot's old shell keeps the line's end after this backslash"
         }
         Warning::NotFollowedText => { b"warning: a rehearsal by this shell does not run this text" }
     }

@@ -41,7 +41,7 @@ fn is_empty_word(text: &[u8]) -> bool
     text == b"''".as_slice() || text == b"\"\"".as_slice()
 }
 
-/// Adds the warnings of what stands in a word. Errors: memory ran out.
+/// Adds the warnings of what is in a word. Errors: memory ran out.
 fn push_sights(found: &mut Vec<Found>, seen: Seen, at: usize) -> Result<(), AllocError>
     ensures { OnOk result (shown.all_found found.new.items
         ≡ spec.by_sights seen at (shown.all_found found.old.items)) }
@@ -108,7 +108,7 @@ fn is_option(name: Name, words: usize, text: &[u8]) -> bool
     }
 }
 
-/// Adds the warnings of a word of a call, behind so many others. Errors: memory ran out.
+/// Adds the warnings of a word of a call, after so many others. Errors: memory ran out.
 fn push_operand(
     found: &mut Vec<Found>,
     name: Name,
@@ -165,7 +165,7 @@ fn push_variable(found: &mut Vec<Found>, text: &[u8], at: usize) -> Result<(), A
     push_when(found, starts_with(text, b'_'), at, Warning::UnderscoreName)
 }
 
-/// Adds the warnings of a word by where it stands. Errors: memory ran out.
+/// Adds the warnings of a word by where it is. Errors: memory ran out.
 fn push_stand(
     found: &mut Vec<Found>,
     stand: Stand,
@@ -210,7 +210,7 @@ fn is_other(before: Link, now: Link) -> bool
     }
 }
 
-/// The operators of a list behind the end of a line.
+/// The operators of a list after the end of a line.
 fn link_behind(stand: Stand, link: Link) -> Link
     ensures { result ≡ spec.link_behind stand link }
 {
@@ -220,7 +220,7 @@ fn link_behind(stand: Stand, link: Link) -> Link
     }
 }
 
-/// Where the words stand behind a separator.
+/// Where the words are after a separator.
 fn behind_separator(stand: Stand) -> Stand
     ensures { result ≡ spec.behind_separator stand }
 {
@@ -240,7 +240,7 @@ fn ends_block(start: Start) -> bool
     }
 }
 
-/// Whether a word is behind a block that has no command.
+/// Whether a word is after a block that has no command.
 fn is_end_of_empty(stand: Stand, text: &[u8]) -> bool
     ensures { result ≡ spec.is_end_of_empty stand text.now }
 {
@@ -261,7 +261,7 @@ fn push_place_when(places: &mut Vec<usize>, holds: bool, at: usize) -> Result<()
     Ok(())
 }
 
-/// Where the words stand, behind no operator.
+/// Where the words are, after no operator.
 fn seated(stand: Stand, link: Link) -> Seat
     ensures { result ≡ spec.seated stand link }
 {
@@ -277,7 +277,7 @@ fn seated(stand: Stand, link: Link) -> Seat
 struct Watch {
     /// The operators of the lists that the open compound commands are in, the innermost last.
     outer: Vec<Link>,
-    /// Where the next token stands.
+    /// Where the next token is.
     seat: Seat,
     /// What was found, in the order of the text.
     found: Vec<Found>,
@@ -313,7 +313,7 @@ impl Watch {
         }
     }
 
-    /// The next word stands here, in the same list.
+    /// The next word is here, in the same list.
     fn stand(&mut self, stand: Stand)
         ensures { self.new ≡ spec.stands stand self.old }
     {
@@ -361,7 +361,7 @@ impl Watch {
         Ok(())
     }
 
-    /// Passes a word behind assignments.
+    /// Passes a word after assignments.
     fn pass_assigned(&mut self, text: &[u8])
         ensures { self.new ≡ spec.behind_assigned (seat.start_of text.now) text.now self.old }
     {

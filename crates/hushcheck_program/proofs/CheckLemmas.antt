@@ -46,7 +46,7 @@ bytes_if text = option_map (λ v. v.items) text
 
 -- ---- reads that were refused
 
--- a refusal that is none of the tools is told as it is
+-- a refusal that is none of the tools is reported as it is
 module _ (asked : Asked) (out : Sink) (old new : Told) where
   unread : (f : Fault) → ((error : ToolError) → f ≡ fault.Tool error → ⊥) → OnlyReads old new → IsUnread asked old new f → ChecksFrom asked out out old new (Err (Shared f))
   unread (fault.Config error) never reads h = h

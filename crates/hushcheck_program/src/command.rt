@@ -20,8 +20,8 @@ The image is read and never written.
 
 The status is 0 if all texts are well-formed, each NAME is set and the device
 list lacks no command; 1 if one of these does not hold, or with --strict if
-there is a warning; 2 if the words are wrong; 3 if a file, the image, the
-device list or the output is refused, or memory ran out.
+there is a warning; 2 if the command line is invalid; 3 if a file, the image,
+the device list or the output is refused, or memory ran out.
 
 Example:
   hushcheck -d devices.txt

@@ -53,11 +53,11 @@ fn perform<F: Files, O: Out>(
 /// read.
 pub const REFUSED: u8 = 3;
 
-/// The whole program, from its words to its status. The status is 0 if all texts are well-formed
-/// and the device list lacks no command, or if the help or the version was asked for; 1 if a text
-/// is not well-formed, a name is not set or the device list lacks a command, or if there is a warning and the
-/// words say `--strict`; 2 if the words were not understood; and 3 if something was refused. A fault is reported on `err` in one line. If
-/// `err` fails, nothing more is written there.
+/// The whole program, from its words to its status. The status is 0 if all texts are well-formed, each name that is asked for
+/// is set, and the device list lacks no command, or if the help or the version was asked for; 1 if a text is not well-formed,
+/// a name is not set or the device list lacks a command, or if there is a warning and the words say `--strict`; 2 if the
+/// command line is invalid; and 3 if something was refused. A fault is reported on `err` in one line. If `err` fails, nothing
+/// more is written there.
 pub fn run_check<S: AsStr, F: Files, O: Out, E: Out>(
     alloc: Global,
     build: Build,
