@@ -401,7 +401,7 @@ entries_more names task nodes sum_nodes depth devices below m n keys old new who
 
 -- ---- keys
 
--- what was reported of both outcomes, and the keys behind, without the lowest frames
+-- what was reported of both outcomes, and the keys after, without the lowest frames
 pub record Both (names : List Text) (limits : Limits) (below : ℕ) (m : Moment) (keys : List Key) : Type 0 where
   pub within : below < length m.frames
   pub enough : AreEnoughAt limits names (without_lowest below m) keys
@@ -465,7 +465,7 @@ begun_by present begun (m ∷ ms) = refl
 pub begun_back : (r back : Record) → back ≡ gone_back r → back.begun ≡ r.begun
 begun_back r back e = ap (λ (x : Record). x.begun) e ∙ begun_by r.present r.begun r.marked
 
--- one mark more: a search that starts behind it, and goes back to it at its end
+-- one mark more: a search that starts after it, and goes back to it at its end
 pub searched_behind : (names : List Text) (task : Task) (stop : Stop) (r here done last : Record) (before after : Table) (f : Future) → here ≡ with_mark r → last ≡ gone_back done → IsSearched names task stop here done before after f → IsSearched names task stop r last before after f
 searched_behind names task stop r here done last before after f is returns h =
     let present : here.present ≡ r.present = ap (λ (x : Record). x.present) is in

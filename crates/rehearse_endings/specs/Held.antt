@@ -38,7 +38,7 @@ size_of_all known = sum_by size_of_known known
 abbrev pub size_of : List RunningFrame → List Known → ℕ
 size_of frames known = 512 + (64 * length frames + size_of_all known)
 
--- what is left of so much room behind something of this size, if it has room there
+-- what is left of so much room after something of this size, if it has room there
 abbrev pub IsLeft : (room size : ℕ) → Option ℕ → Type 0
 IsLeft room size (Some left) = left + size ≡ room
 IsLeft room size None = room < size

@@ -130,7 +130,7 @@ module _ (step_bound device_bound : ℕ) where
   NoneBy table m number at place = (known : Known) → KnowsNext table.entries.items place at (key_of known) → Holds m known →
       NoneFrom table m (mixed_known number known) (suc at)
 
--- this is the number behind what the entry at a place knows next, as it is at the moment
+-- this is the number after what the entry at a place knows next, as it is at the moment
 abbrev pub IsNumberBehind : List Entry → Moment → (number at place : ℕ) → Option ℕ → Type 0
 IsNumberBehind entries m number at place next = (known : Known) → KnowsNext entries place at (key_of known) → Holds m known → next ≡ Some (mixed_known number known)
 

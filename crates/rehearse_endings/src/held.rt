@@ -1,11 +1,11 @@
-//! What is left of the bytes that the table may hold, behind a state that it keeps.
+//! What is left of the bytes that the table may hold, after a state that it keeps.
 ghost use Rattle.std.specs.Prelude.{◌+◌, ◌*◌, length};
 ghost use Rattle.rehearse_endings.specs.Held.{IsLeft, size_of, size_of_all, size_of_known, size_of_value, size_of_words};
 
 use bootstore_state::Frame;
 use rehearse_reports::Known;
 
-/// What is left behind so many bytes, if they have room.
+/// What is left after so many bytes, if they have room.
 fn behind(room: u64, bytes: usize) -> Option<u64>
     ensures { IsLeft room bytes result }
 {

@@ -57,7 +57,7 @@ fn logged<S: Store>(store: &S) -> u32
     store.log().len() as u32
 }
 
-/// How many of the lowest frames do not count at an end: all, unless the text came to its end.
+/// How many of the lowest frames do not count at an end: all, unless the text ended.
 fn below_end(halt: &Halt) -> usize
     ensures { result ≢ 0 → IsNoEnd (halt_shown halt.now) }
 {
@@ -69,8 +69,8 @@ fn below_end(halt: &Halt) -> usize
     }
 }
 
-/// How many of the lowest frames neither outcome reaches, by how many frames there were at least behind each, and how many
-/// did not count behind its stretch.
+/// How many of the lowest frames neither outcome reaches, by how many frames there were at least after each, and how many
+/// did not count after its stretch.
 fn behind_both(won_frames: usize, won: usize, lost_frames: usize, lost: usize) -> usize
     ensures won { result ≤ won_frames - 1 }
     ensures behind_won { result ≤ won }
@@ -136,7 +136,7 @@ fn is_spent<S: Store>(store: &S, most_work: u32) -> bool
 }
 
 /// Gives the device command that asks an outcome, and goes on until the text stops again. So many states were entered
-/// before. Says how many frames there were at least: none if the text came to its end. Errors: `Memory`; `Steps` with this number, behind the stretch with which more steps were begun than allowed.
+/// before. Says how many frames there were at least: none if the text ended. Errors: `Memory`; `Steps` with this number, after the stretch with which more steps were begun than allowed.
 fn resumed<S: Store>(
     rehearsal: &Rehearsal<'_>,
     reported: &mut Reported,
@@ -352,13 +352,14 @@ fn summed<S: Store>(
 /// Counts how all runs of the text of the variable end. For each ending it gives how many runs have
 /// it, or 2^128 - 1 if there are more; the first of them; and the first of them with the fewest
 /// unexpected answers. Runs that leave other values of the named variables are told apart. The endings are in
-/// the order of their first runs. Enters no more states than allowed,
-/// and searches each once, so at most two stretches of steps start at a state. Returns `States` if
-/// the runs reach more states than allowed, no two of them alike: at the same place, but for frames to which nothing
-/// comes back, with the same at the keys that were found to be enough, and with room for the same runs. Returns `Steps` behind the first stretch with which
-/// more steps were begun than allowed, in all stretches together. Returns `Bytes` if the states that were searched
-/// count more bytes than allowed, each by its frames that count and what is known at its keys. Both have the number of states that
-/// were entered by then, no two of them alike.
+/// the order of their first runs.
+///
+/// Two moments are the same state if they are at the same place, but for frames to which nothing comes back, have the same at
+/// the keys that were found to be enough, and have room for the same runs. Each state is searched once, so at most two
+/// stretches of steps start at a state. Returns `States` if the runs reach more states than allowed. Returns `Steps` after the
+/// first stretch with which more steps were begun than allowed, in all stretches together. Returns `Bytes` if the states that
+/// were searched count more bytes than allowed, each by its frames that count and what is known at its keys. Both have the
+/// number of states that were entered by then.
 /// Errors: `Memory`, `States`, `Steps`, `Bytes`.
 pub fn sum_endings<S: Store>(
     rehearsal: &Rehearsal<'_>,

@@ -6,9 +6,9 @@
 //! - `set_image ORDER FIRST SECOND NAME WORD..` changes an image in a file.
 //!
 //! Rows are tests with values from outside. `stdin` has them, and `stdout` the rows with their answers. A row is a word and what
-//! it says, with the escapes of `tests_rows`. A line that begins with `#` is a heading. At an empty line all that the rows have
+//! it says, with the escapes of `tests_rows`. A line that starts with `#` is a heading. At an empty line all that the rows have
 //! set is forgotten. The rows in front of the row `programs` are of the language, of the stores and of the rehearsal, over both
-//! stores; those behind it are of the images, of the programs and of what they call.
+//! stores; those after it are of the images, of the programs and of what they call.
 //!
 //! # In front of `programs`
 //!
@@ -39,7 +39,7 @@
 //!
 //! Rows of the stores themselves: `start`, with the variables that are set, `store CHANGE` and `show`.
 //!
-//! # Behind `programs`
+//! # After `programs`
 //!
 //! Rows that set something:
 //!
@@ -67,7 +67,7 @@
 //! - `each-out KIND CALL` and `each-err KIND CALL`, such a call with an output that fails further and further on;
 //! - `parts WORD..`, `pass TEXT`, `over N`, `buffer` and `flush`, outputs alone; `up-to LIMIT..`, bounded reads.
 //!
-//! Rows of files: `open`, which begins with them anew, `read PATH`, `part PATH OFFSET SIZE`, `write PATH OFFSET BYTES`,
+//! Rows of files: `open`, which starts with them anew, `read PATH`, `part PATH OFFSET SIZE`, `write PATH OFFSET BYTES`,
 //! and of the machine `make BYTES` and `remove`, of a file of this process.
 //!
 //! Rows of texts:

@@ -27,7 +27,7 @@ enum Key {
     Other,
 }
 
-/// What stands after a word.
+/// What is after a word.
 fn key_of(word: &str) -> Key {
     match word {
         "after" => Key::After,
@@ -202,7 +202,7 @@ fn goes_on<S: Store>(given: &Given<'_>, word: &[u8], rest: &[Vec<u8>]) -> anyhow
     Ok(behind.as_slice() == rest)
 }
 
-/// The words of the runs, and whether after each the runs go on with those that stand after it.
+/// The words of the runs, and whether after each the runs go on with those that are after it.
 fn onward<S: Store>(given: &Given<'_>) -> anyhow::Result<String> {
     let alloc = given.alloc;
     let (all, _) = words::<S>(given, None)?;

@@ -12,15 +12,15 @@ printed = refl
 reads_back : pairs_of (data_of (codes "a#=1\\2\nb\\=\n")) ≡ ((codes "a#", codes "1\\2") ∷ (codes "b\\", codes "") ∷ [])
 reads_back = refl
 
--- a name that begins with a hash: its line is a comment
+-- a name that starts with a hash: its line is a comment
 hash_first : pairs_of (data_of (printed_text ((codes "#a", codes "1") ∷ (codes "b", codes "2") ∷ []))) ≡ ((codes "b", codes "2") ∷ [])
 hash_first = refl
 
--- a value that ends with a backslash takes in the line behind it
+-- a value that ends with a backslash takes in the line after it
 backslash_last : pairs_of (data_of (printed_text ((codes "a", codes "1\\") ∷ (codes "b", codes "2") ∷ []))) ≡ ((codes "a", codes "1\nb=2") ∷ [])
 backslash_last = refl
 
--- a value with a newline: what is behind it is a variable of its own, or none
+-- a value with a newline: what is after it is a variable of its own, or none
 newline_in_value : pairs_of (data_of (printed_text ((codes "a", codes "1\nb=2") ∷ []))) ≡ ((codes "a", codes "1") ∷ (codes "b", codes "2") ∷ [])
 newline_in_value = refl
 

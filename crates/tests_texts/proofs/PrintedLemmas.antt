@@ -25,7 +25,7 @@ abbrev first : List ℕ → ℕ
 first [] = 0
 first (b ∷ bytes) = b
 
--- the data of what is left of a text, within a line, or behind a backslash that was held back
+-- the data of what is left of a text, within a line, or after a backslash that was held back
 abbrev read_on : Bool → List ℕ → List ℕ
 read_on false bytes = behind (data_of (ascii.equals ∷ bytes))
 read_on true bytes = data_of (ascii.backslash ∷ bytes)

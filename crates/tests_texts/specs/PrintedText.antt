@@ -11,7 +11,7 @@ abbrev pub IsLineByte : ℕ → Type 0
 IsLineByte b = b ≢ ascii.newline
 
 -- A variable that one line of a text can say: neither its name nor its value has a newline, its name does not begin
--- with the `#` of a comment, and its value does not end with a backslash, which would take in the newline behind it.
+-- with the `#` of a comment, and its value does not end with a backslash, which would take in the newline after it.
 pub record IsOneLine (p : Pair) : Type 0 where
   pub name : AllByRecursion IsLineByte p.0
   pub value : AllByRecursion IsLineByte p.1

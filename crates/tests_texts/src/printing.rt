@@ -8,7 +8,7 @@ use output::Over;
 use std::alloc::Global;
 
 /// What is printed of an environment is read as the same environment, if one line can say each of its variables: no
-/// name begins with `#`, no value ends with a backslash, and neither a name nor a value has a newline.
+/// name starts with `#`, no value ends with a backslash, and neither a name nor a value has a newline.
 pub fn printed_reads_back()
     ensures { PrintedReadsBack }
 {}

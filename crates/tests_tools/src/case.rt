@@ -26,7 +26,7 @@ pub struct Case<'a> {
     pub(crate) form: PrintForm,
     /// The environment that `env` changes.
     pub(crate) env: Env,
-    /// The files that a call begins with.
+    /// The files that a call starts with.
     pub(crate) given: Vec<(String, Vec<u8>)>,
     /// The number of the call of files that fails.
     pub(crate) failing: Option<usize>,
@@ -89,7 +89,7 @@ impl<'a> Case<'a> {
         }
     }
 
-    /// The files that a call begins with.
+    /// The files that a call starts with.
     pub fn fresh(&self) -> Result<MemoryFiles, AllocError> {
         let mut files = MemoryFiles::new(self.alloc, self.failing);
         for (path, bytes) in &self.given {

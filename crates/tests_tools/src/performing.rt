@@ -89,7 +89,7 @@ pub fn answer_call<C: Calls>(
     Ok(told(alloc, &done)?)
 }
 
-/// Whether a call was cut off by one failure, with a front of the whole, and in the last write: of an output of which one
+/// Whether a call was cut off by one failure, with a prefix of the whole, and in the last write: of an output of which one
 /// write fails, that one, and of another the one after so many bytes.
 fn is_cut(cut: &Tested, whole: &Tested, is_once: bool, count: usize) -> bool {
     let is_last = if is_once {
@@ -203,7 +203,7 @@ impl Sweep {
         self.are_cut && self.cuts == places && places > 0
     }
 
-    /// What is told of all calls.
+    /// What is said of all calls.
     fn line(&self) -> Result<String, AllocError> {
         let alloc = self.alloc;
         let bytes = &self.whole.out.bytes;
@@ -215,8 +215,8 @@ impl Sweep {
 }
 
 /// Makes a call again and again, each time with an output that fails further on, until it does not. Tells whether each
-/// failure is one, left a front of the whole, was the last write, and was answered alike, and how. Behind that stand
-/// the answer where nothing fails, and the first hundred bytes of the output.
+/// failure is one, left a prefix of the whole, was the last write, and was answered alike, and how. After that come
+/// the answer if nothing fails, and the first hundred bytes of the output.
 pub fn answer_sweep<C: Calls>(
     alloc: Global,
     calls: &mut C,

@@ -1,4 +1,4 @@
-//! What rows ask of the whole program and of what it stands on. The program `tests_libraries` reads the rows, and its head says
+//! What rows ask of the whole program and of what it depends on. The program `tests_libraries` reads the rows, and its head says
 //! what each asks.
 #![tactic(auto)]
 

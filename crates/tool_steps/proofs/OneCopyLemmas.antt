@@ -137,7 +137,7 @@ pub second-unsought : (program : List ℕ) (first second : Place) (x : SoughtCop
     → FindsPair program (place_shown first) (place_shown second) err err' a c (Err f)
 second-unsought program first second x err err' f a b c h reads is = (OnlyReads-then a b c (sought-reads first a b x h) reads, inl is)
 
--- what is told of a pair
+-- what is said of a pair
 pub pair-told : (program : List ℕ) (x y : SoughtCopy) (err err' : Sink) (r : Result Images Fault) → Joins program x y err err' r → IfErr r (λ _. err' ≡ err) → MayTell program true err err'
 pair-told program x y err err' (Err f) j quiet = inl quiet
 pair-told program (Read x) (Read y) err err' (Ok images) j quiet = inl j.1

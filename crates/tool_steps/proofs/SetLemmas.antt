@@ -118,7 +118,7 @@ sets-written program input source change found which bytes err noted err' x y z 
 )
 sets-written program input source change found which bytes err noted err' x y z w (Err f) warned read made h = absurd h
 
--- ---- what is told
+-- ---- what is reported
 
 may-if : (program : List ℕ) (is : Bool) (old new : Sink) → TellsIf program is old new → MayTell program true old new
 may-if program true old new h = inr h

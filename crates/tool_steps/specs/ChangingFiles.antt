@@ -125,7 +125,8 @@ WritesCopy which found bytes old new (Err fault) = ⊥
 
 -- The images were found, the change was made, and then one copy was written, or that write was tried. If only a prefix
 -- of the bytes was written to a pair, loading gives what it gave before, or that copy is right. If a copy was lost, its
--- place is the one that is written. Before the write one line says whether the places of the copies share a byte.
+-- place is the one that is written. Before the write, one line says so if the
+-- places of the copies share a byte.
 pub record HasSet (program : List ℕ) (input : Option (List ℕ)) (source : ImageSource) (change : Change)
     (err err' : Sink) (old new : Told) (answer : Result (Unit {0}) FileFault) : Type 0 where
   pub found : List Copy

@@ -96,7 +96,7 @@ abbrev pub ReadsPair : (first second : PlaceShown) → (lost : Option PlaceShown
 ReadsPair first second None old new found = ReadsBoth first second old new found
 ReadsPair first second (Some lost) old new found = LosesOne first second lost old new found
 
--- that was done, and a lost place is told in one line; or both are lost, or memory ran out
+-- that was done, and a lost place is reported in one line; or both are lost, or memory ran out
 abbrev pub FindsPair : (program : List ℕ) → (first second : PlaceShown) → (err err' : Sink) → Told → Told →
     Result Images Fault → Type 0
 FindsPair program first second err err' old new (Ok images) = (lost : Option PlaceShown)

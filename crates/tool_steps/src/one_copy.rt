@@ -130,7 +130,7 @@ fn read_any<F: Files, E: Out>(
 }
 
 /// Reads the images of a source: the text of its configuration first, if it has one, then the first copy,
-/// then the second. If one copy of a pair is enough, one that cannot be read is lost, and so is one behind
+/// then the second. If one copy of a pair is enough, one that cannot be read is lost, and so is one after
 /// the end of its file: the other one counts in its place too, and this is reported in one line. Of whole
 /// files no copy is lost: each is read.
 ///

@@ -1,4 +1,4 @@
--- What a rehearsal begins with, and why it does not begin, in worked cases: each refusal in its order.
+-- What a rehearsal starts with, and why it does not begin, in worked cases: each refusal in its order.
 use Rattle.std.proofs.Common.{◌≡◌, ℕ, List, [], ◌∷◌, Bool, true, false, Option, Some, None, Ok, Err, codes, refl}
 use Rattle.std.specs.Prelude.{Result}
 use Rattle.envimage.specs.Data.{Pair}
@@ -35,7 +35,7 @@ bad_line = codes "given a=1\ngiven a=2\nload x\nbefore p"
 abbrev two : Text
 two = codes "given a=1\nload\ngiven a=2\nbefore p"
 
--- 64 alternatives, and one more, before and behind a bad line
+-- 64 alternatives, and one more, before and after a bad line
 abbrev too_many : Text
 too_many = codes "load x\ngiven a=1\ngiven a=2\ngiven a=3\ngiven a=4\ngiven a=5\ngiven a=6\ngiven a=7\ngiven a=8\ngiven b=1\ngiven b=2\ngiven b=3\ngiven b=4\ngiven b=5\ngiven b=6\ngiven b=7\ngiven b=8\ngiven b=9"
 
@@ -98,7 +98,7 @@ given_as_it_is = refl
 steady_if_asked : with_image (Ok stored) Profile (board_of (text_alone (codes "load"))) (taking true None) (codes "bootcmd") None [] ≡ Ok (record { environment = stored; devices = all_steady loads; names = []; text = None })
 steady_if_asked = refl
 
--- a text that is given goes behind those that run first
+-- a text that is given goes after those that run first
 given_text : with_image (Ok stored) Profile (board_of (text_alone (codes "load\nbefore p"))) (taking false None) (codes "boot.scr") (Some (codes "load")) [] ≡ Ok (record { environment = stored; devices = loads; names = []; text = Some (codes "run p\nload") })
 given_text = refl
 

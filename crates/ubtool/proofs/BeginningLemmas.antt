@@ -1,4 +1,4 @@
--- What a rehearsal begins with, and why there is nothing to begin with.
+-- What a rehearsal starts with, and why there is nothing to start with.
 use Rattle.std.proofs.Common.{◌≡◌, ◌∙◌, refl, sym, ap, subst, List, Option, Result, Ok, Err}
 use Rattle.envimage.specs.Data.{Pair}
 use Rattle.envimage.specs.declared.image.ImageError.{ImageError}
@@ -57,7 +57,7 @@ no_board list environment taking name text names (faulty.Start fault) h = ap (λ
 no_board list environment taking name text names (faulty.Devices fault) h = ap (λ b. with_board b taking environment name text names) h
 no_board list environment taking name text names faulty.Memory h = (environment, refl)
 
--- what begins in the environment that a board has of an image begins with the image
+-- what begins in the environment that a board has of an image starts with the image
 pub from_image : (image : Result (List Pair) ImageError) (shell : Shell) (list : Result Board Fault) (taking : Taking) (name : Text) (text : Option Text) (names : List Text) (environment found : List Pair) → image ≡ Ok environment → found ≡ on_board_of shell environment
     → (result : Result BeginningRead RehearsalError) → Begins (Ok found) (with_board list taking found name text names) result → Begins image (with_image image shell list taking name text names) result
 from_image image shell list taking name text names environment found is same result h = by result h
@@ -71,7 +71,7 @@ from_image image shell list taking name text names environment found is same res
         not_begun (Ok found) (with_board list taking found name text names) (λ e. Begins image (with_image image shell list taking name text names) (Err e))
         (λ fault said. alike ∙ said) (λ fault said. alike ∙ said) (λ fault said. alike ∙ said) (λ e said. (environment, is)) error k
 
--- where there is something to begin with, the image is right
+-- where there is something to start with, the image is right
 pub has-image : (g : Given) (beginning : Beginning) → beginning_of g ≡ Ok beginning → HasImage g
 has-image g beginning found = by (environment_in g.order g.first g.second) refl found
   where
@@ -87,7 +87,7 @@ image-of-start g fault found = by (environment_in g.order g.first g.second) refl
     by (Ok environment) is f = record { environment = environment; image = is }
     by (Err other) is f = absurd (let e : ◌≡◌ {A = Result Beginning NoBeginning} (Err (OfImage other)) (Err (OfBoard (OfStart fault))) = f in cc)
 
--- what holds of the rehearsal of what it begins with holds of what it was read from
+-- what holds of the rehearsal of what it starts with holds of what it was read from
 pub on_board : (g : Given) (beginning : Beginning) → beginning_of g ≡ Ok beginning → (text : Option Text) → text ≡ beginning.text → (IsSo : Asking → Option Task → Type 0)
     → IsSo (asked_of beginning g.asking) (task_asked beginning.environment beginning.devices text (asked_of beginning g.asking)) → HasBoard g IsSo
 on_board g beginning found text same IsSo h = record {

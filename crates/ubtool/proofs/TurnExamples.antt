@@ -92,7 +92,7 @@ of_two = record {
   counter = None;
 }
 
--- its lines are behind the line that tells it, if there are any; its place is counted from 0
+-- its lines are after the line that names it, if there are any; its place is counted from 0
 lines_of_the_second : headed of_two 1 (codes "all 1 states 1\n") ≡ codes "given a=2\nall 1 states 1\n"
 lines_of_the_second = refl
 
@@ -105,7 +105,7 @@ no_lines = refl
 abbrev IsSoLong : Given → Text → Type 0
 IsSoLong g part = g.taking.alternative ≡ Some (length part)
 
--- the first part is of the alternative 1, and each goes behind its line
+-- the first part is of the alternative 1, and each goes after its line
 both_in_turn : (asking : Asking) → AreInTurn IsSoLong (λ part. part ++ codes "\n") (by_list two_lists None asking) 2 (codes "x" ∷ codes "yz" ∷ []) (codes "given a=1\nx\ngiven a=2\nyz\n")
 both_in_turn asking = record { start = of_two; start_is = refl; each = refl; so = (refl, (refl, tt)); whole = refl }
 

@@ -1,4 +1,4 @@
--- What a rehearsal begins with: the environment that the board has, its device list as it is taken, the names of what is
+-- What a rehearsal starts with: the environment that the board has, its device list as it is taken, the names of what is
 -- asked for of each run, and the text that is rehearsed in place of the variable's, if there is one. Ours.
 use Rattle.std.specs.Prelude.{◌≡◌, List, Option, Result, Ok, Err}
 use Rattle.envimage.specs.Data.{Pair}
@@ -64,18 +64,18 @@ with_image (Ok environment) shell board taking variable text names =
     with_board board taking (on_board shell environment) variable text names
 with_image (Err fault) shell board taking variable text names = Err (OfImage fault)
 
--- what all that is given begins with
+-- what all that is given starts with
 abbrev pub beginning_of : Given → Result Beginning NoBeginning
 beginning_of g =
     with_image (environment_in g.order g.first g.second) g.asking.bounds.shell (board_of g.device_list) g.taking
     g.asking.variable g.text g.asking.names
 
--- what the program begins with, seen as the definitions have it
+-- what the program starts with, seen as the definitions have it
 abbrev pub beginning_shown : BeginningRead → Beginning
 beginning_shown b =
     record { environment = b.env; devices = b.devices; names = bytes_of_words b.names.items; text = option_items b.text }
 
--- all that is given begins with this, and these runs are asked for
+-- all that is given starts with this, and these runs are asked for
 abbrev pub StartsWith : Given → BeginningRead → Asking → Type 0
 StartsWith g beginning asking = (beginning_of g ≡ Ok (beginning_shown beginning)) × (g.asking ≡ asking)
 

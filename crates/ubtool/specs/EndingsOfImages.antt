@@ -1,6 +1,6 @@
 -- How all runs of an image's variable or of a given text end, from the bytes of an image to the lines, and why this is
 -- refused. The refusals come in the order of a rehearsal, and nothing is written before the lines. If the device list has
--- several alternatives and none is named, the lines are those of each in turn, each behind a line that tells it, and what
+-- several alternatives and none is named, the lines are those of each in turn, each after a line that names it, and what
 -- refuses one of them refuses all. Ours.
 use Rattle.std.specs.Prelude.{◌≡◌, ◌<◌, ◌+◌, ℕ, Bool, List, length, Option, Some, None, Err}
 use Rattle.output.specs.Sink.{Sink, Wrote, BrokeOff}

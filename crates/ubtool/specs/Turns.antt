@@ -21,7 +21,7 @@ turns_of answer = None
 abbrev pub named : Given → (number : ℕ) → Given
 named g number = record g { taking = record g.taking { alternative = Some number } }
 
--- the lines of one alternative behind the line that tells it, if there are any
+-- the lines of one alternative after the line that names it, if there are any
 abbrev pub headed : Start → (place : ℕ) → (lines : Text) → Text
 headed start place [] = []
 headed start place (b ∷ lines) = given_line start place ++ b ∷ lines

@@ -1,4 +1,4 @@
-//! What a rehearsal begins with.
+//! What a rehearsal starts with.
 ghost use Rattle.std.specs.Prelude.{◌≡◌, ◌++◌, map, IfOk, OnOk, Ok};
 ghost use Rattle.std.specs.Option.{option_copied};
 ghost use Rattle.board_start.specs.Boards.{board_of};
@@ -35,7 +35,7 @@ pub struct DeviceText<'a> {
     pub taking: Taking,
 }
 
-/// What a rehearsal begins with.
+/// What a rehearsal starts with.
 #[derive(Drop)]
 pub(crate) struct Beginning {
     /// The environment that the board has.
@@ -119,7 +119,7 @@ pub(crate) fn devices_in(
     devices.saving(names)
 }
 
-/// What a rehearsal that asks for these names begins with. Errors: memory ran out.
+/// What a rehearsal that asks for these names starts with. Errors: memory ran out.
 fn begin_with(
     alloc: Global,
     devices: Devices,
@@ -163,7 +163,7 @@ pub(crate) fn begun_on(
     }
 }
 
-/// What a rehearsal that asks for these names begins with on this board, in this environment. Errors: `Start` for
+/// What a rehearsal that asks for these names starts with on this board, in this environment. Errors: `Start` for
 /// another reason than `TooMany`, `Memory`.
 fn begin_on(
     alloc: Global,
@@ -198,7 +198,7 @@ pub(crate) fn board_of(alloc: Global, list: &DeviceText<'_>) -> Result<Board, Bo
     Board::parse(alloc, list.text, files)
 }
 
-/// What a rehearsal that asks for these names begins with on the board of this list, in this environment. Errors in
+/// What a rehearsal that asks for these names starts with on the board of this list, in this environment. Errors in
 /// order: `Start` with `TooMany`; `Rehearsal` with the first fault of the device list; `Start` for another reason;
 /// `Memory` wherever a growth is made.
 fn begin_in(
@@ -219,7 +219,7 @@ fn begin_in(
     }
 }
 
-/// What a rehearsal of a variable of an image, or of a text in its environment, begins with if it asks for these
+/// What a rehearsal of a variable of an image, or of a text in its environment, starts with if it asks for these
 /// names, on a board of this shell. Errors in order: the image; `Start` with `TooMany`; `Rehearsal` with the first fault
 /// of the device list; `Start` for another reason; `Memory` wherever a growth is made.
 pub(crate) fn begin(

@@ -21,7 +21,7 @@ use rehearse_causes::{CausesAsk, causes_env};
 use rehearse_rules::RehearseError;
 use std::alloc::Global;
 
-/// Writes the lines of what a rehearsal begins with.
+/// Writes the lines of what a rehearsal starts with.
 fn causes_begun<'x, O: Out>(
     alloc: Global,
     beginning: &'x Beginning,
@@ -192,7 +192,7 @@ fn lines_in_turn(
 /// pair, or of a given text in its environment: for each cause a line, and then a line for each device command that fails; or only what does
 /// not boot. Returns true, or in a check whether nothing was written. In a shell of U-Boot, the
 /// variables are those that U-Boot reads from the image. If the device list has several alternatives
-/// and none is named, writes the lines of each, in order, each behind a line that tells it, and all is
+/// and none is named, writes the lines of each, in order, each after a line that names it, and all is
 /// well if it is with each.
 ///
 /// Refusals in order: the image; `Start` with `TooMany`; the first fault of the device list; `Start` for

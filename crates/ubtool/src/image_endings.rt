@@ -21,7 +21,7 @@ use rehearse_endings::{EndingsAsk, endings_env};
 use rehearse_rules::RehearseError;
 use std::alloc::Global;
 
-/// Writes the lines of what a rehearsal begins with. Errors: `NoSuchVariable`; `States`, `Steps`, `Bytes`; `Write`, `Memory`.
+/// Writes the lines of what a rehearsal starts with. Errors: `NoSuchVariable`; `States`, `Steps`, `Bytes`; `Write`, `Memory`.
 fn endings_begun<'x, O: Out>(
     alloc: Global,
     beginning: &'x Beginning,
@@ -46,7 +46,7 @@ fn endings_begun<'x, O: Out>(
     endings_env::<Trail, O>(alloc, &beginning.env, &beginning.devices, &ask, out)
 }
 
-/// The same, of all that begins so, and with the names that it begins with. Errors: `Rehearsal` with `NoSuchVariable`,
+/// The same, of all that begins so, and with the names that it starts with. Errors: `Rehearsal` with `NoSuchVariable`,
 /// `States`, `Steps` and `Bytes`; `Write`, `Memory`.
 fn endings_told<O: Out>(
     alloc: Global,
@@ -187,7 +187,7 @@ fn lines_in_turn(
 /// all runs. For the flow, writes a line for
 /// each state in which a device command asks and for each way to end. In a shell of U-Boot, the
 /// variables are those that U-Boot reads from the image. If the device list has several alternatives
-/// and none is named, writes the lines of each, in order, each behind a line that tells it.
+/// and none is named, writes the lines of each, in order, each after a line that names it.
 ///
 /// Refusals in order: the image; `Start` with `TooMany`; the first fault of the device list; `Start` for
 /// another reason; `NoSuchVariable`; `States`, `Steps`, `Bytes` and `Memory`, with nothing written; then `Write` if the

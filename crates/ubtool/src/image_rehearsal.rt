@@ -75,7 +75,7 @@ fn wanted_of<'x>(ask: &Ask<'x>) -> Wanted<&'x [u8]>
     }
 }
 
-/// Writes the listing of what a rehearsal begins with, whose records show these names. Errors: `NoSuchVariable`,
+/// Writes the listing of what a rehearsal starts with, whose records show these names. Errors: `NoSuchVariable`,
 /// `NotARun`; `Write`, `Memory`.
 fn rehearse_begun<'x, O: Out>(
     alloc: Global,
@@ -101,7 +101,7 @@ fn rehearse_begun<'x, O: Out>(
     rehearse_env::<Trail, O>(alloc, &beginning.env, &beginning.devices, &ask, out)
 }
 
-/// The same, of all that begins so, and with the names that it begins with. Errors: `Rehearsal` with `NoSuchVariable`
+/// The same, of all that begins so, and with the names that it starts with. Errors: `Rehearsal` with `NoSuchVariable`
 /// and `NotARun`; `Write`, `Memory`.
 fn rehearse_told<O: Out>(
     alloc: Global,

@@ -35,7 +35,7 @@ pub(crate) fn named(list: DeviceText<'_>, number: u32) -> DeviceText<'_>
     }
 }
 
-/// Adds the lines of an alternative, if there are any, behind the line that tells it. Errors: memory ran
+/// Adds the lines of an alternative, if there are any, after the line that names it. Errors: memory ran
 /// out.
 fn put_headed(text: &mut Vec<u8>, start: &Start, place: u32, lines: &[u8]) -> Result<(), AllocError>
     ensures { OnOk result (text.new.items ≡ text.old.items ++ headed start.now place lines.now) }

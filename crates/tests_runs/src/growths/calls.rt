@@ -97,7 +97,7 @@ fn make(alloc: Global, env: &mut Env, call: Call) -> Result<bool, Trouble> {
     }
 }
 
-/// The environment to begin with.
+/// The environment to start with.
 fn begin(alloc: Global) -> Result<Env, EnvError> {
     Env::from_data(alloc, b"a=0\0bootcmd=load a || load b\0\0")
 }
@@ -143,7 +143,7 @@ fn run_row(rt: &HostRuntime, env: &mut Env) -> io::Result<()> {
     Ok(())
 }
 
-/// Makes the calls on the environment to begin with.
+/// Makes the calls on the environment to start with.
 pub(crate) fn run(rt: &HostRuntime) -> io::Result<()> {
     match begin(rt.alloc()) {
         Ok(mut env) => run_row(rt, &mut env),

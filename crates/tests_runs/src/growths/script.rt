@@ -9,7 +9,7 @@ use std::io;
 
 const NAMES: [&[u8]; 8] = [b"a", b"b", b"c", b"d", b"e", b"f", b"g", b"h"];
 
-/// The variables to begin with.
+/// The variables to start with.
 const FIRST: [(&[u8], &[u8]); 4] = [(b"a", b"1"), (b"b", b"2"), (b"g", b"8"), (b"h", b"9")];
 
 /// Four variables.

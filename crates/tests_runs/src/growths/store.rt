@@ -46,7 +46,7 @@ fn run_both(rt: &HostRuntime, parts: &Parts) -> io::Result<()> {
     run_on::<Trail>(rt, "trail", parts)
 }
 
-/// Makes the row on both stores, if there is memory to begin with.
+/// Makes the row on both stores, if there is memory to start with.
 pub(crate) fn run(rt: &HostRuntime) -> io::Result<()> {
     match Parts::new(rt.alloc()) {
         Ok(parts) => {

@@ -1,4 +1,4 @@
-//! Want of memory, told apart from other refusals.
+//! Lack of memory, told apart from other refusals.
 
 /// Why a call did not do what it should.
 #[derive(Clone, Copy, Debug)]

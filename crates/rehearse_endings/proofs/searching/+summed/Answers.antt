@@ -357,7 +357,7 @@ returns-in_err-lost-in-Asks-clause-refused g t c = λ p begun at by entered.
 
 -- ---- the steps that are refused
 
--- nothing was begun behind the last stretch
+-- nothing was begun after the last stretch
 pub returns-in_ok-keys-in-Asks-clause-worked : goal.returns-in_ok-keys-in-Asks-clause-worked
 returns-in_ok-keys-in-Asks-clause-worked g t c =
     let done = g.S.Store.record_of c.summed-in-Asks.new.store in
