@@ -1,4 +1,4 @@
-/* A shim before the C library that stands for the kernel's switch of an eMMC boot partition, for tests/boot_partition. A digit
+/* A shim before the C library in the place of the kernel's switch of an eMMC boot partition, for tests/boot_partition. A digit
  * that is written to a file force_ro makes the device DEVICE read-only (1) or not (0), and is noted in the file SWITCHED.
  * REFUSED says which call fails, each the first of its kind: a write to the `device`, or one that turns the switch `off` or
  * `on`; or an open of the switch, to `look` at it, to write it (`open`), or to write it once more (`reopen`). */

@@ -50,7 +50,7 @@ of single failures
 
 of open questions
   $ sed -n '/^## What a device list leaves open/,/^## A script/p' "$page" | calls
-  4
+  5
   $ cmp found shown
 
 of a script
@@ -68,12 +68,10 @@ of what the board sets
   3
   $ cmp found shown
 
-the states with steady test, and with one answer for each question
+the states with steady test
   $ { cat devices.txt && echo 'steady test'; } >steady_test.txt
   $ ubtool endings -c rpi_4.config -d steady_test.txt | tail -n 1
   all 368690717019746585773812990 states 142
-  $ ubtool endings -c rpi_4.config -d devices.txt --steady | tail -n 1
-  all 796310595593939263870 states 1230
 
 the call by a shell
   $ cp rpi_4.config fw_env.config
@@ -100,6 +98,15 @@ the verdict on a script, by the calls of the README
   boot.cmd: ok
   it boots
 
+the board of an update service, by the calls of the README
+  $ cp "$repository/tests/compare_boards.d/two_slots" recipe/boot.cmd
+  $ printf '%s\n' 'BOOT_ORDER=B A' BOOT_A_LEFT=3 BOOT_B_LEFT=3 kernel_addr_r=0x80000 default_bootargs=quiet >recipe/env.txt
+  $ grep -A 1 "^{ echo 'saves saveenv'" "$repository/README.md" >calls; wc -l <calls
+  2
+  $ (cd recipe && PATH=$PWD/../path:$PATH sh -eu ../calls)
+  all 8
+  it comes back
+
 the script on the card, by the variable in which the board has its address
   $ mkdir -p card; printf 'load mmc 0:1 ${kernel_addr_r} Image && booti ${kernel_addr_r}\n' >card/boot.cmd
   $ handed() {
@@ -112,5 +119,4 @@ the script on the card, by the variable in which the board has its address
 
 the lines of a flow
   $ ubtool endings -c rpi_4.config -d devices.txt --flow >flow
-  $ grep -c "Its flow has $(wc -l <flow) lines" "$page"
-  1
+  $ marked "$repository/tools/figures" --check "lines-of-flow=$(wc -l <flow)"

@@ -8,8 +8,7 @@ The picture of the flow of a real board.
 the boxes of its picture
   $ ubtool endings -c rpi_4.config -d devices.txt --flow >flow
   $ boxes=$("$repository/tools/choices" --fold --toward 'end 0' flow | grep -c shape=box)
-  $ grep -c "^on alike: $boxes boxes are left" "$repository/docs/REHEARSAL.md"
-  1
+  $ marked "$repository/tools/figures" --check "boxes-of-flow=$boxes"
 
 the boxes in docs/flow.svg
   $ [ "$(grep -c '<polygon fill="none" stroke="black"' "$repository/docs/flow.svg")" = "$boxes" ]

@@ -22,7 +22,7 @@ the texts of a board read the variable, or it is one that U-Boot runs
   4
   1
 
-each list of a board is read, and begins with what the file has of the board: given, or left out
+each list of a board is read, and starts with what the file has of the board: given, or left out
   $ for file in "$repository"/share/boards/*.given; do "$UBTOOL" endings --script /dev/null -d "$file" >said 2>&1 || cat said; done
   $ for file in "$repository"/share/boards/*.given; do
   >     board=$(basename "$file" .given); sed -n 's/^given \([^=]*\)=.*/\1/p; s/^# Left out: \([^=]*\)=.*/\1/p' "$file" >names

@@ -463,7 +463,7 @@ script: two carriage returns
   b=2
   c=4
 
-name that stands twice
+name that is twice in an image
   $ start 'a=1\nb=2\na=3\n'
   $ theirs printenv -c image.config
   a=3

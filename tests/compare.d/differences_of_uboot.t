@@ -292,7 +292,7 @@ script: two carriage returns
   b=2
   c=4\r (esc)
 
-name that stands twice
+name that is twice in an image
   $ start 'a=1\nb=2\na=3\n'
   $ own printenv -c image.config
   a=1

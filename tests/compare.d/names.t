@@ -30,7 +30,7 @@ a script on standard input
   $ ours printenv -c config | sort | cmp - wanted
   $ as fw_printenv -c config | sort | cmp - wanted
 
-a name that begins with - comes after --, to both
+a name that starts with - comes after --, to both
   $ cp made image; theirs setenv -c config -- -x 1
   $ ours printenv -c config -- -x
   -x=1

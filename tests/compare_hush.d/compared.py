@@ -17,14 +17,14 @@ UBTOOL, SANDBOXES = sys.argv[1], {"2023.01": sys.argv[2], "2025.01": sys.argv[3]
 DEVICES, LIST = "6", "load\ndhcp\nknown env\nknown itest\nknown setexpr\n"
 FAILURES = range(3)
 # Reasons to stop that the two listings show by themselves.
-UNKNOWN, BROKEN = "a command that is not listed", "a fault behind which the shell reads address 0"
+UNKNOWN, BROKEN = "a command that is not listed", "a fault after which the shell reads address 0"
 # With UBTOOL_WRITE=1 the figures that were counted are written into the pages.
 WRITES = os.environ.get("UBTOOL_WRITE") == "1"
 cases = Counter()
 
 
 def same(name, found, wanted):
-    """Compares two texts, apart from line ends behind them."""
+    """Compares two texts, apart from line ends after them."""
     found, wanted = found.rstrip("\n"), wanted.rstrip("\n")
     cases["passed" if found == wanted else "failed"] += 1
     if found != wanted:
@@ -36,14 +36,10 @@ def holds(name, is_so):
     same(name, str(bool(is_so)), "True")
 
 
-def figure(page, pattern, counted):
-    """The figures of a page, at the first place that fits a pattern, are those that were counted."""
-    path = Path(f"{REPOSITORY}/docs/{page}")
-    text = path.read_text(encoding="utf-8")
-    found = re.search(pattern, text)
-    if found and WRITES:
-        path.write_text(text[: found.start()] + counted + text[found.end() :], encoding="utf-8")
-    same(f"a figure of {page}", counted if found and WRITES else found and found[0] or "", counted)
+def figure(name, counted):
+    """The pages have this figure as it was counted; with UBTOOL_WRITE=1 it is written."""
+    call = [f"{REPOSITORY}/tools/figures", "--check", f"{name}=-"]
+    same(f"the figure {name}", subprocess.run(call, input=counted, stdout=subprocess.PIPE, encoding="utf-8", check=False).stdout, "")
 
 
 def unescaped(text):
@@ -183,7 +179,7 @@ def compare(scripts, shell, column):
         same(f"the row {row} for {shell}", "shown by a script" if row in shown else "as ubtool",
              text if text == "as ubtool" else "shown by a script")
     alike = len(scripts) - len(shown)
-    figure("COMPATIBILITY.md", rf"\| {re.escape(shell)} \| \d+ of \d+ \|", f"| {shell} | {alike} of {len(scripts)} |")
+    figure(f"alike-{shell}", f"{alike} of {len(scripts)}")
     print(f"compared with U-Boot's shell, {shell}: {alike} scripts alike, {len(shown)} that differ", flush=True)
 
 
@@ -214,7 +210,7 @@ def compare_old(scripts):
             if ours != found:
                 same(f"the old shell of 2025.01: {it.block}", differences(before, old), "")
     count = len(scripts)
-    figure("COMPATIBILITY.md", r"\d+ of \d+ scripts", f"{count - like} of {count} scripts")
+    figure("old-that-differ", f"{count - like} of {count}")
     print(f"compared with 2023.01, the old shell of 2025.01: {like} scripts alike, {count - like} that differ", flush=True)
 
 
@@ -258,7 +254,7 @@ def with_shell(shell, folder, count, kind="scripts"):
 
 def told_reasons(shell):
     """How many scripts the page says that a shell stops at, by the reason."""
-    part = re.search(r"^Why it stops.*?\n\n(.*?)\n\n", TABLE, re.M | re.S)[1]
+    part = re.search(r"^<!-- figure stops .*?-->\n(.*?)\n<!-- end", TABLE, re.M | re.S)[1]
     head, _, *lines = [re.split(" *[|] *", it.replace("\\|", "\1")) for it in part.split("\n")]
     counts = {it[1].replace("\1", "|"): it[head.index(f"`{shell}`")] for it in lines}
     return {reason: int(count) for reason, count in counts.items() if count}
@@ -267,10 +263,18 @@ def told_reasons(shell):
 def compare_shell(shell, folder, scripts):
     """All scripts with --shell, and what the page says of how many are the same, and how many stop, and why."""
     verdicts, reasons, alike, stops = with_shell(shell, folder, len(scripts))
-    found = [shown or it.reason for it, verdict, shown in zip(scripts, verdicts, reasons) if verdict == "stops"]
-    same(f"why --shell {shell} stops", str(sorted(Counter(found).items())), str(sorted(told_reasons(shell).items())))
-    figure("COMPATIBILITY.md", rf"\| `{re.escape(shell)}` \| \d+ of \d+ \| \d+ \|", f"| `{shell}` | {alike} of {alike + stops} | {stops} |")
-    return verdicts
+    found = Counter(shown or it.reason for it, verdict, shown in zip(scripts, verdicts, reasons) if verdict == "stops")
+    if not WRITES:
+        same(f"why --shell {shell} stops", str(sorted(found.items())), str(sorted(told_reasons(shell).items())))
+    figure(f"shell-{shell}", f"{alike} of {alike + stops} | {stops}")
+    return verdicts, found
+
+
+def table_of_stops(*stops):
+    """The table of what is not followed, of how many scripts each shell stops at by the reason; the most come first."""
+    yield "| What is not followed | `old-2023.01` | `old-2025.01` | `modern-2025.01` |\n|---|---|---|---|"
+    for reason in sorted(set().union(*stops), key=lambda it: (-sum(stop[it] for stop in stops), it)):
+        yield "| " + reason.replace("|", "\\|") + "".join(f" | {stop[reason]}" if stop[reason] else " |" for stop in stops) + " |"
 
 
 def compare_column(scripts, verdicts):
@@ -300,24 +304,26 @@ def main():
         run_scripts("2023.01", "2023.01", "old", scripts)
         compare(scripts, "2023.01", 4)
         compare_few(scripts, "2023.01")
-        compare_column(scripts, compare_shell("old-2023.01", "2023.01", scripts))
+        verdicts, stops = compare_shell("old-2023.01", "2023.01", scripts)
+        compare_column(scripts, verdicts)
         compare_random("old-2023.01", "2023.01", "old")
     if SANDBOXES["2025.01"]:
         run_scripts("modern", "2025.01", "modern", scripts)
         compare(scripts, "modern", 5)
         compare_few(scripts, "modern")
         compare_random("old-2025.01", "2025.01", "old")
-        compare_shell("modern-2025.01", "modern", scripts)
+        _, modern_stops = compare_shell("modern-2025.01", "modern", scripts)
         compare_random("modern-2025.01", "2025.01", "modern")
     if all(SANDBOXES.values()):
         run_scripts("old", "2025.01", "old", scripts)
         compare_old(scripts)
-        compare_shell("old-2025.01", "old", scripts)
+        _, new_stops = compare_shell("old-2025.01", "old", scripts)
+        figure("stops", "\n".join(table_of_stops(stops, new_stops, modern_stops)))
     # Each row is shown by a difference from a shell.
     shown = {row for it in scripts for row in it.row.values()}
     for row, _ in rows(7):
         holds(f"a script shows the row {row}", row in shown)
-    figure("PROVED.md", r"All runs of \d+ scripts", f"All runs of {len(scripts)} scripts")
+    figure("scripts", str(len(scripts)))
     print(f"compared with U-Boot's shells: {cases['passed']} passed, {cases['failed']} failed")
     return 1 if cases["failed"] else 0
 

@@ -7,7 +7,7 @@
  *   way whether a file is there.
  * - `scripted COUNT DEVICES SHELL` takes the images 1.image, 2.image and so on, and writes to 1.theirs, 2.theirs
  *   a record of each run of bootcmd, in the form of docs/RUNNING.md. A device command beyond the word is taken
- *   to succeed; the next word is the last one that was used up, with its last 0 made 1 and what stood behind
+ *   to succeed; the next word is the last one that was used up, with its last 0 made 1 and what stood after
  *   it left out. So the runs come in dictionary order, each once. Each run is a process of its own, which has
  *   20 seconds. In 1.echoed, 2.echoed and so on the text of each record is what `echo` writes, and no message.
  *   The variables of N.image are set as they stand there; N.imported in its place is read by U-Boot's import.
@@ -62,8 +62,8 @@ enum {
 };
 
 /*
- * A line of the device list. A setting is a name and, behind its end, a value. A `call` line has the words of its
- * pattern behind the name, and what its calls always come to, `0` or `1`, and the name and the first word of the call that
+ * A line of the device list. A setting is a name and, after its end, a value. A `call` line has the words of its
+ * pattern after the name, and what its calls always answer, `0` or `1`, and the name and the first word of the call that
  * they need, if it says so.
  */
 struct device_line {
@@ -186,7 +186,7 @@ static void keep_variables(void)
 	record_size = before;
 }
 
-/* Writes the record with its text behind what the run asked, and takes the text off it again. */
+/* Writes the record with its text after what the run asked, and takes the text off it again. */
 static void write_record(int file, const char *first, const char *bytes, int size, const char *how, const char *status)
 {
 	int before = record_size;
@@ -219,7 +219,7 @@ static void end_run(const char *how, const char *status)
 }
 
 /*
- * Where the record goes on behind the first call that succeeded of those that a line needs; 0 if it needs none, and -1 if none
+ * Where the record goes on after the first call that succeeded of those that a line needs; 0 if it needs none, and -1 if none
  * has succeeded.
  */
 static int met_at(const struct device_line *line)
@@ -248,7 +248,7 @@ static char earlier_answer(int at, int start)
 }
 
 /*
- * Answers a command: by `answer`, unless that is 0, or else, if it is steady, as it was answered behind `from` in the record, or by
+ * Answers a command: by `answer`, unless that is 0, or else, if it is steady, as it was answered after `from` in the record, or by
  * the next digit of the word.
  */
 static int ask(int argc, char *const argv[], bool steady, int from, char answer)
@@ -426,7 +426,7 @@ static struct {
 /*
  * Imports the text of a file by U-Boot's `env import`: with the flags and the names of the call, if it is one of `env import`, and
  * with the address and the size of the text in place of its own. If that call has no size, or `-`, there is none, and the memory
- * behind the text is empty.
+ * after the text is empty.
  */
 static void import_file(const char *file, int argc, char *const argv[])
 {
@@ -578,7 +578,7 @@ static void make_table(void)
 	}
 }
 
-/* Keeps a setting, with an end behind its name. */
+/* Keeps a setting, with an end after its name. */
 static void keep_setting(struct device_line *line, char *word)
 {
 	char **setting = line->settings;
@@ -589,7 +589,7 @@ static void keep_setting(struct device_line *line, char *word)
 	*strchr(word, '=') = '\0';
 }
 
-/* How a command ends the run of which this word stands in front, with a space behind it; NULL if it does not. */
+/* How a command ends the run if the list has this word and a space before its name; NULL if it does not. */
 static const char *ending_of(const char *word)
 {
 	if (!strcmp(word, "final"))
@@ -599,7 +599,7 @@ static const char *ending_of(const char *word)
 	return strcmp(word, "halt") ? NULL : "halted ";
 }
 
-/* Whether a word behind `needs NAME` is no word of the call that is needed. */
+/* Whether a word after `needs NAME` is no word of the call that is needed. */
 static bool begins_clause(const char *word)
 {
 	return ending_of(word) || !strcmp(word, "steady") || !strcmp(word, "always") || !strcmp(word, "runs") ||

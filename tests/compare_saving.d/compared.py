@@ -122,6 +122,12 @@ class Board:
         if self.shell.startswith("modern"):
             Path("modern").touch()
 
+    def put_filled(self, spare, variables, lines="", fails=()):
+        """The same, with a variable beside these that leaves so many bytes of the environment."""
+        self.put({**variables, "filling": b""}, lines, fails)
+        values = {name.encode(): value for name, value in self.start.items() if value is not None}
+        self.put({**variables, "filling": b"f" * (SIZE - 4 - spare - len(entries_of(values)))}, lines, fails)
+
     def fill_card(self):
         """Puts the environment that was put last on the card."""
         Path("card").write_bytes(Path("first").read_bytes().ljust(CARD, b"\0"))
@@ -231,12 +237,15 @@ class Dice:
 
 def compare_random(board):
     """So many random scripts that have an end of boots, with five starts each. ubtool is asked for the names of every other
-    one, and finds those of the others in the texts."""
+    one, and finds those of the others in the texts. Every third has an environment that is nearly full."""
     compared, seed = 0, 0
     while compared < COUNT:
         seed += 1
         variables, lines, fails = Dice(seed).board()
-        board.put(variables, lines, fails)
+        if seed % 3:
+            board.put(variables, lines, fails)
+        else:
+            board.put_filled(seed // 3 % 8, variables, lines, fails)
         if boots_of(board.shell, Dice.names, 0) != ENDLESS:
             board.compare(f"random script {seed}", Dice.names, 5, asked=Dice.names if seed % 2 else ())
             compared += 1
@@ -273,16 +282,21 @@ def compare_slots(board):
 
 
 def compare_room(board):
-    """A value that has just room, and one that has none: then `saveenv` fails, and what was stored stays. (A backslash is stored
-    as two, for which U-Boot counts no room, so none is here.)"""
+    """A value that has just room, and one that has none: then `saveenv` fails, what was stored stays, and the run goes on so. (A
+    backslash is stored as two, for which U-Boot counts no room, so none is here.)"""
     script = b"setenv note 'a=b c'; if saveenv; then bootm; else bootz; fi"
     for spare in range(-2, 3):
-        texts = {**board.own, "bootcmd": script, "note": b"a=b c", "filling": b""}
-        filling = SIZE - 4 - spare - len(entries_of({name.encode(): text for name, text in texts.items()}))
-        board.put({"bootcmd": script, "filling": b"f" * filling}, SAVES)
-        left = board.compare(f"{spare} bytes more than the room that a value takes", ["note"], 2, 1)
+        takes = len(b"note=a=b c\0")
+        board.put_filled(takes + spare, {"bootcmd": script}, SAVES)
+        left = board.compare(f"{spare} bytes more than the room that a value takes", ["note"], 2)
         wanted = "note=a=b\\x20c note=a=b\\x20c" if spare >= 0 else " "
         same(f"{board.shell}, {spare} bytes more: what is left", " ".join(left), wanted)
+    again = b"setenv note abc; if saveenv; then bootm; else setenv note ab; if saveenv; then bootz; else reset; fi; fi"
+    for spare in range(7, 11):
+        board.put_filled(spare, {"bootcmd": again}, SAVES)
+        left = board.compare(f"a shorter value after one without room, in {spare} bytes", ["note"], 2)
+        wanted = "note=abc note=abc" if spare >= 9 else "note=ab note=ab" if spare == 8 else " "
+        same(f"{board.shell}, a shorter value in {spare} bytes: what is left", " ".join(left), wanted)
 
 
 def compare_counter(board):
@@ -308,9 +322,7 @@ def compare_counter(board):
         seen = start.asked[0].split(" ")[3] if start.asked else "-"
         after = (stored() or {}).get(b"bootcount", b"-").decode("latin-1")
         same(f"{board.shell}, counter, {given}", f"{text.get(start.end, start.end)} {seen} {after}", wanted)
-    board.put({**texts, "upgrade_available": b"1", "bootcount": b"9", "filling": b""}, COUNTER)
-    spare = SIZE - 4 - len(entries_of({name.encode(): value for name, value in board.start.items()}))
-    board.put({**texts, "upgrade_available": b"1", "bootcount": b"9", "filling": b"f" * spare}, COUNTER)
+    board.put_filled(0, {**texts, "upgrade_available": b"1", "bootcount": b"9"}, COUNTER)
     left = board.compare("a counter that has no room", ["bootcount"], 2, 1)
     same(f"{board.shell}, a counter that has no room: what is left", " ".join(left), "bootcount=9 bootcount=9")
 

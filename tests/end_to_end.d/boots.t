@@ -127,7 +127,7 @@ what the list says of the start holds in each boot
   ends 1 first 0 fewest 0 0 end 0 next 1
   all 1
 
-an image has room for so much: what it has no room for is not saved
+an image has room for so much: saving what it has no room for fails, without a digit
   $ printf 'bootcmd=setenv note ${note}12345678; saveenv\n' >it.txt
   $ ubtool image --size 80 -o it.img it.txt
   $ printf 'saves saveenv\n' >list
@@ -142,7 +142,27 @@ an image has room for so much: what it has no room for is not saved
   ends 1 first 0 fewest 0 0 end 0 next 4
   boot 4
   var note=123456781234567812345678
-  ends 1 first 0 fewest 0 0 end 0 next 4
+  ends 1 first . fewest 0 . end 1 next 4
+  all 4
+  $ ubtool boots -i it.img -d list --expect 'end 0' | tail -n 4
+  boot 4
+  var note=123456781234567812345678
+  ends 1 first . fewest 0 . end 1 next 4
+  lost 4
+  $ printf 'bootcmd=setenv note ${note}12345678; saveenv || setenv note 1; saveenv\n' >it.txt
+  $ ubtool image --size 92 -o less.img it.txt
+  $ ubtool boots -i less.img -d list --failures 0
+  boot 1
+  ends 1 first 00 fewest 0 00 end 0 next 2
+  boot 2
+  var note=12345678
+  ends 1 first 0 fewest 0 0 end 0 next 3
+  boot 3
+  var note=1
+  ends 1 first 00 fewest 0 00 end 0 next 4
+  boot 4
+  var note=112345678
+  ends 1 first 0 fewest 0 0 end 0 next 3
   all 4
 
 a variable that is not set, and a script that asks in too many states

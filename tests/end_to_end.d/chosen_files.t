@@ -88,7 +88,7 @@ it is the same file in the whole run
   end 0
   done
 
-of three, each but the last is asked about; other lines may come between; the text begins with the status from before the call
+of three, each but the last is asked about; other lines may come between; the text starts with the status from before the call
   $ printf 'setenv a $?\n' >card/three.scr
   $ runs 'false; source x' 'call source x : always 0 runs one.scr' load 'or call source x : runs two.scr' 'call dhcp : runs one.scr' 'or call source x : runs three.scr'
   run 0

@@ -241,7 +241,7 @@ an offset too far
   ! ubtool: e is too short
   [1]
 
-an offset behind the end
+an offset after the end
   $ printf 'e 4096 9\n' >tried.config
   $ ubtool printenv -c tried.config
   ! ubtool: e is too short

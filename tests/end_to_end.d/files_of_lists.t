@@ -193,7 +193,7 @@ the endings and the causes
 
 Variables in a pattern: with the values with which the rehearsal starts.
 
-the word has the value, also with a star behind it; what the script sets later changes no pattern
+the word has the value, also with a star after it; what the script sets later changes no pattern
   $ printf 'setenv a ${a}1\n' >card/boot.cmd
   $ printf 'scriptaddr=0x90\nkernel=0x8\nbootcmd=source $scriptaddr; setenv scriptaddr 1; source 0x90; source 0x85\n' >env.txt
   $ printf '%s\n' 'call source ${scriptaddr} : runs boot.cmd always 0' 'call source ${kernel}* : always 1' >list

@@ -118,7 +118,7 @@ other formats, and a text that is to replace all: nothing is said
   end 0
   done
 
-another command, with settings in their order, and a text that runs behind them
+another command, with settings in their order, and a text that runs after them
   $ printf 'a=1\nb=2\n' >card/uEnv.txt; printf 'setenv c $a$b\n' >card/boot.cmd
   $ runs 'fetch' 'call fetch : a=0 imports uEnv.txt b=@1 b=3 runs boot.cmd always 0'
   run .

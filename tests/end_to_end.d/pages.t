@@ -33,6 +33,9 @@ the contracts of the pages for callers
 what is made of the rows of options
   $ marked "$repository/tools/options" --check
 
+the figures of the pages that files give
+  $ marked "$repository/tools/figures" --check
+
 what docs/MAP.md says of files
   $ marked "$repository/tools/map" --check
 

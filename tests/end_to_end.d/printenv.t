@@ -142,7 +142,7 @@ the image with a wrong checksum
   $ hex bad
   3b 06 98 45 61 3d 31 00 01
 
-names that do not ascend are printed as they stand
+names that do not ascend are printed in their order
   $ printf 'c=1\na=2\nb=3\n' | lines_image order
   $ ubtool printenv -c order.config
   c=1

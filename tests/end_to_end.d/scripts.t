@@ -258,7 +258,7 @@ a kernel
   ! ubtool: damaged.scr: the image is no script
   [1]
 
-bytes behind the image
+bytes after the image
   $ { cat end.scr && echo 'false'; } >longer.scr
   $ ubtool causes --script longer.scr -d reset.list
   cause 0 end 0

@@ -66,7 +66,7 @@ the size of the largest image
   $ stat -c %s largest
   1048576
 
-A file with an image of 16 bytes at offset 5, an empty environment, and 7 bytes behind it.
+A file with an image of 16 bytes at offset 5, an empty environment, and 7 bytes after it.
 
   $ fresh() { { printf 'front' && bytes '6f c6 d5 7b 00 00 00 00 00 00 00 00 00 00 00 00' && printf 'ends.at'; } >e5; }
   $ printf 'e5 0x5 0x10\n' >e5.config
@@ -101,7 +101,7 @@ a value with =
   $ head -c 5 e5; tail -c 7 e5
   frontends.at (no-eol)
 
-a name that begins with -
+a name that starts with -
   $ ubtool setenv -c e5.config -- -x 1
   $ ubtool printenv -c e5.config
   a=b=c
@@ -109,7 +109,7 @@ a name that begins with -
   $ head -c 5 e5; tail -c 7 e5
   frontends.at (no-eol)
 
-a value that begins with -
+a value that starts with -
   $ fresh
   $ ubtool setenv -c e5.config -- x -1 -2
   $ ubtool printenv -c e5.config
@@ -156,7 +156,7 @@ a deleted variable
   $ head -c 5 e5; tail -c 7 e5
   frontends.at (no-eol)
 
-the bytes behind the last NUL are zero
+the bytes after the last NUL are zero
   $ tail -c +10 e5 | head -c 12 | od -An -v -tx1
    78 3d 33 00 00 00 00 00 00 00 00 00
 
@@ -259,13 +259,13 @@ no newline at its end
   $ ubtool printenv -c s.config
   a=1
 
-an = behind the name
+an = after the name
   $ bytes "$zero" >s; printf 'a = 1\n' >changes
   $ ubtool setenv -c s.config -s changes
   $ ubtool printenv -c s.config
   a== 1
 
-blanks in front and behind
+blanks in front and after
   $ bytes "$zero" >s; printf '  k  v \n' >changes
   $ ubtool setenv -c s.config -s changes
   $ ubtool printenv -c s.config
@@ -282,7 +282,7 @@ a name and =
   $ ubtool setenv -c s.config -s changes
   $ ubtool printenv -c s.config
 
-a comment behind a blank deletes
+a comment after a blank deletes
   $ bytes "$zero" >s; printf ' #x\n' >changes
   $ ubtool setenv -c s.config -s changes
   $ ubtool printenv -c s.config

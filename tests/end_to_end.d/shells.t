@@ -267,7 +267,7 @@ a word of profile, in old
   ! ubtool: no run has the word 00
   [1]
 
-`exit` in an `if` and behind it, in modern
+`exit` in an `if` and after it, in modern
   $ script exits 'bootcmd=if load; then exit 3; fi; echo $?; exit 4'
   $ ubtool rehearse -c exits.config -d devices --shell modern z
   run 0

@@ -32,7 +32,7 @@ an empty value deletes
   end 0
   more 0
 
-lines of the start may stand anywhere, and say nothing of commands
+lines of the start may be anywhere, and say nothing of commands
   $ printf 'a=0\nbootcmd=given; before\n' >env.txt
   $ printf 'given a=1\ngiven\nbefore p\nbefore\n' >list
   $ ubtool rehearse --text env.txt -d list --limit 1 a
@@ -192,7 +192,7 @@ of one that is named, and of a list that has no other
   fails load 1
   all 2 states 1
 
-a value that is no word is told as one
+a value that is no word is written as one
   $ call=(causes --failures 0)
   $ runs 'given b=' "given b='x  y'"
   given b=

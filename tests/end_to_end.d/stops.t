@@ -24,7 +24,7 @@ each run ends in its way
   halted poweroff
   more 0110
 
-a listing goes on behind such a run
+a listing goes on after such a run
   $ ubtool rehearse --script boot.cmd -d devices --after 010 --limit 1
   run 0110
   dev 0 load

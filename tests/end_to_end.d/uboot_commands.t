@@ -1,6 +1,6 @@
   $ . "$TESTDIR/../setup"
 
-What calls of U-Boot's commands come to by the lists of share/devices: a call, variables, and the record of its first run after
+What calls of U-Boot's commands do by the lists of share/devices: a call, variables, and the record of its first run after
 its word and what was asked.
 
   $ first_run() {

@@ -1,6 +1,6 @@
 # Of the listing on standard input, each run's word, device commands, variables and last line; the first file is the device list.
-# A command that this calls steady is here once a run: its answer is told again after that, which is no choice. Nor is a call that
-# always comes to the same, which is not here, and one that fails since no call that it needs has succeeded.
+# A command that this calls steady is here once a run: its answer is given again after that, which is no choice. Nor is a call that
+# always has the same answer, which is not here, and one that fails since no call that it needs has succeeded.
 # fits: whether the words of a line `dev` are those of a pattern.
 function fits(pattern,   parts, count, i) {
     count = split(pattern, parts, " ")

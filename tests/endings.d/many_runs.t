@@ -101,7 +101,7 @@ a variable that is asked for is read at the end
   fails load
   all 16384 states 14
 
-Eight hundred states, each with an ending of its own: a state keeps no list of the endings behind it.
+Eight hundred states, each with an ending of its own: a state keeps no list of the endings after it.
 
   $ each 'load || bad%d%.0s;' 800 | sed 's/^/bootcmd=/; $a\' | lines_image apart
   $ (ulimit -v 20480; ubtool endings -c apart.config -d devices) >told; grep -c '^ends 1 ' told; tail -n 1 told
@@ -142,7 +142,7 @@ and so in the last `if`, by each shell
   ends >=340282366920938463463374607431768211455
   all >=340282366920938463463374607431768211455 states 1000
 
-With commands behind that no run comes back to, the states grow by steps with the device commands, and not by their square.
+With commands after it to which no run comes back, the states grow by steps with the device commands, and not by their square.
 
   $ printf '%s\n' 'a=if load; then true; else run b; fi; probe; if bootm; then true; else run b; fi' 'b=dhcp; run a' 'bootcmd=run a' |
   >     lines_image behind

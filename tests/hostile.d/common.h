@@ -50,8 +50,8 @@ struct start {
     char **environment;   /* NULL: none */
     const char *input;    /* NULL: /dev/null */
     off_t room;           /* a file, the output too, takes no more bytes than this */
-    double seconds;       /* the program is ended behind this time */
-    double kill_after;    /* if above 0, SIGKILL behind this time */
+    double seconds;       /* the program is ended after this time */
+    double kill_after;    /* if above 0, SIGKILL after this time */
 };
 
 /* How it ended. */

@@ -1,6 +1,6 @@
-/* cut FOLDER JOBS PROGRAM WORD..: the program's output, a listing, is broken off behind each number of bytes, by a limit
+/* cut FOLDER JOBS PROGRAM WORD..: the program's output, a listing, is broken off after each number of bytes, by a limit
  * on the size of its file. Each time the program must end with status 1 and the line `ubtool: output failed`, and what
- * stands is a front of that length. From the last whole record of it the listing is gone on with by `--after WORD`, or
+ * there is a prefix of that length. From the last whole record of it the listing is gone on with by `--after WORD`, or
  * anew where no record is whole: the kept part and the rest must be the whole listing. JOBS processes share the work. */
 #include "common.h"
 #include <stdio.h>
@@ -30,7 +30,7 @@ static bool is_failed_output(const struct ran *ran) {
     return ran->status == 1 && begins_with(&ran->err, "ubtool: output failed\n") && ran->err.length == 22;
 }
 
-/* Whether all is right where the listing is broken off behind so many bytes. */
+/* Whether all is right where the listing is broken off after so many bytes. */
 static bool is_right(const struct bytes *whole, size_t room) {
     static struct ran broken, rest;
     static struct bytes word;
@@ -50,7 +50,7 @@ static bool is_right(const struct bytes *whole, size_t room) {
 static int work(const struct bytes *whole, size_t job, size_t jobs) {
     for (size_t room = job; room < whole->length; room += jobs) {
         if (!is_right(whole, room)) {
-            printf("FAILED: a listing that was broken off behind %zu bytes\n", room);
+            printf("FAILED: a listing that was broken off after %zu bytes\n", room);
             fflush(stdout);
             return 1;
         }

@@ -2,11 +2,11 @@
  * by JOBS processes at a time: mutated images, configurations, scripts, device lists, boot scripts and words. The seeds
  * are the files of SEEDS; number N is the same input on every machine. Of each run:
  *   - no signal ends it, it takes less than SECONDS (10 where none are given), and its status is 0, 1 or 2;
- *   - nothing stands on the error output where the status is 0; one line `ubtool: ..` where it is 1, or of printenv a
+ *   - nothing is on the error output if the status is 0; one line `ubtool: ..` where it is 1, or of printenv a
  *     line `## Error: "NAME" not defined` for some of its names, in their order, and no other; one line `ubtool: ..`
  *     or the lines of wrong words where it is 2;
  *   - no file is changed but the copy that a setenv with status 0 writes, and its size stays;
- *   - where the status is 2, and behind each refusal but a failed output and want of memory, nothing was printed.
+ *   - where the status is 2, and after each refusal but for a failed output or lack of memory, nothing was printed.
  * Some runs are followed by a second one: a variable that was set is printed, and a listing is broken off and gone on
  * with. Of many inputs, some of each kind must end with status 0. The input of a run that fails one of these stays in
  * FOLDER/failed-N, and the status is then 1. */
@@ -43,7 +43,7 @@ struct input {
     size_t word_count, first_name;
 };
 
-/* What is told at the end, shared by the processes. */
+/* What is reported at the end, shared by the processes. */
 struct tally {
     size_t statuses[KINDS][3], followed[KINDS], failed;
     double longest;
@@ -297,7 +297,7 @@ static void run_words(struct bytes *words, size_t count, bool has_input, struct 
     run(&start, ran);
 }
 
-/* One line that begins so, and nothing behind it. */
+/* One line that begins so, and nothing after it. */
 static bool is_line(const struct bytes *text, const char *front) {
     const unsigned char *end = text->length == 0 ? NULL : memchr(text->data, '\n', text->length);
     return begins_with(text, front) && end == text->data + text->length - 1;
@@ -389,7 +389,7 @@ static const char *fault_of_setting(struct input *input, const struct ran *first
     return ran.status == 0 && are_same(&ran.out, &wanted) ? NULL : "a variable that was set is not printed";
 }
 
-/* A whole listing, broken off at some byte, is gone on with behind its last whole record. */
+/* A whole listing, broken off at some byte, is continued after its last whole record. */
 static const char *fault_of_resuming(struct input *input, const struct ran *first) {
     static struct ran ran;
     static struct bytes kept, word, words[MOST_WORDS];

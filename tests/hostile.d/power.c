@@ -1,8 +1,8 @@
 /* power PROGRAM SHIM FOLDER COUNT [JOBS]: a change of a redundant pair is broken off COUNT times, and each time the pair
  * must load as the environment before it or as the new one, by `ubtool printenv` and, where it is installed, by
  * libubootenv's fw_printenv. The ways, in turn:
- *   - SIGKILL behind a random time;
- *   - SIGKILL behind a random number of bytes written, by the shim of tools/refuse_io.c;
+ *   - SIGKILL after a random time;
+ *   - SIGKILL after a random number of bytes written, by the shim of tools/refuse_io.c;
  *   - some blocks of the new copy alone, of 1 to 512 bytes each, as a device may leave them. Here a whole change comes
  *     before: blocks of two broken changes could make up the first of them, which no checksum can tell.
  * The numbers come from a fixed seed. The pair is changed on in the state that it was left in. */

@@ -1,4 +1,4 @@
-# Compares two files of sections that begin with `== NUMBER`, and prints how many are the same and how many are not; those that
+# Compares two files of sections that start with `== NUMBER`, and prints how many are the same and how many are not; those that
 # are not go to standard error. Usage: awk -f compared.awk WANTED GIVEN
 
 /^== / {

@@ -151,7 +151,7 @@ def is_plain(word):
 
 
 def clauses(words):
-    """What is behind the colon of a line of calls."""
+    """What is after the colon of a line of calls."""
     effect = Effect()
     while words:
         word = words.pop(0)
@@ -172,7 +172,7 @@ def clauses(words):
 
 
 def fits(pattern, words):
-    """Whether the words of a call behind its name fit a pattern."""
+    """Whether the words of a call after its name fit a pattern."""
     if pattern[-1:] == ["**"]:
         pattern, words = pattern[:-1], words[:len(pattern) - 1]
     return len(pattern) == len(words) and all(

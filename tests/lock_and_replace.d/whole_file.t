@@ -111,7 +111,7 @@ a larger file
   $ beside
   nothing else
 
-an environment behind a byte
+an environment after a byte
   $ { printf x && bytes "$single"; } >e; printf 'e 1 9\n' >offset
   $ changes ./fw_setenv -l locks -c offset a 2
   $ hex e

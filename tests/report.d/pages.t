@@ -41,7 +41,7 @@ its pictures
 what is not seen of it
   $ by_part warp7.html limits
   What is not seen
-  This page tells what the script does, by the lists and the environment that it was given. It does not know the board.
+  This page says what the script does, by the lists and the environment that it was given. It does not know the board.
   What is handed over. What these run, or set, is in a file that this page does not have. A script that source runs has a page of its own by --script.
   source 0x83200000:bootscr
   Questions answered both ways. In some run with few failures, one of these is asked again and answered otherwise. If the board cannot do that, say steady of the command in the list, or take --steady.
@@ -210,7 +210,7 @@ texts by a name with a variable in it, and what is warned of
        ^
   $ by_part board.html limits
   What is not seen
-  This page tells what the script does, by the lists and the environment that it was given. It does not know the board.
+  This page says what the script does, by the lists and the environment that it was given. It does not know the board.
   No shell was named. Scripts were read by ubtool's own rules, which are those of no board. --shell names the board's.
   Variables that nothing sets. The texts read them, and neither the environment nor a text sets them, so here they are empty. U-Boot's own code may set them before the script runs.
   x
@@ -310,7 +310,7 @@ without Graphviz
   $ grep -c '<svg' board.html
   0
   [1]
-  $ grep -c 'There are no pictures, since Graphviz or python3 is not installed' board.html
+  $ grep -c 'There are no pictures, since Graphviz or python3 was not installed' board.html
   1
 
 a text by which the shell gives up: no boot
@@ -337,7 +337,7 @@ a board whose script is on the card
   Nothing is said against them.
   $ by_part card.html limits
   What is not seen
-  This page tells what the script does, by the lists and the environment that it was given. It does not know the board.
+  This page says what the script does, by the lists and the environment that it was given. It does not know the board.
   No shell was named. Scripts were read by ubtool's own rules, which are those of no board. --shell names the board's.
   Commands that the board lacks. The device list says of no command that the board does not have it, so each may succeed here.
   What is handed over. What these run, or set, is in a file. This page has the files that the device list names by runs, and no others.
@@ -356,12 +356,14 @@ the boots that follow one another
   $ marked report --text slots.env -d slots.list --boots left --failures 1 -o slots.html
   $ by_part slots.html boots | tee drawn | head -2
   From boot to boot
-  A box is a boot, with what it finds saved otherwise than the first one. A line leads to the boot that follows: green where the board boots, red where it does not, dashed where something fails. Of several ways to it, the one with the fewest failures.
+  A box is a boot, with what it finds saved otherwise than the first one. A line leads to the boot that follows: green if the board boots, red if it does not, dashed if something fails. Of several ways to it, the one with the fewest failures.
   $ for it in left=1 left=0 'boot 3' 'fails saveenv'; do printf '%s: ' "$it"; grep -c "$it" drawn; done
   left=1: 1
   left=0: 1
   boot 3: 1
   fails saveenv: 2
+  $ by_part slots.html limits | grep '^Time'
+  Time, and what others save. A watchdog and a delay are not followed, and from boot to boot only what the script saves.
   $ marked report --text slots.env -d slots.list --failures 1 -o no_slots.html; by_part no_slots.html boots | wc -l
   0
   $ report --text slots.env -d slots.list --boots '' --failures 1 -o all_slots.html; by_part all_slots.html boots | cmp - drawn
