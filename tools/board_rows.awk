@@ -1,4 +1,4 @@
-# What `ubtool endings` tells of a board, as rows of the tables of docs/BOARDS.md. BY_SHELL, OWN and STEADY have for each
+# What `ubtool endings` says of a board, as rows of the tables of docs/BOARDS.md. BY_SHELL, OWN and STEADY have for each
 # alternative of the board its line `given ..` (`given` alone if there is one alternative), what `endings` wrote, and a line
 # `ms N`: by the board's shell, by ubtool's own reading, and by the shell with each answer as it is. VARIABLES is what comes before
 # the runs in a row. Writes PATH.row, PATH.own of what ends otherwise by that reading, and PATH.steady: a row of all alternatives if

@@ -1,5 +1,5 @@
 #!/usr/bin/env python3
-"""The crates of crates.txt, what each stands on, how it is built, and the words for the prover, over the libraries in
+"""The crates of crates.txt, what each depends on, how it is built, and the words for the prover, over the libraries in
 crates/*/out.
 
 Usage: tools/crates.py CRATE: these words for the crate, one a line."""
@@ -34,7 +34,7 @@ def libraries():
 
 
 def below(crate, uses):
-    """The crates of this repository that the crate stands on, and those that these stand on, lowest first."""
+    """The crates of this repository that the crate depends on, and those that these depend on, lowest first."""
     found = {}
     for it in uses[crate]:
         if it in uses:
@@ -43,7 +43,7 @@ def below(crate, uses):
 
 
 def prover_words(crate, uses, jobs=1):
-    """The words for the prover in the folder of a crate: the crate, the libraries that it stands on, and the logic."""
+    """The words for the prover in the folder of a crate: the crate, the libraries that it depends on, and the logic."""
     kit = kit_folder()
     built = {it: f"{ROOT}/crates/{it}/out/rlib" for it in below(crate, uses)}
     root = "main" if os.path.exists(f"{ROOT}/crates/{crate}/src/main.rt") else "lib"
@@ -63,7 +63,7 @@ def provers(memory):
 
 
 class Crate:
-    """A crate: what it stands on, how it is built, and what that took."""
+    """A crate: what it depends on, how it is built, and what that took."""
 
     def __init__(self, name, uses, kit):
         self.name, self.kit, self.all_uses = name, kit, uses
@@ -95,7 +95,7 @@ class Crate:
         return made.hexdigest()
 
     def sum_of_all(self, crates):
-        """A sum of all that the crate is made from. The crates that it stands on are built."""
+        """A sum of all that the crate is made from. The crates that it depends on are built."""
         return self.sum_of_files(*(crates[it].kept_sum for it in self.below))
 
     def commands(self):
@@ -134,7 +134,7 @@ class Crate:
 
     def is_built(self, crates):
         """Whether the crate was built, and all that it is made from is as it was then. It is not asked whether those that
-        it stands on are built."""
+        it depends on are built."""
         made = f"{self.folder}/out/{self.name if self.is_program else f'rlib/{self.name}.rlib'}"
         try:
             return os.path.exists(made) and Path(self.kept_sum).read_text(encoding="utf-8") == self.sum_of_all(crates)

@@ -75,11 +75,11 @@ each_growth() {
         before=$status
     done
     [ "$status" -eq 0 ] || fail "status $status without a refusal"
-    [ "$before" -eq 1 ] || fail 'no growth was refused behind the words'
-    echo "${words[*]:-no words}: $((number - 1)) growths refused in turn, each told as want of memory"
+    [ "$before" -eq 1 ] || fail 'no growth was refused after the words'
+    echo "${words[*]:-no words}: $((number - 1)) growths refused in turn, each reported as out of memory"
 }
 
-# goes_on: the listing that was broken off goes on behind its last record, or anew.
+# goes_on: the listing that was broken off goes on after its last record, or anew.
 goes_on() {
     local after last rest
     after=$(sed -n 's/^run //p' output | tail -n 1)

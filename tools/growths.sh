@@ -58,7 +58,7 @@ script() {
         esac
     done
     [ "$(cat output)" = 'applied: b=5 c=3 d=4 e=6 f=7 g=8 h=9' ] || fail "without a refusal: $(cat output)"
-    [ "$lines" -eq 6 ] || fail "no refusal in the last line, but behind $((lines - 1)) lines"
+    [ "$lines" -eq 6 ] || fail "no refusal in the last line, but after $((lines - 1)) lines"
     echo "$part: $((number - 1)) growths refused in turn: a script stops at its line," \
         'and the lines before it stay, or nothing changes'
 }
@@ -68,7 +68,7 @@ long() {
     number=100000
     ! meets || fail 'it was met'
     printf '%s: 128 runs, 1127 steps\n' plain trail | cmp - output
-    echo "$part: 128 runs behind 1,000 commands, each begun once, in less than 100,000 growths"
+    echo "$part: 128 runs after 1,000 commands, each begun once, in less than 100,000 growths"
 }
 
 [ $# -gt 1 ] || set -- "$1" store calls rehearse script long

@@ -1,9 +1,9 @@
-/* Put before libc by LD_PRELOAD, this refuses one call on files, or lets each move one byte, and tells of each call.
+/* Put before libc by LD_PRELOAD, this refuses one call on files, or lets each move one byte, and reports each call.
  *   REFUSE_CALL=read|write|lseek|open|fsync|close|flock|chmod|chown|rename|unlink, REFUSE_NUMBER=N: the Nth call of that
  *       kind, counted from 1, fails with the error REFUSE_ERROR=EIO|ENOSPC|EINTR|EINVAL|EBUSY|EPERM. A close that is
  *       refused has closed the file.
  *   MOVE_ONE=1: each read and write moves at most one byte.
- *   KILL_AFTER=N: behind N bytes that were written to files (no standard output) the process is ended by SIGKILL.
+ *   KILL_AFTER=N: after N bytes that were written to files (no standard output) the process is ended by SIGKILL.
  *   TELL_CALLS=PATH: a line `KIND FILE` for each call in its order, and `refused KIND FILE` for the refused one. FILE is
  *       the path that was opened, with `<` for reading and `>` for writing before it, or the number of the descriptor; of
  *       a rename the new path.
@@ -134,7 +134,7 @@ ssize_t pread(int file, void *to, size_t size, off_t at) {
     return is_refused("read", name_of(file)) ? -1 : syscall(SYS_pread64, file, to, moved(size), at);
 }
 
-/* Takes what is written to a file from what may still be written, and ends the process behind it. */
+/* Takes what is written to a file from what may still be written, and ends the process after it. */
 static size_t cut(int file, size_t size) {
     return left >= 0 && file > 2 && size > (size_t)left ? (size_t)left : size;
 }

@@ -1,4 +1,4 @@
-# Of C sources: the conditions, the macros without parameters, and the names of U-Boot's commands as strings that begin with @.
+# Of C sources: the conditions, the macros without parameters, and the names of U-Boot's commands as strings that start with @.
 
 FNR == 1 { held = ""; wanted = 0 }
 { line = held $0; held = "" }

@@ -4,7 +4,7 @@ function put_flows(    i, it) {
     if (!states) return
     print "<h2 id=\"flow\">The way there</h2>"
     if (fact["choices"] == "" || system("command -v dot >/dev/null && command -v python3 >/dev/null")) {
-        soft("There are no pictures, since Graphviz or python3 is not installed where this page was made.")
+        soft("There are no pictures, since Graphviz or python3 was not installed when this page was made.")
         return
     }
     para("Of each ending that does not boot: the commands from which a run can still end so, without those after which all goes on" \
@@ -33,11 +33,11 @@ function put_boots() {
     if (fact["boots"] == "-") return
     print "<h2 id=\"boots\">From boot to boot</h2>"
     if (fact["choices"] == "" || system("command -v dot >/dev/null && command -v python3 >/dev/null")) {
-        soft("There is no picture, since Graphviz or python3 is not installed where this page was made.")
+        soft("There is no picture, since Graphviz or python3 was not installed when this page was made.")
         return
     }
-    para("A box is a boot, with what it finds saved otherwise than the first one. A line leads to the boot that follows: green where the" \
-        " board boots, red where it does not, dashed where something fails. Of several ways to it, the one with the fewest failures.")
+    para("A box is a boot, with what it finds saved otherwise than the first one. A line leads to the boot that follows: green if the" \
+        " board boots, red if it does not, dashed if something fails. Of several ways to it, the one with the fewest failures.")
     draw("--fold " quoted(fact["work"] "/boots"), "^  n[0-9]+ \\[")
     if (boxes > 150) soft("The picture would have " boxes " boxes, too many to read.")
     else {

@@ -2,7 +2,7 @@
 
 function put_limits() {
     print "<h2 id=\"limits\">What is not seen</h2>"
-    para("This page tells what the script does, by the lists and the environment that it was given. It does not know the board.")
+    para("This page says what the script does, by the lists and the environment that it was given. It does not know the board.")
     print "<ul class=\"notes\">"
     put_unknown_board()
     put_handed_over()
@@ -10,8 +10,9 @@ function put_limits() {
     put_otherwise()
     put_booted()
     limit("More failures at once", "Causes are those with at most " many(fact["failures"], "failure") ".")
-    limit("Time and the next boot", "A watchdog, a delay, what <code>saveenv</code> stores and what the next boot does with it are" \
-        " not followed.")
+    if (fact["boots"] == "-") limit("Time and the next boot", "A watchdog, a delay, what <code>saveenv</code> stores and what the next" \
+        " boot does with it are not followed.")
+    else limit("Time, and what others save", "A watchdog and a delay are not followed, and from boot to boot only what the script saves.")
     print "</ul>"
 }
 

@@ -1,4 +1,4 @@
-# Reads what ubtool and hushcheck wrote for the page of an environment. Before each file stands its name, as part=NAME.
+# Reads what ubtool and hushcheck wrote for the page of an environment. Before each file comes its name, as part=NAME.
 
 part == "facts" { fact[$1] = substr($0, index($0, "\t") + 1) }
 part == "devices" && $1 == "absent" && NF > 1 { absent++ }

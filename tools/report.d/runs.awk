@@ -1,5 +1,5 @@
 # Of the runs with few failures, in their order: the run of each cause, how many runs end how, and which questions one run
-# answers both ways. Before them come the variables that a run begins with, and what `ubtool causes` wrote.
+# answers both ways. Before them come the variables that a run starts with, and what `ubtool causes` wrote.
 # Writes lines of words with tabs between them: `run CAUSE LINE`, `alone ENDING WORDS` for each run in which one command fails,
 # `count FAILURES ENDING RUNS`, and `both WORDS RUNS`. Of the variables there are those alone that the run has changed, and those
 # that it has deleted, as `unset NAME`.

@@ -11,7 +11,7 @@ match($0, /: /) && $0 !~ /^[ \t]/ {
 at && FNR == at + 1 { line = $0 }
 at && FNR == at + 2 { add(substr(line, index($0, "^"))) }
 
-# add(WORD..): the word that this text begins with, as the parts between its variables.
+# add(WORD..): the word that this text starts with, as the parts between its variables.
 function add(word) {
     sub(/[ \t;&|#].*/, "", word)
     gsub(/["'\\]/, "", word)
