@@ -43,7 +43,7 @@ no_else_word = refl
 count_comment : said (codes "# count a limit b else") ≡ Other
 count_comment = refl
 
--- each name is one that `run` takes as it stands
+-- each name is one that `run` takes as it is
 counter_quoted : said (codes "count 'a' limit b else c") ≡ Faulty
 counter_quoted = refl
 

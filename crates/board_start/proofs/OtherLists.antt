@@ -30,7 +30,7 @@ starts (l ∷ lines) start e =
     let here : said l.1 ≡ Other = is-other (said l.1) both.0 in
     rw (started_by, here) (starts lines start both.1)
 
--- ---- the text stands
+-- ---- the text is the same
 
 abbrev plain : ℕ × Text → Text
 plain l = front l.0 ++ l.1

@@ -72,7 +72,7 @@ before_name = refl
 before_all_bytes : said (codes "before aZ0_-.9") ≡ Before (codes "aZ0_-.9")
 before_all_bytes = refl
 
--- names that `run` does not take as they stand
+-- names that `run` does not take as they are
 before_minus : said (codes "before -a") ≡ Faulty
 before_minus = refl
 
@@ -131,7 +131,7 @@ list_of_all = refl
 list_without : board_of (text_alone (codes "load")) ≡ Ok (record { start = no_start; devices = only load_alone })
 list_without = refl
 
--- a faulty line of the start is a bad line, and the first bad line is told
+-- a faulty line of the start is a bad line, and the first bad line is reported
 faulty_is_bad : board_of (text_alone (codes "load\ngiven a=b c\nload x")) ≡ Err (OfDevices (BadLine 2))
 faulty_is_bad = refl
 
@@ -167,7 +167,7 @@ third_chosen = refl
 last_chosen : chosen of_both 5 ≡ (codes "a", codes "3") ∷ (codes "b", codes "y") ∷ []
 last_chosen = refl
 
--- an alternative is told by the variables that have several values
+-- an alternative is reported by the variables that have several values
 first_line : given_line of_both 0 ≡ codes "given a=1 b=x\n"
 first_line = refl
 
@@ -246,7 +246,7 @@ variable_unset = refl
 none_first : begun (record { givens = []; before = codes "none" ∷ []; counter = None }) None stored (codes "bootcmd") None ≡ Ok (record { environment = stored; saves = false; text = None })
 none_first = refl
 
--- a name that `run` does not take as it stands
+-- a name that `run` does not take as it is
 abbrev odd : List Pair
 odd = (codes "p", codes "true") ∷ (codes "a b", codes "load") ∷ []
 

@@ -1,4 +1,4 @@
--- What a rehearsal begins with, and a board, seen as the definitions have them.
+-- What a rehearsal starts with, and a board, seen as the definitions have them.
 use Rattle.std.specs.Prelude.{option_map}
 use Rattle.board_start.specs.Start as says
 use Rattle.board_start.specs.Boards as boards

@@ -57,7 +57,7 @@ choices (given ∷ givens) = count_of given.1 * choices givens
 abbrev pub most : ℕ
 most = 64
 
--- how many a list has, which is at most that; one more stands for all that are more
+-- how many a list has, which is at most that; one more means all that are more
 abbrev pub alternatives : Start → ℕ
 alternatives start = min (choices start.givens) (most + 1)
 
@@ -126,7 +126,7 @@ varies givens name =
 abbrev pub pair_text : Text × Text → Text
 pair_text given = ascii.space ∷ flat_map word_escaped given.0 ++ ascii.equals ∷ flat_map word_escaped given.1
 
--- the line that tells an alternative: the variables that have several values
+-- the line that names an alternative: the variables that have several values
 abbrev pub given_line : Start → (place : ℕ) → Text
 given_line start place =
     codes "given" ++ flat_map pair_text (filter (λ given. varies start.givens given.0) (chosen start place)) ++ ascii.newline ∷ []
@@ -153,12 +153,12 @@ run_line name = codes "run " ++ name ++ ascii.newline ∷ []
 abbrev pub run_lines : List Text → Text
 run_lines names = flat_map run_line names
 
--- the variable that is rehearsed is run behind them, if it is set and `run` takes its name
+-- the variable that is rehearsed is run after them, if it is set and `run` takes its name
 abbrev pub variable_behind : (front : Text) → (is_set : Bool) → (name : Text) → Result (Option Text) StartError
 variable_behind front false name = Ok None
 variable_behind front true name = if is_plain_name name then Ok (Some (front ++ run_line name)) else Err Name
 
--- and a text that is given stands behind them
+-- and a text that is given is after them
 abbrev pub text_behind : List Pair → (front : Text) → (name : Text) → (text : Option Text) →
     Result (Option Text) StartError
 text_behind environment front name (Some text) = Ok (Some (front ++ text))
@@ -172,7 +172,7 @@ text_behind_all environment (one ∷ more) name text = text_behind environment (
 
 -- ---- the start of a rehearsal
 
--- the environment that a run begins with, whether U-Boot has saved it, and the text that is rehearsed in place of the
+-- the environment that a run starts with, whether U-Boot has saved it, and the text that is rehearsed in place of the
 -- variable's, if there is one
 pub record Begun : Type 0 where
   pub environment : List Pair

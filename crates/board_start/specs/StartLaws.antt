@@ -27,7 +27,7 @@ abbrev pub OtherListsStand : Type 0
 OtherListsStand = (list : ListRead) → list_all (λ l. is_other (said l.1)) (numbered_lines list.text) ≡ true →
     board_of list ≡ board_with no_start (listed_with list.files list.text)
 
--- And then a rehearsal begins with the environment that there is, and with the text that was given.
+-- And then a rehearsal starts with the environment that there is, and with the text that was given.
 abbrev pub NothingIsGiven : Type 0
 NothingIsGiven = (environment : List Pair) (name : Text) (text : Option Text) →
     begun no_start None environment name text ≡ Ok (record { environment = environment; saves = false; text = text })
@@ -38,7 +38,7 @@ NoCounterIsSaid = (text : Text) (start : Start) →
     list_all (λ l. is_none (count_words (words_of l.1))) (numbered_lines text) ≡ true →
     start_of text ≡ Ok start → start.counter ≡ None
 
--- how a rehearsal begins with the variables that are given and the texts that run first alone
+-- how a rehearsal starts with the variables that are given and the texts that run first alone
 abbrev pub begun_uncounted : Start → Result ℕ StartError → List Pair → (name : Text) → (text : Option Text) →
     Result Begun StartError
 begun_uncounted start (Err fault) environment name text = Err fault

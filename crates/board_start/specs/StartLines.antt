@@ -22,7 +22,7 @@ pub data Said : Type 0 where
 
 -- ---- words
 
--- a text cut at its first space or tab: the word, and what is behind the blanks
+-- a text cut at its first space or tab: the word, and what is after the blanks
 abbrev pub cut_word : Text → Text × Text
 cut_word line =
     elim (position is_space line) [ None ↦ (line, []) | Some at ↦ (take at line, cut_front is_space (drop (at + 1) line)) ]
@@ -55,7 +55,7 @@ pair_of rest =
       | Some at ↦ pair_said (take at rest) (value_from false (drop (at + 1) rest))
     ]
 
--- the words behind `given`; without a setting it is the name of a command
+-- the words after `given`; without a setting it is the name of a command
 abbrev pub given_said : (line rest : Text) → Said
 given_said line rest =
     if not (list_any is_equals (cut_word rest).0) then Other else (if has_nul line then Faulty else pair_of rest)
@@ -70,14 +70,14 @@ abbrev pub is_plain_byte : ℕ → Bool
 is_plain_byte b = is_between ascii.small_a ascii.small_z b || is_between ascii.capital_a ascii.capital_z b
     || is_between ascii.digit_zero ascii.digit_nine b || b == ascii.underscore || b == ascii.minus || b == 46
 
--- a name that `run` takes as it stands, in each shell
+-- a name that `run` takes as it is, in each shell
 abbrev pub is_plain_name : Text → Bool
 is_plain_name name = is_variable name && list_all is_plain_byte name
 
 abbrev pub ends_lone : ℕ → Bool
 ends_lone b = is_space b || is_equals b
 
--- the words behind `before`: without one, or with more, or with a setting, it is the name of a command
+-- the words after `before`: without one, or with more, or with a setting, it is the name of a command
 abbrev pub before_said : (rest : Text) → Said
 before_said rest =
     if length rest == 0 || list_any ends_lone rest then Other

@@ -1,4 +1,4 @@
-//! The text that is rehearsed behind those that run first.
+//! The text that is rehearsed after those that run first.
 ghost use Rattle.std.specs.Prelude.{◌≡◌, ◌++◌, IfOk, OnOk};
 ghost use Rattle.std.specs.Option.{option_copied};
 ghost use Rattle.commands.specs.TextsShown.{texts};

@@ -39,7 +39,7 @@ fn space_at(line: &[u8]) -> Option<usize>
     line.iter().position(|byte| is_space(*byte))
 }
 
-/// The first word of a line that begins with no blank, and what is behind the blanks.
+/// The first word of a line that starts with no blank, and what is after the blanks.
 #[tactic(auto, using(crate::proofs::LineLemmas::cuts))]
 fn cut_word(line: &[u8]) -> (&[u8], &[u8])
     ensures { (result.0.now, result.1.now) ≡ cut_word line.now }
@@ -115,7 +115,7 @@ fn are_plain(bytes: &[u8]) -> bool
     true
 }
 
-/// Whether `run` takes a name as it stands, in each shell.
+/// Whether `run` takes a name as it is, in each shell.
 pub(crate) fn is_plain_name(name: &[u8]) -> bool
     ensures { result ≡ is_plain_name name.now }
 {
@@ -159,7 +159,7 @@ fn read_value(alloc: Global, value: &[u8]) -> Result<Option<Vec<u8>>, AllocError
     Ok(Some(bytes))
 }
 
-/// What `NAME=VALUE` says behind `given`. Errors: memory ran out.
+/// What `NAME=VALUE` says after `given`. Errors: memory ran out.
 #[tactic(auto, using(crate::proofs::LineLemmas::cuts))]
 fn pair_of(alloc: Global, rest: &[u8]) -> Result<Said<'_>, AllocError>
     ensures { IfOk result (λ s. said_shown s ≡ pair_of rest.now) }
@@ -177,7 +177,7 @@ fn pair_of(alloc: Global, rest: &[u8]) -> Result<Said<'_>, AllocError>
     Ok(Said::Given { name, value })
 }
 
-/// What the words behind `given` say. Errors: memory ran out.
+/// What the words after `given` say. Errors: memory ran out.
 fn given_said<'a>(alloc: Global, line: &[u8], rest: &'a [u8]) -> Result<Said<'a>, AllocError>
     ensures { IfOk result (λ s. said_shown s ≡ given_said line.now rest.now) }
 {
@@ -198,7 +198,7 @@ fn has_lone_end(rest: &[u8]) -> bool
     rest.iter().any(|byte| is_space(*byte) || *byte == b'=')
 }
 
-/// What the words behind `before` say.
+/// What the words after `before` say.
 fn before_said(rest: &[u8]) -> Said<'_>
     ensures { said_shown result ≡ before_said rest.now }
 {

@@ -43,7 +43,7 @@ impl Model for Start {
     } };
 }
 
-/// What a rehearsal begins with.
+/// What a rehearsal starts with.
 #[derive(Drop)]
 pub struct Begun {
     /// The environment.
@@ -197,7 +197,7 @@ impl Start {
         Ok(pairs)
     }
 
-    /// The line that tells the alternative at this place, from 0 on: `given` and the variables that have
+    /// The line that names the alternative at this place, from 0 on: `given` and the variables that have
     /// several values. Errors: memory ran out.
     pub fn line(&self, place: u32) -> Result<Vec<u8>, AllocError>
         ensures { IfOk result (λ v. v.items ≡ given_line self.now place) }
@@ -242,7 +242,7 @@ impl Start {
         Ok(names)
     }
 
-    /// What a rehearsal of a variable, or of a text, begins with: the environment with the variables of
+    /// What a rehearsal of a variable, or of a text, starts with: the environment with the variables of
     /// the alternative that is named, counted from 1, and with the raised boot counter, if there is one;
     /// and the texts that run first in front. Once the counter has passed its limit, the text of the
     /// variable that the list names for that is rehearsed, whatever is asked for. A list

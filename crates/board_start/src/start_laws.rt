@@ -20,7 +20,7 @@ pub fn no_counter_is_said()
     ensures { NoCounterIsSaid }
 {}
 
-/// Without a boot counter a rehearsal begins with the variables that are given and the texts that run
+/// Without a boot counter a rehearsal starts with the variables that are given and the texts that run
 /// first alone, and U-Boot saves nothing before it.
 #[tactic(auto, using(crate::proofs::CounterLemmas::nothing_is_counted))]
 pub fn nothing_is_counted()

@@ -81,7 +81,7 @@ fn add_words(text: &mut Vec<u8>, words: &[Vec<u8>]) -> Result<(), AllocError>
     }
 }
 
-/// What the line of a device command begins with.
+/// What the line of a device command starts with.
 fn line_start(success: bool) -> &'static [u8]
     ensures { result.now ≡ codes "dev " ++ digit_when success ∷ ascii.space ∷ [] }
 {

@@ -16,7 +16,7 @@ pub struct LogEntry {
     pub words: Vec<Vec<u8>>,
     /// Whether the list says that its answer stays for the rest of the run.
     pub stays: bool,
-    /// Whether it was asked before, and was told that answer again.
+    /// Whether it was asked before, and was given that answer again.
     pub again: bool,
 }
 
@@ -68,7 +68,7 @@ impl LogEntry {
         self.success && begins(&self.words, start)
     }
 
-    /// Whether it has an answer that stays, and was not told it again.
+    /// Whether it has an answer that stays, and was not given it again.
     pub fn has_answer(&self) -> bool
         ensures { result ≡ (not self.now.again && self.now.stays) }
     {

@@ -25,7 +25,7 @@ pub enum TextFound {
     Unset,
     /// The script of the text is run.
     Script(Rc<Script>),
-    /// The shell tells a fault: nothing of the text is run, and the status is 1.
+    /// The shell reports a fault: nothing of the text is run, and the status is 1.
     Fails,
     /// The shell gives up: the board resets or hangs.
     Panics,

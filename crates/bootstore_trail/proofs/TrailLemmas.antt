@@ -89,7 +89,7 @@ outermost-popped : (n : ℕ) (fs : List RunningFrame) → (n < length fs) ⊎ (l
 outermost-popped n [] h = refl
 outermost-popped n (f ∷ fs) h = ⊎_elim (λ less. sym (outermost-cons n f fs (omega arith))) (λ none. absurd (omega arith)) h
 
--- Texts: what is written behind the first bytes does not change them.
+-- Texts: what is written after the first bytes does not change them.
 front-written : (n : ℕ) (text : Option Bytes) (written : Bytes) → n ≤ text_length text → text_front n (text_with written text) ≡ text_front n text
 front-written n None written h = refl
 front-written n (Some t) written h = ap (λ x. Some x) (take-append-le n t written h)

@@ -35,7 +35,7 @@ prefix_of_a_subcommand = refl
 set : computes Env (codes "set" ∷ codes "a" ∷ word (codes "1")) ≡ Some (Sets (codes "a" ∷ word (codes "1")))
 set = refl
 
--- options in front are `-f`; another letter gives status 1; options behind a name are names
+-- options in front are `-f`; another letter gives status 1; options after a name are names
 set_forced : computes Env (codes "set" ∷ codes "-f" ∷ codes "-" ∷ codes "-ff" ∷ word (codes "a")) ≡ Some (Sets (word (codes "a")))
 set_forced = refl
 
@@ -415,7 +415,7 @@ other_text_replaced = refl
 other_text_replaced_everywhere : words_behind (codes "gsub") (codes "a" ∷ codes "b" ∷ word (codes "t")) ≡ None
 other_text_replaced_everywhere = refl
 
--- any other number of words is that of a call with a number: `sub` and `gsub` begin with no digit
+-- any other number of words is that of a call with a number: `sub` and `gsub` start with no digit
 replaced_by_nothing : words_behind (codes "sub") [] ≡ gives_number 0
 replaced_by_nothing = refl
 

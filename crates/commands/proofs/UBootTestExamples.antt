@@ -116,7 +116,7 @@ together_does_not : map says together_not ≡ all_say false together_not
 together_does_not = refl
 
 -- with nothing between them the last term counts, and of several operators the last one; one at the end counts for
--- nothing, and one at the start stands behind what does not hold
+-- nothing, and one at the start is after what does not hold
 abbrev loose : List Text
 loose =
     codes "a = b a = a" ∷ codes "a = a -a" ∷ codes "a = a -o" ∷ codes "-o a = a" ∷ codes "a = a -a -o a = b"

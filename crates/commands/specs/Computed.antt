@@ -173,7 +173,7 @@ abbrev pub setexpr_of : (name : Text) → (a : ℕ) → (operator b : Text) → 
 setexpr_of name a operator b =
     if length operator == 1 then operated name a operator (operand b) else Some (Gives 1)
 
--- by the number of words behind the first operand, which has this number
+-- by the number of words after the first operand, which has this number
 abbrev pub behind_operand : (name first : Text) → (a : ℕ) → List Text → Option Computed
 behind_operand name first a [] = sets_number 1 name (Some a)
 behind_operand name first a (operator ∷ []) = Some (Gives 1)

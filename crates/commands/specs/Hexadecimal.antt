@@ -9,7 +9,7 @@ use Rattle.commands.specs.Verdict.{Text}
 abbrev pub in_word : ℕ → ℕ
 in_word n = n % 2 ^ 64
 
--- the number of the digits in front, behind those of n
+-- the number of the digits in front, after those of n
 abbrev pub read_behind : ℕ → Text → ℕ
 read_behind n [] = n
 read_behind n (b ∷ bytes) =

@@ -40,7 +40,7 @@ newer_exit (word ∷ v ∷ ws) = None
 abbrev pub newer_exit_status : List Text → ℕ
 newer_exit_status words = unwrap_or (newer_exit words) 1
 
--- whether -n-2 is -1 as a number of 32 bits, by which a command tells its usage: it ends nothing then, and its status is 1
+-- whether -n-2 is -1 as a number of 32 bits, by which a command prints its usage: it ends nothing then, and its status is 1
 abbrev pub tells_usage : Text → Bool
 tells_usage word = in_word (leading_number word) % 2 ^ 32 == 4294967295
 

@@ -55,7 +55,7 @@ pub data Term : Type 0 where
   Turns : Term
   -- `-a` or `-o`
   Joins : Joint → Term
-  -- a truth that the words tell
+  -- a truth that the words have
   Finds : Bool → Term
   -- whether a file is there: its interface, its part and its path
   Asks : (file : List Text) → Term
@@ -100,7 +100,7 @@ begins (first ∷ second ∷ words) =
 
 -- ---- the whole
 
--- the terms from the left, after so many words that are passed; nothing is read behind words that U-Boot cannot read
+-- the terms from the left, after so many words that are passed; nothing is read after words that U-Boot cannot read
 abbrev pub terms_behind : ℕ → List Text → List Term
 terms_behind passed [] = []
 terms_behind (suc passed) (word ∷ words) = terms_behind passed words

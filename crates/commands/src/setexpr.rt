@@ -111,7 +111,7 @@ fn setexpr_of<'a>(name: &'a [u8], left: u64, operator: &[u8], right: &[u8]) -> O
     sets_number(0, name, calculated(operator, left, right))
 }
 
-/// What `setexpr` does with the words behind its first operand, which has this number.
+/// What `setexpr` does with the words after its first operand, which has this number.
 fn behind_operand<'a>(
     name: &'a [u8],
     first: &[u8],
@@ -129,7 +129,7 @@ fn behind_operand<'a>(
     }
 }
 
-/// What `setexpr` does with its name, its first operand and the words behind it. U-Boot calls it
+/// What `setexpr` does with its name, its first operand and the words after it. U-Boot calls it
 /// with at most seven words.
 fn with_operand<'a>(name: &'a [u8], first: &[u8], behind: &[Vec<u8>]) -> Option<Computed<'a>>
     ensures { call_shown result ≡ says.with_operand name.now first.now (texts behind.now) }

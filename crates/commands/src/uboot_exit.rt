@@ -72,7 +72,7 @@ pub fn newer_exit_status(words: &[Vec<u8>]) -> u8
     newer_exit(words).unwrap_or(1)
 }
 
-/// Whether `exit` with a word tells its usage in 2025.01, which it does by the number -1 in 32 bits.
+/// Whether `exit` with a word prints its usage in 2025.01, which it does by the number -1 in 32 bits.
 fn tells_usage(word: &[u8]) -> bool
     ensures { result ≡ says.tells_usage word.now }
 {
@@ -80,7 +80,7 @@ fn tells_usage(word: &[u8]) -> bool
 }
 
 /// Whether the words of an `exit` of 2025.01 are followed: they name no number above 255, or one by which
-/// `exit` tells its usage.
+/// `exit` prints its usage.
 pub fn follows_exit(words: &[Vec<u8>]) -> bool
     ensures { result ≡ says.follows_exit (bytes_of_words words.now) }
 {

@@ -22,7 +22,7 @@ enum Term<'a> {
     Turns,
     /// How the next truth goes together with what was found before.
     Joins(Joint),
-    /// A truth that the words tell.
+    /// A truth that the words have.
     Finds(bool),
     /// Whether a file is there: its interface, its part and its path.
     Asks(&'a [Vec<u8>]),
@@ -77,7 +77,7 @@ fn asks(words: &[Vec<u8>]) -> Option<(Term<'_>, usize)>
     Some((Term::Asks(&words[..3]), 3))
 }
 
-/// The term that begins with the first word, and how many words it takes after that.
+/// The term that starts with the first word, and how many words it takes after that.
 fn begins_with<'a>(first: &[u8], words: &'a [Vec<u8>]) -> Option<(Term<'a>, usize)>
     ensures { begun_shown result ≡ says.begins_with first.now (texts words.now) }
 {

@@ -54,7 +54,7 @@ built_in_name = refl
 
 -- ---- clauses
 
--- how a success ends the run stands once
+-- how a success ends the run is said once
 ends_once : map (λ line. listed line) (codes "call go : restart" ∷ codes "call go : halt" ∷ codes "call go : restart restart" ∷ codes "call go : final halt" ∷ [])
     ≡ Ok (one (codes "go") alone (record quiet { ends = Some Restarts })) ∷ Ok (one (codes "go") alone (record quiet { ends = Some Halts })) ∷ Err (BadLine 1) ∷ Err (BadLine 1) ∷ []
 ends_once = refl
@@ -137,7 +137,7 @@ normal_in_any_order : map (λ line. listed line) (codes "call tftp ** : normal 1
     ≡ (let list = Ok (one (codes "tftp") any (record quiet { ends = Some Boots; stays = true; normal = true })) in list ∷ list ∷ list ∷ [])
 normal_in_any_order = refl
 
--- also behind the name of a call that is needed
+-- also after the name of a call that is needed
 normal_behind_needs : map (λ line. listed line) (codes "call boot ** : needs load normal 1" ∷ codes "call boot ** : needs load mmc normal 1" ∷ [])
     ≡ Ok (needing (record quiet { normal = true }) (codes "load" ∷ [])) ∷ Ok (needing (record quiet { normal = true }) (codes "load" ∷ codes "mmc" ∷ [])) ∷ []
 normal_behind_needs = refl

@@ -345,7 +345,7 @@ known_line = refl
 known_beside_its_lines : listed (codes "env\nknown env\nsub env default") ≡ Ok (record { commands = (codes "env", quiet) ∷ []; subs = (codes "env", (codes "default", quiet) ∷ []) ∷ []; calls = []; known = codes "env" ∷ []; test_stays = false; choices = []; files = [] })
 known_beside_its_lines = refl
 
--- no other command is computed, and a `known` line has nothing behind the name
+-- no other command is computed, and a `known` line has nothing after the name
 known_other : listed (codes "known load") ≡ Err (BadLine 1)
 known_other = refl
 

@@ -63,6 +63,6 @@ steady_files = refl
 names_files : named_files (codes "call source ** : runs boot.scr\nload\ncall go a : a=1 runs b.scr\n# call go : runs c.scr\ncall x : runs boot.scr") ≡ codes "boot.scr" ∷ codes "b.scr" ∷ codes "boot.scr" ∷ []
 names_files = refl
 
--- only behind the first `:` of a line of calls, and only behind `runs`
+-- only after the first `:` of a line of calls, and only after `runs`
 names_none : named_files (codes "call runs a : steady\nruns a\nabsent runs\ncall a runs b\ncall go : runs\nstart : runs a") ≡ []
 names_none = refl

@@ -38,7 +38,7 @@ comments : map read (codes "# a=1\n \t#b=1\n \tc=1 \nd = #1" ∷ codes "#" ∷ c
     ≡ Some (is (codes "c") (codes "1 ") ∷ is (codes "d ") (codes " #1") ∷ []) ∷ Some [] ∷ Some [] ∷ []
 comments = refl
 
--- in a value a backslash makes the byte behind it one of the value, a newline too
+-- in a value a backslash makes the byte after it one of the value, a newline too
 escapes : read (codes "a=1\\\n2\nb=\\#\\=\\\\\nc=3\\") ≡ Some (is (codes "a") (codes "1\n2") ∷ is (codes "b") (codes "#=\\") ∷ is (codes "c") (codes "3\\") ∷ [])
 escapes = refl
 

@@ -69,7 +69,7 @@ module _ (number : ℕ) where
       by false false true p q r f = one (codes "halt") (call_is_bad None (codes "halt") second words refl none) r
       by false false false p q r f = cc
 
--- what stands in front of a command says how it ends the run
+-- what is in front of a command says how it ends the run
 pub finish_parts : (finish : BoardEnd) (first second : Text) → finish_before first second ≡ Some finish → (finish_named first ≡ Some finish) × (list_any is_equals second ≡ false)
 finish_parts finish first second e = by (finish_named first) (list_any is_equals second) e
   where

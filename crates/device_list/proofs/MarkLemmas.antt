@@ -1,4 +1,4 @@
--- Device lists that begin with no byte order mark.
+-- Device lists that start with no byte order mark.
 use Rattle.std.proofs.Common.{◌≡◌, Bool, true, false, [], Result, Ok, Err, refl, sym, ◌∙◌}
 use Rattle.std.specs.Prelude.{if◌then◌else◌}
 use Rattle.text.specs.Lines.{numbered_lines}

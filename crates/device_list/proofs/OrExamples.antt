@@ -35,7 +35,7 @@ three_files : listed_with card (codes "call source ** : runs a.scr\nor call sour
     ≡ Ok (record (with_files card) { calls = (codes "source", (any, runs (codes "a.scr" ∷ codes "b.scr" ∷ codes "c.scr" ∷ [])) ∷ []) ∷ (codes "runs", asks (codes "a.scr") ∷ asks (codes "b.scr") ∷ []) ∷ []; choices = codes "a.scr" ∷ codes "b.scr" ∷ [] })
 three_files = refl
 
--- the line before may say more, and lines about other commands may stand between; the last line of the name goes on
+-- the line before may say more, and lines about other commands may be between; the last line of the name goes on
 among_others : listed_with card (codes "call source x : runs c.scr\ncall source y* * : steady runs a.scr\nload\n or  call source y* * :  runs b.scr")
     ≡ Ok (record (with_files card) {
       commands = (codes "load", quiet) ∷ [];

@@ -39,7 +39,7 @@ not_below ws at l = ap (λ (n : ℕ). nat_le n at) (length_now ws) ∙ by (nat_l
 pub rest_is : (ws : List (Bor Text)) (n : ℕ) → take (length ws - n) (drop n ws) ≡ drop n ws
 rest_is ws n = take_all (length ws - n) (drop n ws) (let e = length-drop n ws in omega (arith, e))
 
--- the words behind the `:`
+-- the words after the `:`
 pub clauses_at : (ws : List (Bor Text)) (words : List Text) (at : ℕ) → bytes_of ws ≡ words → at ≡ colon_place (bytes_of ws) → bytes_of (take (length ws - (at + 1)) (drop (at + 1) ws)) ≡ clause_words words
 clauses_at ws words at are place =
     ap bytes_of (rest_is ws (at + 1))

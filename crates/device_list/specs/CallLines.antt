@@ -117,8 +117,8 @@ filled_line values line = (filled_pattern values line.0, line.1)
 
 -- ---- the clauses of a line
 
--- the clauses so far, and what the next word may be: a clause; the `0` or the `1` behind `always`; the name behind `needs`;
--- the word behind that name, if it is no clause; the `1` behind `normal`; or the name of a file behind `runs` or `imports`
+-- the clauses so far, and what the next word may be: a clause; the `0` or the `1` after `always`; the name after `needs`;
+-- the word after that name, if it is no clause; the `1` after `normal`; or the name of a file after `runs` or `imports`
 pub record Clauses : Type 0 where
   pub effect : Effect
   pub awaited : Awaited
@@ -156,7 +156,7 @@ is_saving set = saves_side set.0
 abbrev pub with_saving : Clauses → Clauses
 with_saving clauses = record clauses { effect = record clauses.effect { sets = clauses.effect.sets ++ (Saving, Deleted) ∷ [] } }
 
--- a clause that stands at most once
+-- a clause that is at most once
 abbrev pub once : (before : Bool) → (after : Clauses) → Option Clauses
 once true after = None
 once false after = Some after
@@ -168,11 +168,11 @@ with_expected clauses (Some true) = None
 with_expected clauses (Some false) =
     Some (record { effect = record clauses.effect { normal = true }; awaited = Clause })
 
--- `always` and `normal`, of which one stands once: an answer that is always the same takes no outcome
+-- `always` and `normal`, of which one is there once: an answer that is always the same takes no outcome
 abbrev pub has_answer : Effect → Bool
 has_answer effect = is_some effect.always || effect.normal
 
--- how a success goes on stands once: it ends the run, or the text of a file runs
+-- how a success goes on is said once: it ends the run, or the text of a file runs
 abbrev pub is_decided : Effect → Bool
 is_decided effect = is_some effect.ends || not (length effect.runs == 0)
 
@@ -204,7 +204,7 @@ is_clause_word word = is_some (finish_named word)
 abbrev pub has_special : (word : Text) → Bool
 has_special word = list_any is_star word || (list_any is_quote word || list_any is_equals word)
 
--- whether a word may stand behind `needs`: it is no clause and no `:`, and has no star and no quote
+-- whether a word may be after `needs`: it is no clause and no `:`, and has no star and no quote
 abbrev pub is_plain : (word : Text) → Bool
 is_plain word = not (is_clause_word word) && (not (is_colon word) && not (has_special word))
 
@@ -334,7 +334,7 @@ absent_words words = words ++ codes "**" ∷ codes ":" ∷ codes "always" ∷ co
 abbrev pub saves_words : (words : List Text) → List Text
 saves_words words = words ++ codes "**" ∷ codes ":" ∷ codes "saves" ∷ []
 
--- the words behind `call`, or behind `or call`
+-- the words after `call`, or after `or call`
 abbrev pub words_said : (line first : Text) → (words : List Text) → List Text
 words_said line first words =
     if bytes_eq first (codes "call") then drop 1 (quoted_words line)

@@ -145,7 +145,7 @@ steady_of ends first (second ∷ words) =
     else call_of ends false first (second ∷ words)
 
 -- A first word `final`, `restart` or `halt` says that the rest of the line is a command that ends the run so, if a word
--- without `=` follows. For a steady command it stands in front of `steady`.
+-- without `=` follows. For a steady command it is in front of `steady`.
 abbrev pub unless_setting : (second : Text) → Option BoardEnd → Option BoardEnd
 unless_setting second None = None
 unless_setting second (Some finish) = if list_any is_equals second then None else Some finish

@@ -18,7 +18,7 @@ use Rattle.device_list.specs.declared.setting.Reading.TheVariants.{Both, WithRet
 abbrev pub Entry : Type 0
 Entry = Text × Option Text
 
--- the entries so far; where in an entry the next byte stands, and the name and the value that it has so far; and whether each
+-- the entries so far; where in an entry the next byte is, and the name and the value that it has so far; and whether each
 -- entry with a value has a name
 pub record Entries : Type 0 where
   pub done : List Entry
@@ -71,11 +71,11 @@ named b s =
     if is_newline b then closed s
     else (if is_equals b then in_part Value s else record s { part = Name; name = s.name ++ b ∷ [] })
 
--- Blanks in front of an entry are dropped. One that begins with `#` is a comment.
+-- Blanks in front of an entry are dropped. One that starts with `#` is a comment.
 abbrev pub begun : ℕ → Entries → Entries
 begun b s = if is_space b then in_part Blanks s else (if b == ascii.hash then in_part Comment s else named b s)
 
--- in a comment and in a name a backslash is a byte as any other; in a value it takes what it means from the byte behind it
+-- in a comment and in a name a backslash is a byte as any other; in a value it takes what it means from the byte after it
 abbrev pub byte_in : Part → ℕ → Entries → Entries
 byte_in Start b s = begun b s
 byte_in Blanks b s = begun b s
@@ -96,13 +96,13 @@ is_start Name = false
 is_start Value = false
 is_start Escape = false
 
--- no entry begins behind so many bytes, but one may end there
+-- no entry begins after so many bytes, but one may end there
 abbrev pub read_from : (room : ℕ) → Entries → Text → Entries
 read_from room s [] = s
 read_from zero s (b ∷ bytes) = if is_start s.part then s else read_from zero (with_byte b s) bytes
 read_from (suc room) s (b ∷ bytes) = read_from room (with_byte b s) bytes
 
--- at the end of the text a backslash stands for itself
+-- at the end of the text a backslash means itself
 abbrev pub last_in : Part → Entries → Entries
 last_in Escape s = closed (valued ascii.backslash s)
 last_in part s = closed s
@@ -131,7 +131,7 @@ without_returns (b ∷ c ∷ bytes) =
 abbrev pub moved_entries : (room : ℕ) → (kept : Text) → Text → Option (List Entry)
 moved_entries room kept text = entries_in room (kept ++ drop (length kept) text)
 
--- Without a size U-Boot takes the bytes up to a newline and a NUL, of which none is behind the text.
+-- Without a size U-Boot takes the bytes up to a newline and a NUL, of which none is after the text.
 abbrev pub ends_line : Text → Bool
 ends_line text = bytes_eq (drop (length text - 1) text) (codes "\n")
 
@@ -177,7 +177,7 @@ abbrev pub is_flag : (word : Text) → Bool
 is_flag [] = false
 is_flag (b ∷ bytes) = b == ascii.minus
 
--- the words behind `import`; a call that has it not as its first word reads the whole text without `-r`
+-- the words after `import`; a call that has it not as its first word reads the whole text without `-r`
 abbrev pub behind_import : List Text → List Text
 behind_import [] = []
 behind_import (word ∷ words) = if bytes_eq word (codes "import") then words else []
@@ -205,7 +205,7 @@ abbrev pub behind_flags : List Text → List Text
 behind_flags [] = []
 behind_flags (word ∷ words) = if is_flag word then behind_flags words else word ∷ words
 
--- the names behind the address and the size: only these are set, if there are any
+-- the names after the address and the size: only these are set, if there are any
 abbrev pub names_asked : List Text → List Text
 names_asked words = drop 2 (behind_flags words)
 
@@ -220,7 +220,7 @@ is_of WithReturns option named = not option
 is_of WithoutReturns option named = option && named
 is_of Unsized option named = option && not named
 
--- whether the word behind the address is a size, and not a `-` in its place
+-- whether the word after the address is a size, and not a `-` in its place
 abbrev pub names_size : (behind : List Text) → Bool
 names_size [] = false
 names_size (address ∷ []) = false

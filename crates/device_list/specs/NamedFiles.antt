@@ -23,7 +23,7 @@ named_in word =
 abbrev pub names_file : (word : Text) → Bool
 names_file word = bytes_eq word (codes "runs") || bytes_eq word (codes "imports")
 
--- the word behind each of these, and the files of sizes; `behind` says whether one is in front of the first word
+-- the word after each of these, and the files of sizes; `behind` says whether one is in front of the first word
 abbrev pub files_behind : (behind : Bool) → List Text → List Text
 files_behind behind [] = []
 files_behind true (word ∷ words) = word ∷ files_behind false words
@@ -35,7 +35,7 @@ says_call [] = false
 says_call (first ∷ words) =
     not (begins_comment first) && ((bytes_eq first (codes "call") || bytes_eq first (codes "or")) && is_call first words)
 
--- the words of such a line behind its first `:`
+-- the words of such a line after its first `:`
 abbrev pub clause_words : List Text → List Text
 clause_words words = drop (colon_place words + 1) words
 

@@ -38,7 +38,7 @@ plain_lines names (l ∷ lines) =
 abbrev pub plain_names : Text → Result (List Text) DevicesError
 plain_names text = plain_lines [] (numbered_lines text)
 
--- Every list that the plain form accepts is accepted if it begins with no byte order mark, with the same names; none is
+-- Every list that the plain form accepts is accepted if it starts with no byte order mark, with the same names; none is
 -- final, and none sets a variable.
 abbrev pub PlainListsStand : Type 0
 PlainListsStand = (text : Text) (names : List Text) → is_marked text ≡ false → plain_names text ≡ Ok names →

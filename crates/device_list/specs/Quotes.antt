@@ -12,7 +12,7 @@ abbrev pub onto_first : ℕ → List Text → List Text
 onto_first b [] = (b ∷ []) ∷ []
 onto_first b (piece ∷ pieces) = (b ∷ piece) ∷ pieces
 
--- the pieces of a line between the blanks that stand in no quotes
+-- the pieces of a line between the blanks that are in no quotes
 abbrev pub pieces : (quoted : Bool) → (line : Text) → List Text
 pieces quoted [] = [] ∷ []
 pieces true (b ∷ line) = onto_first b (pieces (not (is_quote b)) line)

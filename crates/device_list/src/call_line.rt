@@ -174,7 +174,7 @@ fn call_line<'a>(
     call_parts(alloc, files, number, &words[..at], &words[at + 1..])
 }
 
-/// The words of the line `call` that a line `absent` stands for.
+/// The words of the line `call` that a line `absent` means.
 fn absent_words<'a>(alloc: Global, words: &[&'a [u8]]) -> Result<Vec<&'a [u8]>, AllocError>
     ensures { IfOk result (λ all. map (λ w. w.now) all.items
         ≡ absent_words (map (λ w. w.now) words.now)) }
@@ -187,7 +187,7 @@ fn absent_words<'a>(alloc: Global, words: &[&'a [u8]]) -> Result<Vec<&'a [u8]>, 
     Ok(all)
 }
 
-/// The words of the line `call` that a line `saves` stands for.
+/// The words of the line `call` that a line `saves` means.
 fn saves_words<'a>(alloc: Global, words: &[&'a [u8]]) -> Result<Vec<&'a [u8]>, AllocError>
     ensures { IfOk result (λ all. map (λ w. w.now) all.items
         ≡ saves_words (map (λ w. w.now) words.now)) }

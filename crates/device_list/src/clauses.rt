@@ -23,17 +23,17 @@ use std::alloc::{AllocError, Global};
 pub(crate) enum Awaited {
     /// A clause.
     Clause,
-    /// The `0` or the `1` behind `always`.
+    /// The `0` or the `1` after `always`.
     Status,
-    /// The name behind `needs`.
+    /// The name after `needs`.
     Name,
-    /// The word behind that name, if it is no clause.
+    /// The word after that name, if it is no clause.
     FirstWord,
-    /// The `1` behind `normal`.
+    /// The `1` after `normal`.
     Expected,
-    /// The name of a file behind `runs`.
+    /// The name of a file after `runs`.
     File,
-    /// The name of a file behind `imports`.
+    /// The name of a file after `imports`.
     Import,
 }
 
@@ -75,14 +75,14 @@ fn is_clause_word(word: &[u8]) -> bool
         || word == b"saves".as_slice()
 }
 
-/// Whether a word has a byte that no word behind `needs` has.
+/// Whether a word has a byte that no word after `needs` has.
 fn has_special(word: &[u8]) -> bool
     ensures { result ≡ has_special word.now }
 {
     has_star(word) || has_quote(word) || has_equals(word)
 }
 
-/// Whether a word may stand behind `needs`.
+/// Whether a word may be after `needs`.
 fn is_plain(word: &[u8]) -> bool
     ensures { result ≡ is_plain word.now }
 {
@@ -212,7 +212,7 @@ impl Clauses {
         Ok(())
     }
 
-    /// Takes the name behind `needs`, if it is one that may stand there.
+    /// Takes the name after `needs`, if it is one that may be there.
     fn add_name(&mut self, alloc: Global, word: &[u8]) -> Result<bool, AllocError>
         ensures { IfOk result (IsTaken (with_name (clauses_shown self.old) word.now) (clauses_shown self.new)) }
     {
@@ -223,7 +223,7 @@ impl Clauses {
         Ok(true)
     }
 
-    /// Takes the word behind that name, or else a word that begins a clause.
+    /// Takes the word after that name, or else a word that begins a clause.
     fn add_first_word(
         &mut self,
         alloc: Global,

@@ -18,7 +18,7 @@ pub fn names_are_quiet()
 {}
 
 /// Every list in the plain form, which has one name on each line and comments and empty lines
-/// between, is accepted with the same names, if it begins with no byte order mark. None of them is
+/// between, is accepted with the same names, if it starts with no byte order mark. None of them is
 /// final, and none sets a variable.
 #[tactic(auto, using(crate::proofs::PlainLists::plain_lists_stand))]
 pub fn plain_lists_stand()

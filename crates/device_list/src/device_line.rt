@@ -103,7 +103,7 @@ fn steady_of<'a>(ends: Option<BoardEnd>, first: &'a [u8], behind: &'a [&'a [u8]]
     }
 }
 
-/// How the first word says that the command behind it ends the run, if a word without `=` follows.
+/// How the first word says that the command after it ends the run, if a word without `=` follows.
 fn finish_before(first: &[u8], second: &[u8]) -> Option<BoardEnd>
     ensures { result ≡ finish_before first.now second.now }
 {

@@ -73,18 +73,18 @@ impl Devices {
     /// with blanks in them. `absent NAME` is `call NAME ** : always 1`, and `saves NAME` is `call NAME ** :
     /// saves`: on success, after its settings, the call saves the environment. Spaces, tabs and carriage returns
     /// round a line are dropped; spaces and tabs separate its words. Lines without a word, and lines that
-    /// begin with `#`, are skipped. The first word is the name, unless it is `final` or `steady` and a word
+    /// start with `#`, are skipped. The first word is the name, unless it is `final` or `steady` and a word
     /// without `=` follows, or `sub` and two such words follow. Each further word is a setting: a variable,
     /// the first `=`, and a value that may be empty. In a `sub` line, `@N` and `@last` stand for the
     /// variable that the Nth or the last word of the call names. Lines of one name, and `sub` lines of one
     /// name and word, are joined: final if one of them is, steady if one of them is, settings in their
     /// order.
     ///
-    /// A list that begins with UTF-8's byte order mark is refused for it: `ByteOrderMark`. Otherwise the
+    /// A list that starts with UTF-8's byte order mark is refused for it: `ByteOrderMark`. Otherwise the
     /// first faulty line is refused: `BadLine` where it holds NUL, or a further word has no `=`, an empty
-    /// variable, one that begins with `-`, or in a `sub` line one that begins with `@` and is no word of
+    /// variable, one that starts with `-`, or in a `sub` line one that starts with `@` and is no word of
     /// the call; in a line of calls, where a clause is none or is there twice, a quote is not closed or
-    /// stands in no value, the name is missing or holds `*`, `needs` has no name behind it, `normal` no
+    /// is in no value, the name is missing or holds `*`, `needs` has no name after it, `normal` no
     /// `1`, `runs` no file, both `always` and `normal` are there, or `**` is not last; else `BuiltIn` where
     /// its name is that of a built-in command.
     pub fn parse(alloc: Global, text: &[u8]) -> Result<Self, DevicesError>

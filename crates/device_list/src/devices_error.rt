@@ -12,7 +12,7 @@ pub enum DevicesError {
     /// The line names a built-in command.
     #[error("device list line {0}: built-in command")]
     BuiltIn(usize),
-    /// The first line begins with UTF-8's byte order mark.
+    /// The first line starts with UTF-8's byte order mark.
     #[error("device list line 1: byte order mark")]
     ByteOrderMark,
     /// Memory ran out.

@@ -11,7 +11,7 @@ use crate::setting::{equals_at, sized_file};
 use std::alloc::{AllocError, Global};
 use text::Lines;
 
-/// Whether a file is named behind a word.
+/// Whether a file is named after a word.
 fn names_file(word: &[u8]) -> bool
     ensures { result ≡ names_file word.now }
 {
@@ -39,7 +39,7 @@ fn add_named_in(alloc: Global, names: &mut Vec<Vec<u8>>, word: &[u8]) -> Result<
     Ok(())
 }
 
-/// Adds the word behind each `runs` and `imports`, and the files of sizes. Errors: memory ran out.
+/// Adds the word after each `runs` and `imports`, and the files of sizes. Errors: memory ran out.
 fn add_files(alloc: Global, names: &mut Vec<Vec<u8>>, words: &[&[u8]]) -> Result<(), AllocError>
     ensures { OnOk result (texts names.new.items
         ≡ texts names.old.items ++ files_behind false (map (λ w. w.now) words.now)) }
@@ -94,7 +94,7 @@ fn add_line(alloc: Global, names: &mut Vec<Vec<u8>>, line: &[u8]) -> Result<(), 
 }
 
 /// The files that the lines of a list name, in order, whether the lines are faulty or not: the word
-/// behind each `runs` and each `imports`, and the files of sizes. Errors: memory ran out.
+/// after each `runs` and each `imports`, and the files of sizes. Errors: memory ran out.
 pub fn named_files(alloc: Global, text: &[u8]) -> Result<Vec<Vec<u8>>, AllocError>
     ensures { IfOk result (λ names. texts names.items ≡ named_files text.now) }
 {

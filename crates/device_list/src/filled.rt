@@ -23,7 +23,7 @@ fn name_in(text: &[u8]) -> Option<&[u8]>
     None
 }
 
-/// The value that stands for a word, if it names a variable that has one.
+/// The value that means a word, if it names a variable that has one.
 fn value_for<'a>(text: &[u8], env: &'a Env) -> Option<&'a [u8]>
     ensures { option_bytes result ≡ value_for (value_of env.now) text.now }
 {

@@ -13,7 +13,7 @@ pub enum BoardEnd {
     Halts,
 }
 
-/// How a command ends the run by the word that stands in front of it, if this word says so.
+/// How a command ends the run by the word that is in front of it, if this word says so.
 pub(crate) fn finish_named(word: &[u8]) -> Option<BoardEnd>
     ensures { result ≡ finish_named word.now }
 {

@@ -17,7 +17,7 @@ fn is_flag(word: &[u8]) -> bool
     }
 }
 
-/// The words behind `import`.
+/// The words after `import`.
 fn behind_import(words: &[Vec<u8>]) -> &[Vec<u8>]
     ensures { texts result.now ≡ spec.behind_import (texts words.now) }
 {
@@ -49,7 +49,7 @@ fn has_letter(words: &[Vec<u8>], letter: u8) -> bool
     false
 }
 
-/// The words behind the flags.
+/// The words after the flags.
 fn behind_flags(words: &[Vec<u8>]) -> &[Vec<u8>]
     ensures { texts result.now ≡ spec.behind_flags (texts words.now) }
 {
@@ -63,7 +63,7 @@ fn behind_flags(words: &[Vec<u8>]) -> &[Vec<u8>]
     left
 }
 
-/// The names behind the address and the size.
+/// The names after the address and the size.
 fn names_asked(words: &[Vec<u8>]) -> &[Vec<u8>]
     ensures { texts result.now ≡ spec.names_asked (texts words.now) }
 {
@@ -92,7 +92,7 @@ fn is_of(reading: Reading, option: bool, named: bool) -> bool
     }
 }
 
-/// Whether the word behind the address is a size, and not a `-` in its place.
+/// Whether the word after the address is a size, and not a `-` in its place.
 fn names_size(behind: &[Vec<u8>]) -> bool
     ensures { result ≡ spec.names_size (texts behind.now) }
 {

@@ -14,12 +14,12 @@ use std::marker::Model;
 use std::mem::replace;
 use text::is_space;
 
-/// Where in an entry of the text a byte stands.
+/// Where in an entry of the text a byte is.
 #[derive(Clone, Copy)]
 pub(crate) enum Part {
     /// In front of an entry.
     Start,
-    /// Behind blanks in front of an entry.
+    /// After blanks in front of an entry.
     Blanks,
     /// In a comment.
     Comment,
@@ -27,7 +27,7 @@ pub(crate) enum Part {
     Name,
     /// In a value.
     Value,
-    /// Behind a backslash in a value.
+    /// After a backslash in a value.
     Escape,
 }
 
@@ -72,7 +72,7 @@ fn is_newline(byte: u8) -> bool
     byte == b'\n'
 }
 
-/// Whether a byte stands in front of an entry.
+/// Whether a byte is in front of an entry.
 fn is_start(part: Part) -> bool
     ensures { result ≡ is_start part }
 {
@@ -190,7 +190,7 @@ impl Entries {
     }
 }
 
-/// The entries of a text, of which none begins behind `room` bytes, if the text has no fault. Errors: memory ran out.
+/// The entries of a text, of which none begins after `room` bytes, if the text has no fault. Errors: memory ran out.
 fn entries_in(alloc: Global, text: &[u8], room: usize) -> Result<Option<Vec<Entry>>, AllocError>
     ensures { IfOk result (λ all. option_map (λ v. all_entries v.items) all
         ≡ entries_in room text.now) }
@@ -281,7 +281,7 @@ fn add_settings(
     Ok(())
 }
 
-/// The entries with `-r` of a text that has these bytes without its carriage returns, of which none begins behind
+/// The entries with `-r` of a text that has these bytes without its carriage returns, of which none begins after
 /// `room` bytes. Errors: memory ran out.
 fn moved_entries(
     alloc: Global,

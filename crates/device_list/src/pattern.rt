@@ -1,4 +1,4 @@
-//! The patterns that a list's lines of calls begin with.
+//! The patterns that a list's lines of calls start with.
 ghost use Rattle.std.specs.Prelude.{◌≡◌, map, option_map, IfOk, OnOk};
 ghost use Rattle.device_list.specs.CallLines.{same_word, same_words, same_pattern, word_alone, filled_pattern, fits_word, fits, is_rest, pattern_word, pattern_words, ends_in_rest, fixed_words, pattern_of};
 ghost use Rattle.device_list.specs.DevicesShown.{word_shown, pattern_shown};

@@ -46,7 +46,7 @@ fn is_of_word(quoted: bool, byte: u8) -> bool
     quoted || !is_space(byte)
 }
 
-/// The words of a line, which blanks separate that stand in no quotes. Quotes stay in their words.
+/// The words of a line, which blanks separate that are in no quotes. Quotes stay in their words.
 pub(crate) fn quoted_words(alloc: Global, line: &[u8]) -> Result<Vec<&[u8]>, AllocError>
     ensures { IfOk result (λ v. map (λ w. w.now) v.items ≡ quoted_words line.now) }
 {

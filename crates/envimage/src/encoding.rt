@@ -32,7 +32,7 @@ const DATA_END: u8 = 0;
 
 const FILLING: u8 = 0;
 
-/// What stands in the place of the checksum until the rest of an image is there.
+/// What is in the place of the checksum until the rest of an image is there.
 const NO_CHECKSUM: [u8; 4] = [0; 4];
 
 fn push_entry(out: &mut Vec<u8>, name: &[u8], value: &[u8]) -> Result<(), AllocError>
@@ -84,7 +84,7 @@ fn crc_bytes(crc: u32, order: ByteOrder) -> [u8; 4]
     }
 }
 
-/// Writes the checksum of what is behind the header into the first four bytes.
+/// Writes the checksum of what is after the header into the first four bytes.
 fn seal(image: &mut [u8], header: usize, order: ByteOrder)
     requires header { 4 ≤ header }
     requires room { header ≤ length image.old }

@@ -125,7 +125,7 @@ newline_alone_null = refl
 newline_alone_escaped_null : printed_output forged (codes "a" ∷ []) (alone escaped_null) ≡ codes "1\\nb=2" ++ 0 ∷ []
 newline_alone_escaped_null = refl
 
--- a backslash is told apart from the escapes
+-- a backslash differs from the escapes
 backslash_escaped : printed_output ((codes "a", codes "1\\nb=2") ∷ []) [] escaped ≡ codes "a=1\\\\nb=2\n"
 backslash_escaped = refl
 

@@ -7,7 +7,7 @@ use Rattle.envtools.specs.Listed.{Ascend, Rise, name_number}
 ascending : Ascend ((codes "a", codes "2") ∷ (codes "ab", codes "1") ∷ (codes "b", codes "1") ∷ [])
 ascending = (refl, (refl, (refl, tt)))
 
--- a name that stands twice does not ascend, whatever its values
+-- a name that is there twice does not ascend, whatever its values
 twice : Ascend ((codes "a", codes "1") ∷ (codes "a", codes "2") ∷ []) → ⊥
 twice h = let bad = h.1.0 in cc
 
@@ -30,7 +30,7 @@ no_byte = refl
 rising : Rise (1 ∷ 3 ∷ [])
 rising = (omega arith, (omega arith, tt))
 
--- a number that stands twice does not rise
+-- a number that is there twice does not rise
 again : Rise (2 ∷ 2 ∷ []) → ⊥
 again h = let bad = h.1.0 in omega (arith, bad)
 

@@ -1,5 +1,5 @@
 -- The environment that a board has once U-Boot has read an image (U-Boot 2023.01, lib/hashtable.c, `himport_r`, with a NUL byte
--- behind each variable; that of 2025.01 is the same).
+-- after each variable; that of 2025.01 is the same).
 use Rattle.std.specs.Prelude.{ℕ, ◌==◌, ◌&&◌, not, Bool, true, false, List, [], ◌∷◌, length, map, filter, if◌then◌else◌}
 use Rattle.std.specs.List.{list_any}
 use Rattle.text.specs.Bytes as ascii
@@ -7,7 +7,7 @@ use Rattle.text.specs.Words.{cut_front, is_space}
 use Rattle.envimage.specs.Data.{Pair}
 use Rattle.envtools.specs.Environment.{assigned, env_of}
 
--- a backslash is dropped, and the byte behind it is kept; one at the end is kept
+-- a backslash is dropped, and the byte after it is kept; one at the end is kept
 abbrev pub imported_value : (behind : Bool) → List ℕ → List ℕ
 imported_value behind [] = if behind then ascii.backslash ∷ [] else []
 imported_value behind (byte ∷ bytes) =
@@ -39,7 +39,7 @@ with_imported pairs p = if is_read p then assigned pairs (imported_name p.0) (im
 abbrev pub is_set : Pair → Bool
 is_set p = not (length p.1 == 0)
 
--- A value behind blanks alone, for which U-Boot leaves the environment, is not followed: the environment has no variables
+-- A value after blanks alone, for which U-Boot leaves the environment, is not followed: the environment has no variables
 -- then (ours)
 abbrev pub is_doubtful : Pair → Bool
 is_doubtful p = length (imported_name p.0) == 0 && is_set p

@@ -30,7 +30,7 @@ fn make_all<'a>(draft: &mut Draft<'a>, changes: &[(&'a [u8], &'a [u8])]) -> Resu
     Ok(())
 }
 
-/// A hash with the names of changes behind its key, one after another.
+/// A hash with the names of changes after its key, one after another.
 fn hasher_with(first: KeyedHash, changes: &[(&[u8], &[u8])]) -> KeyedHash
     ensures { result ≡ fold (λ hasher change. with_text hasher change.0) first (map pair_at changes.now) }
 {

@@ -1,4 +1,4 @@
-//! Whether a name stands twice in an image's data, found without a table of the names.
+//! Whether a name is there twice in an image's data, found without a table of the names.
 ghost use Rattle.std.specs.Prelude.{◌≡◌, ◌↔◌, None, IfOk, IsTrue, map};
 ghost use Rattle.envimage.specs.Data.{data_fault, pairs_of};
 ghost use Rattle.envtools.specs.Environment.{HasDistinctNames};
@@ -10,7 +10,7 @@ use std::alloc::{AllocError, Global};
 /// The number with which that of a name starts.
 const SEED: u64 = 0xcbf2_9ce4_8422_2325;
 
-/// Whether the names of data ascend in byte order. Then no name stands there twice. Takes no
+/// Whether the names of data ascend in byte order. Then no name is there twice. Takes no
 /// memory.
 fn is_ascending(body: &[u8]) -> bool
     requires { data_fault body.now ≡ None }

@@ -86,7 +86,7 @@ impl Env {
     }
 
     /// The environment that a board has once U-Boot has read this one from its image: backslashes in
-    /// values and blanks in front of names are dropped, names that begin with `#` are left out, and an
+    /// values and blanks in front of names are dropped, names that start with `#` are left out, and an
     /// empty value deletes. It is empty if a variable with a value has a name of blanks alone: what
     /// U-Boot does then is not followed. Errors: memory ran out. Source: lib/hashtable.c, `himport_r`.
     pub fn imported(&self) -> Result<Env, AllocError>

@@ -12,7 +12,7 @@ use envimage::entries;
 use std::alloc::{AllocError, Global};
 use std::marker::Model;
 
-/// The variables of data as they stand there.
+/// The variables of data in their order.
 fn in_order(alloc: Global, body: &[u8]) -> Result<Vec<(&[u8], &[u8])>, AllocError>
     requires fault { data_fault body.now ≡ None }
     ensures { IfOk result (λ pairs. map pair_at pairs.items ≡ pairs_of body.now) }

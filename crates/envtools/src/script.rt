@@ -155,7 +155,7 @@ fn apply_lines<'a, C: Changing<'a>>(variables: &mut C, text: &'a [u8]) -> Result
     Ok(())
 }
 
-/// The most lines of a script whose names are looked for in the list itself. What is behind the last newline is a line.
+/// The most lines of a script whose names are looked for in the list itself. What is after the last newline is a line.
 const FEW: usize = 32;
 
 /// Whether a script has few lines.
@@ -170,7 +170,7 @@ fn has_few_lines(text: &[u8]) -> bool {
 
 /// Makes the changes of a script in a list of variables, as `apply_script` makes them in an
 /// environment. No name and no value is copied. A tree of all names is made only for more than 32
-/// lines. What is behind the last newline counts as one.
+/// lines. What is after the last newline counts as one.
 #[tactic(auto, using(crate::proofs::ScriptLemmas::untouched))]
 pub fn apply_script_to_list<'a>(
     alloc: Global,

@@ -1,4 +1,4 @@
--- What is read and told by a shell that is named, computed.
+-- What is read and reported for a shell that is named, computed.
 use Rattle.std.proofs.Common.{◌≡◌, true, false, [], ◌∷◌, Some, None, refl}
 use Rattle.std.specs.Prelude.{codes}
 use Rattle.hushlang.specs.Grammar.{reserved_of, assignment, name_in, name_of, is_in_word}

@@ -279,7 +279,7 @@ fn check_names<'a, O: Out>(
 /// the texts so far lead to, each once, and then goes on with the variables that its text runs. A text leads to a
 /// file if the device list says of one of its calls that the text of this file runs, or that the text of one of some
 /// files does, of which it is one; the list is asked for the call with what is written out of its words, so a line
-/// whose pattern wants more of a word that holds a variable is not found. Writes for each whether its text is
+/// whose pattern needs more of a word that holds a variable is not found. Writes for each whether its text is
 /// well-formed,
 /// and if not, where it breaks; what U-Boot's shells read otherwise in it, or if a shell is named,
 /// what a rehearsal by it does not follow; which commands the device list lacks, if there is one;

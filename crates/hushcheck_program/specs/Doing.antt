@@ -27,6 +27,6 @@ Does build (Help text) before after outputs result = IsShared (Shows (string_byt
 Does build Version before after outputs result =
     IsShared (Shows (version_line (codes "hushcheck") build) before after outputs) result
 
--- the answer tells each call on files that failed
+-- the answer has each call on files that failed
 abbrev pub Leaves : Answer Ask → Result Bool CheckFault → FilesShown → FilesShown → Type 0
 Leaves ask result before after = CountsShared before.faults after.faults result

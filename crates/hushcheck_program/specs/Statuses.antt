@@ -1,4 +1,4 @@
--- What the statuses 1 and 3 say: they tell that a text or a command is wrong from a refusal. Ours.
+-- What the statuses 1 and 3 say: 1 that a text or a command is wrong, 3 that something was refused. Ours.
 use Rattle.std.specs.Prelude.{◌≡◌, ℕ, Bool, false, List, Option, Result, Ok, Err}
 use Rattle.clap.specs.Words.{Text}
 use Rattle.tool_words.specs.declared.ask.UseError.{UseError}

@@ -49,7 +49,7 @@ fn perform<F: Files, O: Out>(
     }
 }
 
-/// The status if something is refused: it tells a text that is wrong from one that could not be
+/// The status if something is refused: it distinguishes a text that is wrong from one that could not be
 /// read.
 pub const REFUSED: u8 = 3;
 

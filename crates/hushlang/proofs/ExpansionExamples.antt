@@ -108,9 +108,9 @@ known_nothing : known_fields [] ≡ Some []
 unfolding fields
 known_nothing = refl
 
--- ---- the name that words begin with
+-- ---- the name that words start with
 
--- `echo $x "$x" ''`: what is behind the name does not matter
+-- `echo $x "$x" ''`: what is after the name does not matter
 known_name_echo : known_name echo_words ≡ Some (codes "echo")
 unfolding fields atoms echo_words
 known_name_echo = refl

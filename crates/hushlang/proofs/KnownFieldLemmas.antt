@@ -64,7 +64,7 @@ pub known_lent : (o : Option (Bor (Rc (Vec (Vec ℕ Global) Global) Global))) �
 known_lent None = refl
 known_lent (Some found) = refl
 
--- ---- the name that words begin with
+-- ---- the name that words start with
 
 fields_behind : (p : Parameters) (word : Word) (words : List Word) → fields p (word ∷ words) ≡ fields_of_word p word ++ fields p words
 unfolding fields

@@ -39,10 +39,10 @@ abbrev pub first_field : List (List ℕ) → Option (List ℕ)
 first_field [] = None
 first_field (name ∷ more) = Some name
 
--- the name that words begin with: their first field, if all their fields are known, or those of the first word alone
+-- the name that words start with: their first field, if all their fields are known, or those of the first word alone
 abbrev pub known_name : List Word → Option (List ℕ)
 known_name words = option_and_then first_field (option_or (known_fields words) (known_of_first words))
 
--- the built-in command of the name that words begin with, if that name is known before they are expanded
+-- the built-in command of the name that words start with, if that name is known before they are expanded
 abbrev pub known_builtin : List Word → Option Builtin
 known_builtin words = option_and_then builtin_of (known_name words)

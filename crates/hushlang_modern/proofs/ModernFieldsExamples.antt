@@ -119,7 +119,7 @@ twice_found : found twice_words twice ≡ expected twice
 unfolding modern_fields expanded atoms digits
 twice_found = refl
 
--- ---- `load ""$x$x`: what is behind a backslash or a blank at the end of a value, and no field of quotes that ended before
+-- ---- `load ""$x$x`: what is after a backslash or a blank at the end of a value, and no field of quotes that ended before
 
 abbrev one_behind_another : List Row
 one_behind_another =

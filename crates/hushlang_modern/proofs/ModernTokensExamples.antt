@@ -32,7 +32,7 @@ signs : map modern_tokens (codes "a && b||c;\n#d" ∷ codes "a#b # \\\nc" ∷ co
 unfolding modern_tokens read read_open
 signs = refl
 
--- groups, which do not end here; a `)` behind a byte of a word is one, and so is a `(` that is quoted
+-- groups, which do not end here; a `)` after a byte of a word is one, and so is a `(` that is quoted
 groups : map modern_tokens (codes "a) )(b " ∷ codes "\"a\"(" ∷ codes "\\(\"(\"'('a" ∷ codes "(${a" ∷ codes "{(" ∷ codes "a})" ∷ codes "})" ∷ codes "$(b" ∷ codes "(a; }" ∷ [])
     ≡ record { tokens = bare (text (codes "a)") ∷ []) ∷ Closing ∷ Opening false ∷ bare (text (codes "b") ∷ []) ∷ []; stop = Some Fails; quoted = false }
     ∷ record { tokens = Opening true ∷ []; stop = Some Fails; quoted = false } ∷ whole (quoted (text (codes "\\(((a") ∷ []) ∷ [])

@@ -1,6 +1,6 @@
 -- The words of a command, and those of a `for`, as U-Boot's modern shell finds them (2025.01, common/cli_hush_upstream.c,
 -- `expand_vars_to_list`). `fields`, of hushlang, are those of ubtool's own language, and of a word here that nothing can
--- change. In another word each byte of the script is as that shell keeps it, behind a backslash if quotes keep it from acting in a
+-- change. In another word each byte of the script is as that shell keeps it, after a backslash if quotes keep it from acting in a
 -- pattern; values are put in, and cut at blanks outside double quotes; and where a byte acts in a pattern then, all backslashes
 -- stay. No variable `IFS` is set, and no value has the byte 3.
 use Rattle.std.specs.Prelude.{ℕ, ◌==◌, Bool, true, false, ◌&&◌, ◌||◌, List, [], ◌∷◌, ◌++◌, map, flat_map, decimal, if◌then◌else◌}
@@ -40,11 +40,11 @@ piece_begun e = record (if e.cut then field_ended e else e) { behind = false }
 
 -- ---- a value outside double quotes (`expand_on_ifs`)
 
--- a blank that stands in front of a byte of the value ends the field if that has a byte or quotes
+-- a blank that is in front of a byte of the value ends the field if that has a byte or quotes
 abbrev pub blanks_ended : Expanding → Expanding
 blanks_ended e = if e.cut && (e.quoted || has_bytes e.field) then field_ended e else record e { cut = false }
 
--- a backslash of a value is doubled, and the byte behind it has a further one (`o_addblock_duplicate_backslash`)
+-- a backslash of a value is doubled, and the byte after it has a further one (`o_addblock_duplicate_backslash`)
 abbrev pub doubled : (behind : Bool) → ℕ → List ℕ
 doubled true byte = ascii.backslash ∷ byte ∷ []
 doubled false byte = if byte == ascii.backslash then ascii.backslash ∷ ascii.backslash ∷ [] else byte ∷ []

@@ -21,13 +21,13 @@ use Rattle.hushlang_modern.specs.ModernTokens.{FoundWord, is_wild, is_name}
 abbrev pub acts : (behind : Bool) → ℕ → Bool
 acts behind byte = not behind && is_wild byte
 
--- whether a byte acts in a pattern; the first byte may be behind a backslash
+-- whether a byte acts in a pattern; the first byte may be after a backslash
 abbrev pub is_pattern : (behind : Bool) → List ℕ → Bool
 is_pattern behind [] = false
 is_pattern behind (byte ∷ bytes) = acts behind byte || is_pattern (byte == ascii.backslash && not behind) bytes
 
 -- the bytes of a field: no file has a name here, so a pattern stays as it is, and all backslashes in it; else a backslash keeps
--- the byte behind it (`perform_glob`, `unbackslash`)
+-- the byte after it (`perform_glob`, `unbackslash`)
 abbrev pub without_guards : List ℕ → List ℕ
 without_guards bytes = if is_pattern false bytes then bytes else unescaped false bytes
 
@@ -118,7 +118,7 @@ abbrev pub unescaped_piece : Piece → Piece
 unescaped_piece (tree.Bytes bytes) = tree.Bytes (unescaped false bytes)
 unescaped_piece piece = piece
 
--- behind the bytes of a name. The value has no backslashes of the shell (`expand_string_to_string`)
+-- after the bytes of a name. The value has no backslashes of the shell (`expand_string_to_string`)
 abbrev pub behind_name : (name : List ℕ) → (rest : List ℕ) → List Piece → Option (List ℕ × tree.Word)
 behind_name name [] pieces = None
 behind_name name (byte ∷ rest) pieces =
@@ -139,12 +139,12 @@ is_assignment w = is_some (assignment w)
 abbrev pub value_of : FoundWord → List ℕ × tree.Word
 value_of w = unwrap_or (assignment w) ([], [])
 
--- ---- the first word behind `if`, `while` or `until`
+-- ---- the first word after `if`, `while` or `until`
 
 abbrev pub is_backslash : ℕ → Bool
 is_backslash byte = byte == ascii.backslash
 
--- `''`, and a word that begins with a backslash or a byte in quotes that acts in a pattern: there that shell writes to memory that
+-- `''`, and a word that starts with a backslash or a byte in quotes that acts in a pattern: there that shell writes to memory that
 -- it does not have, or makes no word (`o_addqchr`, `done_word`)
 abbrev pub begins_guarded : List Piece → Bool
 begins_guarded [] = true

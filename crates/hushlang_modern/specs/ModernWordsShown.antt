@@ -6,7 +6,7 @@ use Rattle.hushlang_uboot.specs.ReadBytes.{unescaped}
 use Rattle.hushlang_modern.specs.ModernTokens.{FoundWord}
 use Rattle.hushlang_modern.specs.ModernWords as says
 
--- a word is an assignment, and these are its name and what is behind its `=` in its first bytes
+-- a word is an assignment, and these are its name and what is after its `=` in its first bytes
 abbrev pub IsCutAtEquals : FoundWord → Option (Bor (List ℕ) × Bor (List ℕ)) → Type 0
 IsCutAtEquals word None = says.assignment word ≡ None
 IsCutAtEquals word (Some halves) =

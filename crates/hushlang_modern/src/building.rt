@@ -21,8 +21,8 @@ use std::mem;
 
 /// The block on the way and the compound commands that are open; the assignments on the way; the words
 /// on the way; whether a compound command has just ended; whether the next word may be the first one
-/// behind `if`, `while` or `until` to have a byte; whether the list on the way has no operator, and
-/// is the first of the text or behind another one of its block; whether all this is in a group in `( )`;
+/// after `if`, `while` or `until` to have a byte; whether the list on the way has no operator, and
+/// is the first of the text or after another one of its block; whether all this is in a group in `( )`;
 /// whether no word has been read; whether none had been as the last compound command began; whether `!`
 /// has just been read; and what becomes of the text as it is run, if a `for` in it is none.
 #[derive(Drop)]
@@ -177,7 +177,7 @@ impl Building {
         is_first_then(self.nest.part(), word) && self.nest.lacks_command()
     }
 
-    /// A reserved word behind a block.
+    /// A reserved word after a block.
     fn read_part(&mut self, word: Reserved) -> Result<Option<Stop>, AllocError>
         ensures { IfOk result (λ stop. says.part_read word (shown.building self.old)
             ≡ shown.unless stop (shown.building self.new)) }
@@ -258,7 +258,7 @@ impl Building {
         self.begin_words(word)
     }
 
-    /// The word behind a `!`.
+    /// The word after a `!`.
     fn read_marked_word(&mut self, word: FoundWord) -> Result<Option<Stop>, AllocError>
         ensures { IfOk result (λ stop. says.marked_word (tokens.word word)
             (shown.building self.old) ≡ shown.unless stop (shown.building self.new)) }
@@ -326,7 +326,7 @@ impl Building {
         Ok(None)
     }
 
-    /// The word behind `for`: its name.
+    /// The word after `for`: its name.
     fn read_name(&mut self, word: FoundWord) -> Result<Option<Stop>, AllocError>
         ensures { IfOk result (λ stop. says.name_read (tokens.word word)
             (shown.building self.old) ≡ shown.unless stop (shown.building self.new)) }
@@ -344,7 +344,7 @@ impl Building {
         Ok(None)
     }
 
-    /// A reserved word behind the name of a `for`, or behind its words.
+    /// A reserved word after the name of a `for`, or after its words.
     fn read_reserved_in_for(&mut self, word: Reserved) -> Result<Option<Stop>, AllocError>
         ensures { IfOk result (λ stop. says.reserved_in_for word (shown.building self.old)
             ≡ shown.unless stop (shown.building self.new)) }
@@ -368,7 +368,7 @@ impl Building {
         Ok(None)
     }
 
-    /// A word behind the name of a `for`, or behind its words.
+    /// A word after the name of a `for`, or after its words.
     fn read_word_in_for(&mut self, word: FoundWord) -> Result<Option<Stop>, AllocError>
         ensures { IfOk result (λ stop. says.word_in_for (tokens.word word)
             (shown.building self.old) ≡ shown.unless stop (shown.building self.new)) }
@@ -506,7 +506,7 @@ impl Building {
         self.doom = None;
     }
 
-    /// `(`, and whether it stands behind a word that has quotes.
+    /// `(`, and whether it is after a word that has quotes.
     fn read_opening(&mut self, quoted: bool) -> Option<Stop>
         ensures { says.opening_in quoted (shown.building self.old)
             ≡ shown.unless result (shown.building self.new) }
@@ -578,7 +578,7 @@ impl Building {
         }
     }
 
-    /// How the reading stops behind the tokens. `quoted` says whether it stops in a word that has quotes.
+    /// How the reading stops after the tokens. `quoted` says whether it stops in a word that has quotes.
     pub(crate) fn stop_behind(&self, quoted: bool, stop: Stop) -> Stop
         ensures { result ≡ says.stop_behind quoted stop (shown.building self.now) }
     {
@@ -617,7 +617,7 @@ fn simple(alloc: Global, found: Vec<FoundWord>) -> Result<Command, AllocError>
     Ok(Command::Simple(call_of(alloc, words)?))
 }
 
-/// The command of assignments, or of the words behind them.
+/// The command of assignments, or of the words after them.
 #[tactic(auto, using(hushlang::proofs::ViewLemmas::what_it_says, crate::proofs::BuildingLemmas::commands))]
 fn command_of(
     alloc: Global,
@@ -646,7 +646,7 @@ fn needs_command(part: Part, word: Reserved) -> bool
     }
 }
 
-/// Whether a word is `then` behind the first condition of an `if`.
+/// Whether a word is `then` after the first condition of an `if`.
 fn is_first_then(part: Part, word: Reserved) -> bool
     ensures { result ≡ says.is_first_then part word }
 {
@@ -656,7 +656,7 @@ fn is_first_then(part: Part, word: Reserved) -> bool
     }
 }
 
-/// Whether a word is behind the block of an `if` whose condition held without a command.
+/// Whether a word is after the block of an `if` whose condition held without a command.
 fn is_behind_given(part: Part, word: Reserved) -> bool
     ensures { result ≡ says.is_behind_given part word }
 {
@@ -676,7 +676,7 @@ fn is_in_braces(part: Part) -> bool
     }
 }
 
-/// Whether a word behind `!` is the first one of a simple command that runs.
+/// Whether a word after `!` is the first one of a simple command that runs.
 fn runs_surely(word: &FoundWord) -> bool
     ensures { result ≡ says.runs_surely (tokens.word word.now) }
 {

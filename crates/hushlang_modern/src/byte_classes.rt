@@ -55,7 +55,7 @@ pub(crate) fn is_escapable(byte: u8) -> bool
     byte == b'"' || byte == b'$' || byte == b'`' || byte == b'\\'
 }
 
-/// Whether a byte behind `$` is a parameter of the shell.
+/// Whether a byte after `$` is a parameter of the shell.
 pub(crate) fn is_parameter(byte: u8) -> bool
     ensures { result ≡ says.is_parameter byte }
 {
@@ -86,7 +86,7 @@ pub(crate) fn is_brace(bytes: &[u8]) -> bool
     }
 }
 
-/// Whether some bytes begin with a digit.
+/// Whether some bytes start with a digit.
 pub(crate) fn begins_with_digit(bytes: &[u8]) -> bool
     ensures { result ≡ classes.begins says.is_digit bytes.now }
 {
@@ -96,7 +96,7 @@ pub(crate) fn begins_with_digit(bytes: &[u8]) -> bool
     }
 }
 
-/// Whether some bytes begin with a letter or `_`.
+/// Whether some bytes start with a letter or `_`.
 pub(crate) fn begins_with_name(bytes: &[u8]) -> bool
     ensures { result ≡ classes.begins classes.begins_name bytes.now }
 {

@@ -140,7 +140,7 @@ fn name_len(bytes: &[u8]) -> usize
     bytes.iter().take_while(|byte| is_name_byte(**byte)).count()
 }
 
-/// The name of an assignment, and what is behind its `=` in the first bytes of the word.
+/// The name of an assignment, and what is after its `=` in the first bytes of the word.
 #[tactic(auto, unfolding(crate::specs::ModernWords::assignment))]
 fn halves(word: &FoundWord) -> Option<(&[u8], &[u8])>
     ensures { IsCutAtEquals (shown.word word.now) result }
@@ -180,7 +180,7 @@ fn unescaped_pieces(alloc: Global, pieces: Vec<Piece>) -> Result<Vec<Piece>, All
     Ok(made)
 }
 
-/// Whether a word is an assignment where one may stand.
+/// Whether a word is an assignment where one may be.
 pub(crate) fn is_assignment(word: &FoundWord) -> bool
     ensures { result ≡ says.is_assignment (shown.word word.now) }
 {
@@ -216,7 +216,7 @@ fn mark_of(alloc: Global, pieces: &[Piece]) -> Result<Vec<Piece>, AllocError>
     Ok(made)
 }
 
-/// Pieces with these bytes behind them, if there are any.
+/// Pieces with these bytes after them, if there are any.
 fn with_bytes(pieces: Vec<Piece>, bytes: Vec<u8>) -> Result<Vec<Piece>, AllocError>
     ensures { IfOk result (λ made. map view.piece made.items
         ≡ map view.piece pieces.items ++ in_piece bytes.items) }
@@ -262,7 +262,7 @@ pub(crate) fn words_of(alloc: Global, found: Vec<FoundWord>) -> Result<Vec<Word>
     Ok(words)
 }
 
-/// Whether a word is none, or goes wrong, where it is the first behind `if`, `while` or `until`.
+/// Whether a word is none, or goes wrong, where it is the first after `if`, `while` or `until`.
 pub(crate) fn is_hazard(word: &FoundWord) -> bool
     ensures { result ≡ says.is_hazard (shown.word word.now) }
 {

@@ -17,7 +17,7 @@ mod quotes;
 mod variables;
 
 /// A word: its pieces; whether it has quotes or a backslash; and whether it is an assignment where one
-/// may stand.
+/// may be.
 #[derive(Drop)]
 pub(crate) struct FoundWord {
     pub(crate) pieces: Vec<Piece>,
@@ -40,39 +40,39 @@ pub(crate) enum Token {
     Bar,
     /// `&&` or `||`.
     Joins(Op),
-    /// `(`, and whether it stands behind a word that has quotes.
+    /// `(`, and whether it is after a word that has quotes.
     Opening(bool),
     /// A `)` in front of which no byte of a word is. It is one of the next word, if a word is in front of
     /// it.
     Closing,
 }
 
-/// What the next byte is. The bytes of a name stand in the reading.
+/// What the next byte is. The bytes of a name are in the reading.
 #[derive(Clone, Copy)]
 enum Place {
     /// A byte that may act.
     Open,
-    /// The byte behind a backslash, and whether a newline is not followed there.
+    /// The byte after a backslash, and whether a newline is not followed there.
     Behind(bool),
     /// A byte in single quotes.
     Single,
-    /// The byte behind an opening `"`.
+    /// The byte after an opening `"`.
     Opened,
-    /// The byte behind `$`.
+    /// The byte after `$`.
     Dollar,
-    /// The byte behind `$` and the first bytes of a name.
+    /// The byte after `$` and the first bytes of a name.
     Name,
-    /// The byte behind `${` and some bytes.
+    /// The byte after `${` and some bytes.
     Brace,
-    /// The byte behind an operator in braces, which ends the name.
+    /// The byte after an operator in braces, which ends the name.
     Operator,
     /// The first byte of a comment.
     Hash,
     /// A further byte of a comment.
     Comment,
-    /// The byte behind the first `&` or `|`.
+    /// The byte after the first `&` or `|`.
     Joint(Op),
-    /// A byte behind the place at which the reading stops.
+    /// A byte after the place at which the reading stops.
     Stopped(Stop),
 }
 
@@ -93,7 +93,7 @@ struct TextReading {
     name: Vec<u8>,
 }
 
-/// The tokens that are whole; how the reading stops behind them, if it does; and whether it stops in a
+/// The tokens that are whole; how the reading stops after them, if it does; and whether it stops in a
 /// word that has quotes.
 #[derive(Drop)]
 pub(crate) struct FoundTokens {
@@ -216,7 +216,7 @@ impl TextReading {
         }
     }
 
-    /// Adds the result of the bytes behind the last whole piece as the text ends.
+    /// Adds the result of the bytes after the last whole piece as the text ends.
     fn end_text(&mut self) -> Result<(), AllocError>
         ensures { OnOk result (shown.reading self.new ≡ shown.with_last (shown.reading self.old)) }
     {
@@ -233,7 +233,7 @@ impl TextReading {
         self.end_word()
     }
 
-    /// Takes the tokens that are whole, and how the reading stops behind them.
+    /// Takes the tokens that are whole, and how the reading stops after them.
     fn take_tokens(&mut self) -> Result<FoundTokens, AllocError>
         ensures { IfOk result (λ found. shown.found found ≡ says.tokens_in (shown.reading self.old)) }
     {
@@ -260,7 +260,7 @@ impl TextReading {
     }
 }
 
-/// The tokens of a text, and how the reading stops behind them. Errors: memory ran out.
+/// The tokens of a text, and how the reading stops after them. Errors: memory ran out.
 #[tactic(auto, unfolding(crate::specs::ModernTokens::modern_tokens))]
 pub(crate) fn modern_tokens(alloc: Global, text: &[u8]) -> Result<FoundTokens, AllocError>
     ensures { IfOk result (λ found. shown.found found ≡ says.modern_tokens text.now) }

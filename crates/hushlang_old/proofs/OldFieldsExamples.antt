@@ -58,7 +58,7 @@ bare_found : found bare_words bare ≡ expected bare
 unfolding old_fields command_text word_text inserted variable_of behind_variable read reread joined atoms fields digits
 bare_found = refl
 
--- ---- `load "$x"`: it stands between single quotes
+-- ---- `load "$x"`: it is between single quotes
 
 abbrev in_quotes : List Row
 in_quotes =
@@ -329,7 +329,7 @@ defaults_found : found defaults_words defaults ≡ expected defaults
 unfolding old_fields command_text word_text inserted variable_of behind_variable read reread joined atoms fields digits
 defaults_found = refl
 
--- ---- `load "${x:+b'c}" ${u:-'d e'}`: so it is behind `:+`, and its quotes act
+-- ---- `load "${x:+b'c}" ${u:-'d e'}`: so it is after `:+`, and its quotes act
 
 abbrev reversed : List Row
 reversed =
@@ -342,7 +342,7 @@ reversed_found : found reversed_words reversed ≡ expected reversed
 unfolding old_fields command_text word_text inserted variable_of behind_variable read reread joined atoms fields digits
 reversed_found = refl
 
--- ---- `load ${x:?b}${x:b}${x:} ${:-$u:+b}`: other bytes behind the `:` change nothing, and a variable in them is none
+-- ---- `load ${x:?b}${x:b}${x:} ${:-$u:+b}`: other bytes after the `:` change nothing, and a variable in them is none
 
 abbrev without_default : List Row
 without_default =

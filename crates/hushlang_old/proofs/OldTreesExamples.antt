@@ -48,7 +48,7 @@ words_read : by_shell words ≡ by_profile words
 unfolding old_tree_of tree_of
 words_read = refl
 
--- a newline behind a backslash belongs to its word, also at the end of a text; `${?}` is a variable
+-- a newline after a backslash belongs to its word, also at the end of a text; `${?}` is a variable
 abbrev one : Word → Option Script
 one word = Some (Runs (Starts (Simple (word ∷ [])) Alone) Empty)
 
@@ -72,7 +72,7 @@ brace_names : map (old_tree_of false) (codes "${}" ∷ codes "\"${a b}\"" ∷ co
 unfolding old_tree_of
 brace_names = refl
 
--- a variable without a value expands to what is behind a `:`
+-- a variable without a value expands to what is after a `:`
 defaults : map (old_tree_of false) (codes "${a:-b c}" ∷ codes "\"${a:+'$b\"}\"" ∷ codes "${:?=}" ∷ [])
     ≡ one (Var (codes "a:-b c") true ∷ []) ∷ one (Mark ∷ Var (codes "a:+'$b\"") false ∷ []) ∷ one (Var (codes ":?=") true ∷ []) ∷ []
 unfolding old_tree_of
@@ -125,7 +125,7 @@ given_read : map (old_tree_of false) (codes "if; then a; fi" ∷ codes "if then 
 unfolding old_tree_of
 given_read = refl
 
--- The turns of a `for` whose name is none begin with a command that no board has
+-- The turns of a `for` whose name is none start with a command that no board has
 abbrev misnamed : (name : Text) → Option Script
 misnamed name =
     let command = Runs (Starts (Simple ((Bytes (name ++ codes "=") ∷ []) ∷ [])) Alone) a in
@@ -146,7 +146,7 @@ never_run : map (old_tree_of false) (codes "while; do a; done" ∷ codes "until 
 unfolding old_tree_of
 never_run = refl
 
--- A `for` that is told as a fault when it is run has the status 1 and runs nothing: `while false` in its place
+-- A `for` that is reported as a fault when it is run has the status 1 and runs nothing: `while false` in its place
 abbrev told : List Pair
 told =
     (codes "for x in b; c; do a; done; d", codes "while false; do a; done; d") ∷ (codes "for x in b && c $d 'e'\n do a; done || d", codes "while false; do a; done || d")
@@ -212,7 +212,7 @@ broken_compounds_refused : map (old_tree_of false) broken_compounds ≡ nothing_
 unfolding old_tree_of
 broken_compounds_refused = refl
 
--- texts with a fault: their end is missing, or a word may not be where it is and a blank or a newline is behind it
+-- texts with a fault: their end is missing, or a word may not be where it is and a blank or a newline is after it
 abbrev faulty : List Text
 faulty =
     codes "if a; then b" ∷ codes "if a" ∷ codes "if a; then b; else c # fi" ∷ codes "if a; then if b; then c; fi; d" ∷ codes "while a; do" ∷ codes "for x in a b" ∷ codes "for x in a; do b; done; until c\nd" ∷ codes "if a && " ∷ codes "for" ∷ codes "for x" ∷ codes "for x a" ∷ codes "for x in a; b" ∷ codes "for && x"

@@ -1,5 +1,5 @@
 -- What is in the braces of a variable, as U-Boot's old shell takes it (U-Boot 2023.01 and 2025.01, common/cli_hush.c, `lookup_param`):
--- the name, and behind a `:` what it expands to by its value. `:=` sets the variable too, which is not followed.
+-- the name, and after a `:` what it expands to by its value. `:=` sets the variable too, which is not followed.
 use Rattle.std.specs.Prelude.{ℕ, ◌==◌, Bool, true, false, not, List, [], ◌∷◌, take, drop, if◌then◌else◌, Some}
 use Rattle.std.specs.List.{prefix_len}
 use Rattle.text.specs.Bytes as ascii
@@ -9,7 +9,7 @@ use Rattle.hushlang_uboot.specs.ReadBytes.{has_bytes}
 abbrev pub is_no_colon : ℕ → Bool
 is_no_colon byte = not (byte == ascii.colon)
 
--- the variable, and what is behind its name
+-- the variable, and what is after its name
 unfoldable pub variable_of : (inside : List ℕ) → List ℕ
 variable_of inside = take (prefix_len is_no_colon inside) inside
 
@@ -20,7 +20,7 @@ behind_variable inside = drop (prefix_len is_no_colon inside) inside
 abbrev pub has_more : (inside : List ℕ) → Bool
 has_more inside = has_bytes (behind_variable inside)
 
--- what stands in the place of a value: behind `:-` it is for a variable that has none, and so it is behind `:+`, where a variable with
+-- what is in the place of a value: after `:-` it is for a variable that has none, and so it is after `:+`, where a variable with
 -- a value expands to nothing, other than in other shells (43 is `+`)
 abbrev pub with_default : (value : List ℕ) → (rest : List ℕ) → List ℕ
 with_default value (colon ∷ sign ∷ default) =

@@ -1,6 +1,6 @@
 -- The words of a command, and those of a `for`, as U-Boot's old shell finds them (U-Boot 2023.01, common/cli_hush.c;
 -- 2025.01 has the same). `fields`, of hushlang, are those of ubtool's own language. Here a command whose words have a
--- variable or `$?` is read a second time, as a text in which the values stand: their quotes, backslashes and `#` act.
+-- variable or `$?` is read a second time, as a text that holds the values: their quotes, backslashes and `#` act.
 -- Bytes above 127 are bytes like others, as in 2025.01. `IFS` and `HUSH_NO_EVAL`, by which a user changes these rules,
 -- are not set.
 use Rattle.std.specs.Prelude.{ℕ, ◌==◌, Bool, true, false, not, ◌&&◌, ◌||◌, List, [], ◌∷◌, ◌++◌, map, filter, flat_map, if◌then◌else◌, Option, Some, None, unwrap_or}
@@ -35,7 +35,7 @@ word_text parameters word =
     if has_quotes word then (ascii.quote ∷ inserted parameters word) ++ ascii.quote ∷ []
     else inserted parameters word
 
--- each word behind a space; the space in front changes nothing
+-- each word after a space; the space in front changes nothing
 abbrev pub words_text : Parameters → List Word → List ℕ
 words_text parameters words = flat_map (λ word. ascii.space ∷ word_text parameters word) words
 
@@ -52,11 +52,11 @@ command_text parameters words = with_end (words_text parameters words)
 pub data Place : Type 0 where
   -- a byte that may act
   Open : Place
-  -- the byte behind a backslash
+  -- the byte after a backslash
   Behind : Place
   -- a byte in single quotes: they go to the next byte that is equal to the one that opened them
   Single : (opening : ℕ) → Place
-  -- a byte behind the end, which is not read
+  -- a byte after the end, which is not read
   Ended : Place
 
 -- the words that are whole, the bytes of the word on the way, whether quotes have begun it, whether double quotes are
@@ -131,7 +131,7 @@ abbrev pub read_all : List ℕ → Reading → Reading
 read_all [] r = r
 read_all (byte ∷ bytes) r = read_all bytes (read byte r)
 
--- the words, unless single quotes are still open: double quotes may be, and behind a backslash no command's text ends
+-- the words, unless single quotes are still open: double quotes may be, and after a backslash no command's text ends
 abbrev pub words_read : Place → Reading → Option (List (List ℕ))
 words_read (Single opening) r = None
 words_read place r = Some (r.whole ++ found r.begun r.word)

@@ -1,6 +1,6 @@
 -- The tokens of a text as U-Boot's old shell reads it (common/cli_hush.c, `parse_stream`), byte by byte. A text that has a
 -- construct that is not followed here has none: bytes 3 and 4 and those above 127, which that shell uses itself or takes for
--- signed numbers; a backslash, a first `$` or `:=` in braces; and single quotes that end behind a backslash.
+-- signed numbers; a backslash, a first `$` or `:=` in braces; and single quotes that end after a backslash.
 use Rattle.std.specs.Prelude.{ℕ, ◌+◌, ◌==◌, Bool, true, false, not, ◌&&◌, ◌||◌, List, [], ◌∷◌, ◌++◌, length, nat_le, if◌then◌else◌, Option, Some, None}
 use Rattle.std.specs.List.{prefix_len}
 use Rattle.text.specs.Bytes as ascii
@@ -15,7 +15,7 @@ use Rattle.hushlang_uboot.specs.ReadBytes.{has_bytes, is_newline, is_space_or_ta
 use Rattle.hushlang_old.specs.Defaults.{sets_variable}
 
 -- a word: its pieces, none of which is quotes; whether it has quotes; whether it has a backslash, which keeps it from being
--- reserved; and whether a blank or a newline is behind it, and no `;` or operator
+-- reserved; and whether a blank or a newline is after it, and no `;` or operator
 pub record FoundWord : Type 0 where
   pub pieces : List Piece
   pub quoted : Bool
@@ -35,19 +35,19 @@ pub data Token : Type 0 where
 pub data Place : Type 0 where
   -- a byte that may act
   Open : Place
-  -- the byte behind a backslash
+  -- the byte after a backslash
   Behind : Place
-  -- a byte in single quotes, and whether it is behind a backslash
+  -- a byte in single quotes, and whether it is after a backslash
   Single : (behind : Bool) → Place
-  -- the byte behind `$`, behind `$` and the first bytes of a name, and behind `${` and some bytes
+  -- the byte after `$`, after `$` and the first bytes of a name, and after `${` and some bytes
   Dollar : Place
   Name : (name : List ℕ) → Place
   Brace : (name : List ℕ) → Place
   -- a byte of a comment
   Comment : Place
-  -- the byte behind the first `&` or `|`
+  -- the byte after the first `&` or `|`
   Joint : (op : Op) → Place
-  -- a byte behind a fault, and behind what is not followed
+  -- a byte after a fault, and after what is not followed
   Broken : Place
   Refused : Place
 
@@ -135,7 +135,7 @@ read_behind byte r =
     if is_foreign byte then at_place Refused r
     else at_place Open (with_byte byte (backslash_kept r.double (record r { escaped = true })))
 
--- in single quotes a backslash is dropped, and keeps the byte behind it
+-- in single quotes a backslash is dropped, and keeps the byte after it
 abbrev pub read_single : (behind : Bool) → ℕ → Reading → Reading
 read_single behind byte r =
     if is_foreign byte then at_place Refused r
@@ -146,7 +146,7 @@ read_single behind byte r =
 abbrev pub variable : (name : List ℕ) → Reading → Reading
 variable name r = with_piece (tree.Var name (not r.double)) r
 
--- behind `$` (`handle_dollar`): if neither a name, `?` nor `{` follows, it is a byte
+-- after `$` (`handle_dollar`): if neither a name, `?` nor `{` follows, it is a byte
 abbrev pub read_dollar : ℕ → Reading → Reading
 read_dollar byte r =
     if is_letter byte then at_place (Name (byte ∷ [])) r
@@ -159,7 +159,7 @@ read_name name byte r =
     if is_name_byte byte then at_place (Name (name ++ byte ∷ [])) r
     else read_open byte (at_place Open (variable name r))
 
--- a byte in braces that may change what they say (`lookup_param`, `get_local_var`); of a backslash only the byte behind it is left
+-- a byte in braces that may change what they say (`lookup_param`, `get_local_var`); of a backslash only the byte after it is left
 abbrev pub acts_in_brace : (is_first : Bool) → ℕ → Bool
 acts_in_brace is_first byte =
     is_foreign byte || byte == ascii.backslash || byte == ascii.dollar && is_first
@@ -167,7 +167,7 @@ acts_in_brace is_first byte =
 abbrev pub brace_ended : (name : List ℕ) → Reading → Reading
 brace_ended name r = if sets_variable name then at_place Refused r else at_place Open (variable name r)
 
--- other bytes are in the name, which may be empty, or behind it (hushlang_old/specs/Defaults.antt)
+-- other bytes are in the name, which may be empty, or after it (hushlang_old/specs/Defaults.antt)
 abbrev pub read_brace : (name : List ℕ) → ℕ → Reading → Reading
 read_brace name byte r =
     if byte == ascii.close_brace then brace_ended name r
@@ -202,7 +202,7 @@ read_all (byte ∷ bytes) r = read_all bytes (read byte r)
 -- ---- the whole
 
 -- The tokens, if all are followed. If double quotes are open at the end, the newline there is in the last word, and no blank or
--- newline is behind that
+-- newline is after that
 abbrev pub tokens_read : Place → Reading → Option (List Token)
 tokens_read Open r = Some (r.tokens ++ found (not r.double) r ++ Ends ∷ [])
 tokens_read (Single behind) r = Some (r.tokens ++ Breaks ∷ [])

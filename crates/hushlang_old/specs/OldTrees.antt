@@ -1,10 +1,10 @@
 -- The tree of a text as U-Boot's old shell reads it (common/cli_hush.c, `reserved_word`, `done_command`, `done_pipe`), token by
 -- token. A block without a command has one without words: it does nothing and keeps the status. A text that has a
 -- construct that is not followed here has no tree: a fault; an `elif` whose condition has no command; an `if` whose first condition
--- has none, with `elif` or `else`, or with no command in its block; a word straight behind a compound command; `then` straight before
+-- has none, with `elif` or `else`, or with no command in its block; a word straight after a compound command; `then` straight before
 -- `elif`; an assignment before a command where either has a variable; a `for` with a word for its name in which there is more than
 -- letters, digits, `_`, `-` and `.`; and the names `HUSH_VERSION` and `HUSH_NO_EVAL`, by which the shell changes. 2023.01 and
--- 2025.01 read the same; but what `exit` does in 2025.01 depends on where it stands, and that is in its tree.
+-- 2025.01 read the same; but what `exit` does in 2025.01 depends on where it is, and that is in its tree.
 use Rattle.std.specs.Prelude.{ℕ, ◌==◌, Bool, true, false, not, ◌&&◌, ◌||◌, List, [], ◌∷◌, ◌++◌, map, take, drop, if◌then◌else◌, Option, Some, None, is_some, unwrap_or, option_map, codes, bytes_eq}
 use Rattle.std.specs.List.{list_all, prefix_len}
 use Rattle.text.specs.Bytes as ascii
@@ -72,7 +72,7 @@ misname_among (Some bytes) = if is_misname bytes then Some bytes else None
 abbrev pub misname_in : FoundWord → Option (List ℕ)
 misname_in w = if w.escaped then None else misname_among (only_bytes w.pieces)
 
--- behind the bytes of a name
+-- after the bytes of a name
 abbrev pub behind_name : (name : List ℕ) → (rest : List ℕ) → List Piece → Option (List ℕ × tree.Word)
 behind_name name [] pieces = None
 behind_name name (byte ∷ rest) pieces = if byte == ascii.equals then Some (name, in_piece rest ++ pieces) else None
@@ -100,7 +100,7 @@ changes_shell w = is_name_of_shell (value_of w).0
 
 -- whether the text is read for 2025.01; the block on the way and the compound commands that are open; whether that block has had a
 -- separator; the words on the way, whether all of them are assignments, and whether assignments are before them; whether a
--- compound command has just ended; and of a `for` before its body, whether it has no name, whether it is told as a fault when it is
+-- compound command has just ended; and of a `for` before its body, whether it has no name, whether it is reported as a fault when it is
 -- run, and the word for its name if that is none
 pub record Building : Type 0 where
   pub newer : Bool
@@ -182,7 +182,7 @@ joined_by op b = record (command_ended b) { nest = nests.operator_read op (comma
 abbrev pub opened : Reserved → Building → Option Building
 opened word b = if nests.is_full b.nest then None else Some (record b { nest = nests.begun word b.nest; separated = false })
 
--- where a block without a command is refused: a condition; the block of an `if` whose condition has none; and behind `then`, if
+-- where a block without a command is refused: a condition; the block of an `if` whose condition has none; and after `then`, if
 -- `elif` is straight after that, which would go by an older condition
 abbrev pub needs_command : Part → Reserved → (separated : Bool) → Bool
 needs_command (p.Condition further) r.Then separated = true
@@ -251,7 +251,7 @@ first_word w b = elim (reserved_in w) [ Some word ↦ reserved_read word b | Non
 abbrev pub is_constant_with : FoundWord → Building → Bool
 is_constant_with w b = list_all is_constant_word b.words && is_constant_word w
 
--- a command begins behind assignments: they are made, and then it runs
+-- a command begins after assignments: they are made, and then it runs
 abbrev pub begun_behind : FoundWord → Building → Option Building
 begun_behind w b =
     if is_constant_with w b then Some (record (with_word w (joined_by And b)) { behind = true }) else None
@@ -265,8 +265,8 @@ further_word w b =
 abbrev pub command_word : FoundWord → Building → Option Building
 command_word w b = if b.closed then None else elim b.words [ [] ↦ first_word w b | v ∷ words ↦ further_word w b ]
 
--- ---- a `for` before its body. It is told as a fault when it is run, and its status is 1, unless one word is its name, with `in`
--- straight behind it, and all its words are in one list, which a separator ends (`run_list_real`). One without a name does
+-- ---- a `for` before its body. It is reported as a fault when it is run, and its status is 1, unless one word is its name, with `in`
+-- straight after it, and all its words are in one list, which a separator ends (`run_list_real`). One without a name does
 -- nothing, and its status is 0
 
 abbrev pub nest_at_do : Building → Nest
@@ -275,7 +275,7 @@ nest_at_do b = if b.spoilt then nests.unmet b.nest else (if b.nameless then nest
 abbrev pub header_read : Building → Building
 header_read b = record b { nest = nest_at_do b; nameless = false; spoilt = false; misname = [] }
 
--- each turn of a `for` whose name is none begins with a command `WORD=VALUE`, which no board has (`run_pipe_real`)
+-- each turn of a `for` whose name is none starts with a command `WORD=VALUE`, which no board has (`run_pipe_real`)
 abbrev pub no_assignment : (misname : List ℕ) → Command
 no_assignment misname = tree.Simple ((tree.Bytes (misname ++ ascii.equals ∷ []) ∷ []) ∷ [])
 
@@ -290,7 +290,7 @@ body_begun b = option_map (with_misname b.misname) (goes_on r.Do (header_read b)
 abbrev pub spoil : Building → Building
 spoil b = record b { spoilt = true }
 
--- the first word behind `in`: `do` is there without a list of words
+-- the first word after `in`: `do` is there without a list of words
 abbrev pub first_of_for : Option Reserved → FoundWord → Building → Option Building
 first_of_for None w b = Some (with_word w b)
 first_of_for (Some r.Do) w b = body_begun (record b { spoilt = not b.nameless })
@@ -299,7 +299,7 @@ first_of_for (Some word) w b = None
 abbrev pub word_of_for : FoundWord → Building → Option Building
 word_of_for w b = elim b.words [ [] ↦ first_of_for (reserved_in w) w b | v ∷ words ↦ Some (with_word w b) ]
 
--- behind the words of a `for`: `do`, or a further list
+-- after the words of a `for`: `do`, or a further list
 abbrev pub first_behind : Option Reserved → FoundWord → Building → Option Building
 first_behind None w b = Some (spoil (with_word w b))
 first_behind (Some r.Do) w b = body_begun b
@@ -308,7 +308,7 @@ first_behind (Some word) w b = None
 abbrev pub word_behind : FoundWord → Building → Option Building
 word_behind w b = elim b.words [ [] ↦ first_behind (reserved_in w) w b | v ∷ words ↦ Some (with_word w b) ]
 
--- behind a name: `in`, or a further word
+-- after a name: `in`, or a further word
 abbrev pub word_at_in : Option Reserved → Building → Option Building
 word_at_in None b = Some (spoil b)
 word_at_in (Some r.In) b = goes_on r.In b
@@ -322,7 +322,7 @@ abbrev pub named : Option (List ℕ) → (misname : Option (List ℕ)) → Build
 named None misname b = misnamed misname b
 named (Some name) misname b = Some (record b { nest = nests.named name b.nest })
 
--- `in` straight behind `for`
+-- `in` straight after `for`
 abbrev pub without_name : Building → Option Building
 without_name b = if b.spoilt then None else goes_on r.In (record b { nest = nests.named [] b.nest; nameless = true })
 
@@ -351,7 +351,7 @@ end_at part b = Some (list_separated b)
 abbrev pub has_command : Building → Bool
 has_command b = b.closed || elim b.words [ [] ↦ false | w ∷ words ↦ true ]
 
--- behind no command an operator does nothing
+-- after no command an operator does nothing
 abbrev pub joined_in : Op → Building → Building
 joined_in op b = if has_command b then joined_by op b else b
 
@@ -427,7 +427,7 @@ is_other_than_in word = is_some word && not (is_in word)
 abbrev pub is_other_than_do : Option Reserved → Bool
 is_other_than_do word = is_some word && not (is_do word)
 
--- a word that is a fault: any straight behind a compound command; and a reserved word that may not be there, is the name of a
+-- a word that is a fault: any straight after a compound command; and a reserved word that may not be there, is the name of a
 -- `for`, or is the first of its words
 abbrev pub is_wrong : Part → FoundWord → Building → Bool
 is_wrong p.Name w b = is_other_than_in (reserved_in w)
@@ -436,7 +436,7 @@ is_wrong p.Words w b = lacks_words b && is_other_than_do (reserved_in w)
 is_wrong p.Do w b = lacks_words b && is_other_than_do (reserved_in w)
 is_wrong part w b = b.closed || lacks_words b && is_stray part (reserved_in w)
 
--- whether a token that is not followed is a fault. One straight in front of a `;` or an operator is told, and then the shell reads
+-- whether a token that is not followed is a fault. One straight in front of a `;` or an operator is reported, and then the shell reads
 -- on (`parse_stream`), which is not followed
 abbrev pub is_fault : Token → Building → Bool
 is_fault (Word w) b = w.apart && is_wrong (part_in b) w b

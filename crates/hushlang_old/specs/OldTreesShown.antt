@@ -8,7 +8,7 @@ use Rattle.hushlang_old.specs.OldTokens as words
 use Rattle.hushlang_old.specs.OldTrees as says
 use Rattle.hushlang_old.specs.declared.building.Building.{Building}
 
--- a word is an assignment, and these are its name and what is behind its `=` in its first bytes
+-- a word is an assignment, and these are its name and what is after its `=` in its first bytes
 abbrev pub IsCutAtEquals : words.FoundWord → Option (Bor (List ℕ) × Bor (List ℕ)) → Type 0
 IsCutAtEquals word None = says.assignment word ≡ None
 IsCutAtEquals word (Some halves) =

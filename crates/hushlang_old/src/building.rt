@@ -20,7 +20,7 @@ use std::mem;
 /// Whether the text is read for 2025.01; the block on the way and the compound commands that are open;
 /// whether that block has had a separator; the words on the way, whether all of them are assignments,
 /// and whether assignments are before them; whether a compound command has just ended; and of a `for` in
-/// front of its body, whether it has no name, whether it is told as a fault when it is run, and the
+/// front of its body, whether it has no name, whether it is reported as a fault when it is run, and the
 /// word for its name if that is none.
 #[derive(Drop)]
 pub(crate) struct Building {
@@ -137,7 +137,7 @@ impl Building {
         is_first_then(self.nest.part(), word) && self.nest.lacks_command()
     }
 
-    /// A reserved word behind a block.
+    /// A reserved word after a block.
     fn read_part(&mut self, word: Reserved) -> Result<bool, AllocError>
         ensures { IfOk result (λ followed. says.part_read word (shown.building self.old)
             ≡ shown.when followed (shown.building self.new)) }
@@ -183,7 +183,7 @@ impl Building {
         are_constant(&self.words) && is_constant_word(word)
     }
 
-    /// The first word of a command that runs behind assignments.
+    /// The first word of a command that runs after assignments.
     fn begin_behind(&mut self, word: FoundWord) -> Result<bool, AllocError>
         ensures { IfOk result (λ followed. says.begun_behind (tokens.word word)
             (shown.building self.old) ≡ shown.when followed (shown.building self.new)) }
@@ -293,7 +293,7 @@ impl Building {
         Ok(true)
     }
 
-    /// A word behind the words of a `for`: `do`, or one of a further list.
+    /// A word after the words of a `for`: `do`, or one of a further list.
     fn read_word_behind(&mut self, word: FoundWord) -> Result<bool, AllocError>
         ensures { IfOk result (λ followed. says.word_behind (tokens.word word)
             (shown.building self.old) ≡ shown.when followed (shown.building self.new)) }
@@ -309,7 +309,7 @@ impl Building {
         Ok(true)
     }
 
-    /// A word behind the name of a `for`: `in`, or a further word.
+    /// A word after the name of a `for`: `in`, or a further word.
     fn read_in(&mut self, word: Option<Reserved>) -> Result<bool, AllocError>
         ensures { IfOk result (λ followed. says.word_at_in word (shown.building self.old)
             ≡ shown.when followed (shown.building self.new)) }
@@ -324,7 +324,7 @@ impl Building {
         }
     }
 
-    /// `in` straight behind `for`.
+    /// `in` straight after `for`.
     fn read_without_name(&mut self) -> Result<bool, AllocError>
         ensures { IfOk result (λ followed. says.without_name (shown.building self.old)
             ≡ shown.when followed (shown.building self.new)) }
@@ -337,7 +337,7 @@ impl Building {
         self.go_on(Reserved::In)
     }
 
-    /// The word behind `for`, which is no name.
+    /// The word after `for`, which is no name.
     fn read_misname(&mut self, word: FoundWord) -> Result<bool, AllocError>
         ensures { IfOk result (λ followed. says.misnamed (says.misname_in (tokens.word word))
             (shown.building self.old) ≡ shown.when followed (shown.building self.new)) }
@@ -350,7 +350,7 @@ impl Building {
         Ok(true)
     }
 
-    /// The word behind `for`: its name.
+    /// The word after `for`: its name.
     fn read_name(&mut self, word: FoundWord) -> Result<bool, AllocError>
         ensures { IfOk result (λ followed. says.named (says.name_in (tokens.word word))
             (says.misname_in (tokens.word word)) (shown.building self.old)
@@ -506,7 +506,7 @@ fn needs_command(part: Part, word: Reserved, separated: bool) -> bool
     }
 }
 
-/// Whether a word is `then` behind the first condition of an `if`.
+/// Whether a word is `then` after the first condition of an `if`.
 fn is_first_then(part: Part, word: Reserved) -> bool
     ensures { result ≡ says.is_first_then part word }
 {

@@ -3,7 +3,7 @@ ghost use Rattle.std.specs.Prelude.{◌≡◌, ◌≤◌, length};
 ghost use Rattle.std.specs.List.{prefix_len};
 ghost use Rattle.hushlang_old.specs.Defaults as says;
 
-/// How many bytes stand in front of the first colon.
+/// How many bytes are in front of the first colon.
 fn name_len(inside: &[u8]) -> usize
     ensures value { result ≡ prefix_len says.is_no_colon inside.now }
     ensures within { result ≤ length inside.now }
@@ -19,7 +19,7 @@ pub fn variable_of(inside: &[u8]) -> &[u8]
     &inside[..name_len(inside)]
 }
 
-/// What is behind the name of the variable.
+/// What is after the name of the variable.
 #[tactic(auto, unfolding(crate::specs::Defaults::behind_variable))]
 pub fn behind_variable(inside: &[u8]) -> &[u8]
     ensures { result.now ≡ says.behind_variable inside.now }
@@ -27,7 +27,7 @@ pub fn behind_variable(inside: &[u8]) -> &[u8]
     &inside[name_len(inside)..]
 }
 
-/// What stands in the place of a value, by what is behind the name.
+/// What is in the place of a value, by what is after the name.
 pub(crate) fn with_default<'a>(value: &'a [u8], rest: &'a [u8]) -> &'a [u8]
     ensures { result.now ≡ says.with_default value.now rest.now }
 {

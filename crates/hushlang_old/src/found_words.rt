@@ -131,7 +131,7 @@ fn name_len(bytes: &[u8]) -> usize
     bytes.iter().take_while(|byte| is_name_byte(**byte)).count()
 }
 
-/// The name of an assignment, and what is behind its `=` in the first bytes of the word.
+/// The name of an assignment, and what is after its `=` in the first bytes of the word.
 #[tactic(auto, unfolding(crate::specs::OldTrees::assignment))]
 fn halves(word: &FoundWord) -> Option<(&[u8], &[u8])>
     ensures { IsCutAtEquals (shown.word word.now) result }

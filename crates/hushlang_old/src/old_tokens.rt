@@ -12,7 +12,7 @@ use std::alloc::{AllocError, Global};
 use std::mem;
 
 /// A word: its pieces, none of which is quotes; whether it has quotes; whether it has a backslash; and
-/// whether a blank or a newline is behind it.
+/// whether a blank or a newline is after it.
 #[derive(Drop)]
 pub(crate) struct FoundWord {
     pub(crate) pieces: Vec<Piece>,
@@ -34,28 +34,28 @@ pub(crate) enum Token {
     Breaks,
 }
 
-/// What the next byte is. The bytes of a name stand in the reading.
+/// What the next byte is. The bytes of a name are in the reading.
 #[derive(Clone, Copy)]
 enum Place {
     /// A byte that may act.
     Open,
-    /// The byte behind a backslash.
+    /// The byte after a backslash.
     Behind,
-    /// A byte in single quotes, and whether it is behind a backslash.
+    /// A byte in single quotes, and whether it is after a backslash.
     Single(bool),
-    /// The byte behind `$`.
+    /// The byte after `$`.
     Dollar,
-    /// The byte behind `$` and the first bytes of a name.
+    /// The byte after `$` and the first bytes of a name.
     Name,
-    /// The byte behind `${` and some bytes.
+    /// The byte after `${` and some bytes.
     Brace,
     /// A byte of a comment.
     Comment,
-    /// The byte behind the first `&` or `|`.
+    /// The byte after the first `&` or `|`.
     Joint(Op),
-    /// A byte behind a fault.
+    /// A byte after a fault.
     Broken,
-    /// A byte behind what is not followed.
+    /// A byte after what is not followed.
     Refused,
 }
 
@@ -138,7 +138,7 @@ impl TextReading {
         }
     }
 
-    /// Ends the word on the way. `apart` says whether a blank or a newline is behind it.
+    /// Ends the word on the way. `apart` says whether a blank or a newline is after it.
     fn end_word(&mut self, apart: bool) -> Result<(), AllocError>
         ensures { OnOk result
             (shown.reading self.new ≡ says.word_ended apart (shown.reading self.old)) }
@@ -229,7 +229,7 @@ impl TextReading {
         Ok(())
     }
 
-    /// Reads the byte behind a backslash, which stays in double quotes.
+    /// Reads the byte after a backslash, which stays in double quotes.
     fn read_behind(&mut self, byte: u8) -> Result<(), AllocError>
         ensures { OnOk result
             (shown.reading self.new ≡ says.read_behind byte (shown.reading self.old)) }
@@ -281,7 +281,7 @@ impl TextReading {
         self.word.push_piece(Piece::Var { name, split })
     }
 
-    /// Reads the byte behind `$`.
+    /// Reads the byte after `$`.
     fn read_dollar(&mut self, byte: u8) -> Result<(), AllocError>
         ensures { OnOk result
             (shown.reading self.new ≡ says.read_dollar byte (shown.reading self.old)) }
@@ -306,7 +306,7 @@ impl TextReading {
         self.read_open(byte)
     }
 
-    /// Reads the byte behind `$` and the first bytes of a name.
+    /// Reads the byte after `$` and the first bytes of a name.
     fn read_name(&mut self, byte: u8) -> Result<(), AllocError>
         requires { self.old.place ≡ shown.in_name }
         ensures { OnOk result (shown.reading self.new
@@ -334,7 +334,7 @@ impl TextReading {
         self.push_variable()
     }
 
-    /// Reads the byte behind `${` and some bytes.
+    /// Reads the byte after `${` and some bytes.
     fn read_brace(&mut self, byte: u8) -> Result<(), AllocError>
         requires { self.old.place ≡ shown.in_brace }
         ensures { OnOk result (shown.reading self.new
@@ -363,7 +363,7 @@ impl TextReading {
         Ok(())
     }
 
-    /// Reads the byte behind the first `&` or `|`.
+    /// Reads the byte after the first `&` or `|`.
     fn read_joint(&mut self, op: Op, byte: u8) -> Result<(), AllocError>
         ensures { OnOk result
             (shown.reading self.new ≡ says.read_joint op byte (shown.reading self.old)) }

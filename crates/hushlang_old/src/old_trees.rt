@@ -24,7 +24,7 @@ fn read_all(building: &mut Building, found: Vec<Token>) -> Result<bool, AllocErr
     Ok(true)
 }
 
-/// The tree behind these tokens.
+/// The tree after these tokens.
 fn tree_behind(building: &mut Building, found: Vec<Token>) -> Result<Option<Script>, AllocError>
     ensures { IfOk result (λ script. option_map view.script script
         ≡ says.tree_behind (says.read_tokens (tokens.tokens found) (shown.building building.old))) }
@@ -35,7 +35,7 @@ fn tree_behind(building: &mut Building, found: Vec<Token>) -> Result<Option<Scri
     Ok(building.take_tree())
 }
 
-/// Whether a compound command is open behind these tokens.
+/// Whether a compound command is open after these tokens.
 fn is_open_behind(building: &mut Building, found: Vec<Token>) -> Result<bool, AllocError>
     ensures { IfOk result (λ is. is
         ≡ says.is_open_behind (says.read_tokens (tokens.tokens found) (shown.building building.old))) }
@@ -45,7 +45,7 @@ fn is_open_behind(building: &mut Building, found: Vec<Token>) -> Result<bool, Al
 }
 
 /// Whether the first of these tokens that is not followed is a fault; or if there is none, whether a
-/// compound command is open behind them.
+/// compound command is open after them.
 fn have_fault(building: &mut Building, found: Vec<Token>) -> Result<bool, AllocError>
     ensures { IfOk result (λ has. has
         ≡ says.have_fault (tokens.tokens found) (shown.building building.old)) }

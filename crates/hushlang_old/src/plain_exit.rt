@@ -33,7 +33,7 @@ fn exit_alone(alloc: Global) -> Result<Vec<Word>, AllocError>
     Ok(words)
 }
 
-/// A simple command of these words. `within` says whether it stands in a compound command and `exit`
+/// A simple command of these words. `within` says whether it is in a compound command and `exit`
 /// ends the text there, with status 0. Errors: memory ran out.
 pub(crate) fn simple_call(alloc: Global, within: bool, words: Vec<Word>) -> Result<Call, AllocError>
     ensures { IfOk result (λ call. view.call call

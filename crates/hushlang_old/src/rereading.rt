@@ -11,11 +11,11 @@ use std::alloc::{AllocError, Global};
 enum Place {
     /// A byte that may act.
     Open,
-    /// The byte behind a backslash.
+    /// The byte after a backslash.
     Behind,
     /// A byte in single quotes, that is before the next byte equal to this one.
     Single(u8),
-    /// A byte behind the end of the text.
+    /// A byte after the end of the text.
     Ended,
 }
 
@@ -52,7 +52,7 @@ impl Reading {
         }
     }
 
-    /// Adds a byte, behind a backslash if double quotes are open and it would act else.
+    /// Adds a byte, after a backslash if double quotes are open and it would act else.
     fn guard(&mut self, byte: u8) -> Result<(), AllocError>
         ensures { OnOk result
             (shown.reading self.new ≡ says.with_guarded byte (shown.reading self.old)) }

@@ -1,4 +1,4 @@
--- The last line of a file's text, and what is put behind a script.
+-- The last line of a file's text, and what is put after a script.
 use Rattle.std.proofs.Common.{◌≡◌, ◌≢◌, ◌∙◌, ◌==◌, ◌+◌, ◌-◌, ◌<◌, ◌≤◌, ℕ, true, false, not, List, [], ◌∷◌, ◌++◌, map, length, get_or, take, drop, All, Some, None, arith, ap, sym, refl, codes, slice_index}
 use Rattle.std.specs.List.{suffix_len}
 use Rattle.std.proofs.lemmas.Bool.{eq-eqb, ne_eqb}

@@ -11,8 +11,8 @@ use Rattle.hushlang_modern.specs.ModernTrees.{modern_text}
 use Rattle.hushlang_shells.specs.TreesByShell.{TextRead, Runs, Fails, Panics, Unread, nothing, first_in, started_in, sourced_in}
 use Rattle.rehearse_terms.specs.declared.shell.Shell.TheVariants.{Profile, Old2023, Old2025, Modern2025}
 
--- a text whose end is missing, and a name in braces with a byte that is in no name: these are faults of the modern shell that it tells.
--- By a reserved word that has no place, and by a word behind a closed compound command, it gives up; and a single `|` is not followed
+-- a text whose end is missing, and a name in braces with a byte that is in no name: these are faults of the modern shell that it reports.
+-- By a reserved word that has no place, and by a word after a closed compound command, it gives up; and a single `|` is not followed
 abbrev faulty : List (List ℕ)
 faulty = codes "if true; then echo a" ∷ codes "echo \"a" ∷ codes "echo ${a.b}" ∷ codes "fi" ∷ codes "if true; then echo a; fi b" ∷ codes "a | b" ∷ []
 
@@ -112,7 +112,7 @@ newer_sourced_ended : map (sourced_in Old2025) ended ≡ ended_trees
 unfolding old_tree_of fields atoms
 newer_sourced_ended = refl
 
--- a newline in quotes, and one straight behind a backslash, ends no line; a backslash in a comment does not count. A text of blanks
+-- a newline in quotes, and one straight after a backslash, ends no line; a backslash in a comment does not count. A text of blanks
 -- has no command at all
 abbrev odd : List (List ℕ)
 odd = codes "echo \"a\n# b\"" ∷ codes "false # c\\\n\n" ∷ codes "false \\\n" ∷ codes "false \\\n\n" ∷ codes "echo a\nfalse \\\n" ∷ codes " \n\t\n" ∷ []
@@ -130,7 +130,7 @@ newer_sourced_odd : map (sourced_in Old2025) odd ≡ odd_trees
 unfolding old_tree_of fields atoms
 newer_sourced_odd = refl
 
--- the modern shell reads a newline behind `&&` as ubtool's own grammar does, and the old one otherwise
+-- the modern shell reads a newline after `&&` as ubtool's own grammar does, and the old one otherwise
 joined : started_in Modern2025 (codes "a &&\nb") ≡ started_in Profile (codes "a && b")
 unfolding modern_text tree_of
 joined = refl

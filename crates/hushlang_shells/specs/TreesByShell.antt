@@ -17,7 +17,7 @@ use Rattle.rehearse_terms.specs.declared.shell.Shell.TheVariants.{Profile, Old20
 pub data TextRead : Type 0 where
   -- the script is run
   Runs : (script : Script) → TextRead
-  -- the shell tells a fault: nothing of the text is run, and the status is 1
+  -- the shell reports a fault: nothing of the text is run, and the status is 1
   Fails : TextRead
   -- the shell gives up: the board resets or hangs
   Panics : TextRead
@@ -29,7 +29,7 @@ abbrev pub script_or : (otherwise : TextRead) → Option Script → TextRead
 script_or otherwise None = otherwise
 script_or otherwise (Some script) = Runs script
 
--- in U-Boot's modern shell. By a fault that it does not only tell it gives up (`die_if_script`)
+-- in U-Boot's modern shell. By a fault that it does not only report it gives up (`die_if_script`)
 abbrev pub modern_read : ModernText → TextRead
 modern_read (modern.Read script) = Runs script
 modern_read (modern.Unread stop.Fails) = Fails
@@ -73,7 +73,7 @@ started_in Modern2025 text = modern_read (modern_text text)
 
 -- ---- the end of a file's text in U-Boot's old shell
 
--- a text behind whose last newline are so many bytes: what is before that newline, and what is behind it
+-- a text after whose last newline are so many bytes: what is before that newline, and what is after it
 abbrev pub parted_at : (behind : ℕ) → List ℕ → Option (List ℕ × List ℕ)
 parted_at behind text =
     if behind == length text then None
@@ -96,7 +96,7 @@ abbrev pub is_blank : Option Script → Bool
 is_blank None = false
 is_blank (Some script) = is_empty script
 
--- whether the newline behind these bytes ends a line: a word `fi` on a line of its own is a fault then, since no quotes and no compound
+-- whether the newline after these bytes ends a line: a word `fi` on a line of its own is a fault then, since no quotes and no compound
 -- command are open there, and no backslash is straight before the newline
 abbrev pub is_closed : (newer : Bool) → (before : List ℕ) → Bool
 is_closed newer before =
@@ -129,7 +129,7 @@ old_sourced newer text =
     script_or (fails_when (ends_open newer text)) (option_map (with_end newer text) (old_tree_of newer text))
 
 -- the text of a file that `source` runs (`run_command_list`). U-Boot's old shell reads it a line at a time, as that of `bootcmd`,
--- and what it does behind a fault is not followed; if it finds the end while a compound command is open, and had nothing to run
+-- and what it does after a fault is not followed; if it finds the end while a compound command is open, and had nothing to run
 -- before, the status is 1
 abbrev pub sourced_in : Shell → List ℕ → TextRead
 sourced_in Profile text = script_or Unread (tree_of text)

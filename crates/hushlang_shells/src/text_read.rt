@@ -7,7 +7,7 @@ use hushlang::Script;
 pub enum TextRead {
     /// The script is run.
     Runs(Script),
-    /// The shell tells a fault: nothing of the text is run, and the status is 1.
+    /// The shell reports a fault: nothing of the text is run, and the status is 1.
     Fails,
     /// The shell gives up: the board resets or hangs.
     Panics,

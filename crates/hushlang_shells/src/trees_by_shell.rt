@@ -79,7 +79,7 @@ fn read_old_started(alloc: Global, newer: bool, text: &[u8]) -> Result<TextRead,
     Ok(TextRead::Unread)
 }
 
-/// What is before the last newline of a text, and what is behind it.
+/// What is before the last newline of a text, and what is after it.
 fn parted(text: &[u8]) -> Option<(&[u8], &[u8])>
     ensures { option_map (λ parts. (parts.0.now, parts.1.now)) result ≡ says.parted text.now }
 {
@@ -115,7 +115,7 @@ fn has_tree(alloc: Global, newer: bool, text: &[u8]) -> Result<bool, AllocError>
     Ok(found.is_some())
 }
 
-/// Whether a newline behind these bytes ends a line for U-Boot's old shell: a stray `fi` on the next
+/// Whether a newline after these bytes ends a line for U-Boot's old shell: a stray `fi` on the next
 /// one is a fault.
 fn is_closed(alloc: Global, newer: bool, before: &[u8]) -> Result<bool, AllocError>
     ensures { IfOk result (λ is. is ≡ says.is_closed newer before.now) }
@@ -152,7 +152,7 @@ fn nothing(alloc: Global) -> AndOr
     }
 }
 
-/// Puts an assignment of nothing behind a script.
+/// Puts an assignment of nothing after a script.
 fn with_nothing(alloc: Global, script: Script) -> Result<Script, AllocError>
     ensures { IfOk result (λ ended. view.script ended ≡ says.with_nothing (view.script script)) }
 {

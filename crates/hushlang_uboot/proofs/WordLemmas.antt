@@ -120,6 +120,6 @@ one_field p word e =
     ∙ field_of_atoms all uncut
     ∙ ap (λ some. whole_field some (all_bytes all)) (field_of_word p word e)
 
--- the first of words that nothing can change, and those behind it
+-- the first of words that nothing can change, and those after it
 pub constant_first : (word : Word) (these rest : List Word) → these ≡ word ∷ rest → are_constant these ≡ true → (is_constant_word word ≡ true) × (are_constant rest ≡ true)
 constant_first word these rest first e = and_parts (is_constant_word word) (are_constant rest) (ap are_constant (sym first) ∙ e)

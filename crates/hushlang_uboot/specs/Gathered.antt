@@ -4,7 +4,7 @@ use Rattle.hushlang.specs.Tree.{Piece}
 use Rattle.hushlang.specs.WordPieces.{in_piece}
 use Rattle.hushlang_uboot.specs.ReadBytes.{has_bytes}
 
--- the pieces that are whole, and the bytes behind them
+-- the pieces that are whole, and the bytes after them
 pub record Gathered : Type 0 where
   pub pieces : List Piece
   pub bytes : List ℕ
@@ -18,7 +18,7 @@ with_bytes bytes g = record g { bytes = g.bytes ++ bytes }
 abbrev pub with_byte : ℕ → Gathered → Gathered
 with_byte byte g = with_bytes (byte ∷ []) g
 
--- the bytes behind the pieces are a piece, if there are any
+-- the bytes after the pieces are a piece, if there are any
 abbrev pub all_pieces : Gathered → List Piece
 all_pieces g = g.pieces ++ in_piece g.bytes
 

@@ -51,7 +51,7 @@ is_do word = false
 -- ---- blocks
 
 -- a block on the way: its and-or lists that are whole; of the list on the way its first command, those that are joined to it,
--- and the operator behind them
+-- and the operator after them
 pub record Block : Type 0 where
   pub lists : List AndOr
   pub first : Option Command
@@ -67,7 +67,7 @@ with_command c block = elim block.first [
   | Some first ↦ record block { rest = block.rest ++ (block.op, c) ∷ [] }
 ]
 
--- the list on the way ends. An operator behind its last command does nothing then
+-- the list on the way ends. An operator after its last command does nothing then
 abbrev pub list_ended : Block → Block
 list_ended block = elim block.first [
   | None ↦ block

@@ -8,7 +8,7 @@ use hushlang::Piece;
 use std::alloc::{AllocError, Global};
 use std::mem;
 
-/// What has been read of a word: its pieces that are whole, and the bytes behind them.
+/// What has been read of a word: its pieces that are whole, and the bytes after them.
 #[derive(Drop)]
 pub struct Gathered {
     alloc: Global,
@@ -45,7 +45,7 @@ impl Gathered {
         !self.pieces.is_empty()
     }
 
-    /// The bytes behind the pieces.
+    /// The bytes after the pieces.
     #[tactic(auto, unfolding(crate::specs::GatheredShown::gathered))]
     pub fn bytes(&self) -> &[u8]
         ensures { result.now ≡ (shown.gathered self.now).bytes }
@@ -63,7 +63,7 @@ impl Gathered {
         Ok(())
     }
 
-    /// Makes a piece of the bytes behind the pieces, if there are any.
+    /// Makes a piece of the bytes after the pieces, if there are any.
     #[tactic(auto, unfolding(crate::specs::GatheredShown::gathered))]
     fn close_bytes(&mut self) -> Result<(), AllocError>
         ensures { OnOk result

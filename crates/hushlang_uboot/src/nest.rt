@@ -184,7 +184,7 @@ impl Nest {
         self.block.push(command)
     }
 
-    /// The innermost compound command goes on by a reserved word, or ends. If the word may not stand
+    /// The innermost compound command goes on by a reserved word, or ends. If the word may not be
     /// here, what is nested is lost. Errors: memory ran out.
     #[tactic(auto, unfolding(crate::specs::NestsShown::nest))]
     pub fn go_on(&mut self, word: Reserved) -> Result<Gone, AllocError>

@@ -12,7 +12,7 @@ use std::mem;
 use std::rc::Rc;
 
 /// A block on the way: its and-or lists that are whole; of the list on the way its first command,
-/// those that are joined to it, and the operator behind them.
+/// those that are joined to it, and the operator after them.
 #[derive(Drop)]
 pub(crate) struct Block {
     alloc: Global,
@@ -30,7 +30,7 @@ pub(crate) type Arms = Vec<(Rc<Script>, Rc<Script>)>;
 pub(crate) enum Compound {
     /// `if`, in the condition of its next arm.
     Condition(Arms),
-    /// `if`, in the block behind a condition.
+    /// `if`, in the block after a condition.
     Arm(Arms, Rc<Script>),
     /// `if`, in the `else` block.
     Else(Arms),
@@ -52,7 +52,7 @@ pub(crate) enum Compound {
     Group(bool),
 }
 
-/// The open compound commands, each with the block that it stands in, the innermost last.
+/// The open compound commands, each with the block that it is in, the innermost last.
 #[derive(Drop)]
 pub(crate) struct Opens {
     stack: Vec<(Compound, Block)>,

@@ -9,7 +9,7 @@ pub enum Part {
     Outside,
     /// `if`, in a condition, and whether it has other arms before that.
     Condition(bool),
-    /// `if`, in the block behind a condition, and whether it has other arms before that.
+    /// `if`, in the block after a condition, and whether it has other arms before that.
     Arm(bool),
     /// `if`, in the `else` block.
     Else,

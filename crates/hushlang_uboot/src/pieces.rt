@@ -55,7 +55,7 @@ pub fn only_bytes(pieces: &[Piece]) -> Option<&[u8]>
     }
 }
 
-/// The pieces behind the first one.
+/// The pieces after the first one.
 pub fn without_first(pieces: Vec<Piece>) -> Vec<Piece>
     ensures { map view.piece result.items ≡ drop 1 (map view.piece pieces.items) }
 {

@@ -4,7 +4,7 @@ use Rattle.envimage.proofs.FaultLemmas.{faultless_is_data}
 use Rattle.envimage.specs.Data.{data_fault, entry, pairs_of}
 use Rattle.inspecting.specs.Report.{used_by}
 
--- the entries and the NUL behind them are in the data
+-- the entries and the NUL after them are in the data
 pub used-fits : (body : List ℕ) → data_fault body ≡ None → used_by body ≤ length body
 used-fits body sound =
     let d = faultless_is_data body sound in

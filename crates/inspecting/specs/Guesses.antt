@@ -28,7 +28,7 @@ right_sizes order is_copy bytes = filter (λ size. is_image order is_copy (take 
 
 -- ---- what is tried
 
--- data that are tried begin with a name whose first byte prints, and end within their first 65536 bytes
+-- data that are tried start with a name whose first byte prints, and end within their first 65536 bytes
 abbrev pub has_variables : List ℕ → Bool
 has_variables body = option_map_or is_ascii_graphic (slice_get body 0) false && has_no_fault (take 65536 body)
 

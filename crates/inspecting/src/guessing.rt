@@ -101,7 +101,7 @@ pub fn front<T>(all: &[T], most: usize) -> &[T]
     if all.len() > most { &all[..most] } else { all }
 }
 
-/// Whether data begin with a byte that prints, and have no fault in their first bytes.
+/// Whether data start with a byte that prints, and have no fault in their first bytes.
 fn has_variables(body: &[u8]) -> bool
     ensures { result ≡ has_variables body.now }
 {
@@ -111,7 +111,7 @@ fn has_variables(body: &[u8]) -> bool
     }
 }
 
-/// Whether an image may begin with these bytes.
+/// Whether an image may start with these bytes.
 pub fn may_be(bytes: &[u8], is_copy: bool) -> bool
     ensures { result ≡ may_be is_copy bytes.now }
 {
@@ -119,7 +119,7 @@ pub fn may_be(bytes: &[u8], is_copy: bool) -> bool
     header < bytes.len() && has_variables(&bytes[header..])
 }
 
-/// Whether a single image or a copy may begin with these bytes.
+/// Whether a single image or a copy may start with these bytes.
 fn is_start(bytes: &[u8]) -> bool
     ensures { result ≡ is_start bytes.now }
 {

@@ -29,7 +29,7 @@ pub fn stored(image: &[u8], order: ByteOrder) -> u32
     }
 }
 
-/// The checksum of what is behind its header.
+/// The checksum of what is after its header.
 pub fn checksum(image: &[u8], is_copy: bool) -> u32
     requires { header_of is_copy ≤ length image.now }
     ensures { result ≡ checksum is_copy image.now }

@@ -125,7 +125,7 @@ pub fn put_copies(
     }
 }
 
-/// How many bytes the entries of data take that have no fault, and the NUL behind them.
+/// How many bytes the entries of data take that have no fault, and the NUL after them.
 fn used_by(body: &[u8]) -> usize
     requires { data_fault body.now ≡ None }
     ensures { result ≡ used_by body.now }

@@ -4,11 +4,11 @@ ghost use Rattle.keyed_hash.specs.Keyed.{with_text, without_key};
 
 use std::hash::{BuildHasher, DefaultHasher, Hasher};
 
-/// SipHash-1-3 behind a key. A map has the same entries with any key. Names that have one hash are
+/// SipHash-1-3 after a key. A map has the same entries with any key. Names that have one hash are
 /// easily found for a key that is known, but each of their bytes changes the key of their text.
 #[derive(Clone, Copy)]
 pub struct KeyedHash {
-    /// The state behind the key.
+    /// The state after the key.
     begun: DefaultHasher,
 }
 
@@ -29,7 +29,7 @@ impl KeyedHash {
         KeyedHash::new().with(text)
     }
 
-    /// This hash with one more text behind its key, for names that are from both.
+    /// This hash with one more text after its key, for names that are from both.
     pub fn with(self, text: &[u8]) -> Self
         ensures { result ≡ with_text self text.now }
     {

@@ -32,7 +32,7 @@ checked failures text = checked_of (task failures text)
 
 -- ---- scripts
 
--- what fails besides is not told; a command that succeeds is not either
+-- what fails besides is not reported; a command that succeeds is not either
 only_what_it_takes : lines 2 (codes "load a || load b; boot") ≡ codes "cause 0 booted boot\ncause 1 end 1\nfails boot\n"
 unfolding tree_of fields joined atoms digits
 only_what_it_takes = refl
@@ -110,7 +110,7 @@ as_expected = refl
 
 -- ---- checks
 
--- what boots is not told
+-- what boots is not reported
 amiss : checked 2 (codes "load a || load b; boot") ≡ (codes "cause 1 end 1\nfails boot\n", false)
 unfolding tree_of fields joined atoms digits
 amiss = refl

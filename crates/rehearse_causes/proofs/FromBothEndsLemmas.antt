@@ -1,4 +1,4 @@
--- The least of causes are those that none before them covers, and of these those that none behind them covers.
+-- The least of causes are those that none before them covers, and of these those that none after them covers.
 use Rattle.std.proofs.Common.{Bool, true, false, cond, not, ◌||◌, List, [], ◌∷◌, ◌++◌, fold, reverse, refl, sym, ap, subst, ◌∙◌, ◌≡◌, append_assoc, append-nil}
 use Rattle.std.proofs.lemmas.List.{reverse-append}
 use Rattle.std.proofs.lemmas.List.Elements.{filter-append}

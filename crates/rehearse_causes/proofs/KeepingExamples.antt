@@ -55,7 +55,7 @@ where_none_is = refl
 covered_by_the_first : foremost (on_a ∷ on_both ∷ elsewhere ∷ on_a ∷ []) ≡ on_a ∷ elsewhere ∷ []
 covered_by_the_first = refl
 
--- what one behind it covers stays here, and goes when it is done again from the back
+-- what one after it covers stays here, and goes when it is done again from the back
 covered_by_the_last : foremost (on_both ∷ on_a ∷ []) ≡ on_both ∷ on_a ∷ []
 covered_by_the_last = refl
 

@@ -94,7 +94,7 @@ none_before before (y ∷ cs) c d in_before i =
     by true e on = on (subst (λ (b : Bool). IsIn d (kept_if b y (least_behind (before ++ y ∷ []) cs))) e i)
     by false e on = first on (neither_left (covered y before) (beaten y cs) e) (subst (λ (b : Bool). IsIn d (kept_if b y (least_behind (before ++ y ∷ []) cs))) e i)
 
--- c stands before d
+-- c is before d
 data IsBefore (c d : Cause) : List Cause → Type 0 where
   now : {y : Cause} {xs : List Cause} → c ≡ y → IsIn d xs → IsBefore c d (y ∷ xs)
   later : {y : Cause} {xs : List Cause} → IsBefore c d xs → IsBefore c d (y ∷ xs)

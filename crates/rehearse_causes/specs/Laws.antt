@@ -6,7 +6,7 @@ use Rattle.rehearse_states.specs.Endings.{ending}
 use Rattle.rehearse_causes.specs.Causes.{Cause, cause_on, causes, covers}
 use Rattle.rehearse_causes.specs.CauseLines.{is_booted, is_fine, reported}
 
--- x stands in a list
+-- x is in a list
 pub record StandsIn (x : Cause) (xs : List Cause) : Type 0 where
   pub before : List Cause
   pub behind : List Cause

@@ -59,7 +59,7 @@ fn halt_of(alloc: Global, ending: Ending<'_>) -> Result<Halt, StoreError>
     })
 }
 
-/// Copies of the device commands of a log whose answers are unexpected. One that is told an answer is left
+/// Copies of the device commands of a log whose answers are unexpected. One that is given an answer is left
 /// out. Errors: `Memory`.
 fn failing(alloc: Global, devices: &Devices, log: &[LogEntry]) -> Result<Vec<LogEntry>, StoreError>
     ensures { IfOk result (λ fails. fails.items ≡ filter (λ entry. not entry.again

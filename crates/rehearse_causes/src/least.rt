@@ -11,7 +11,7 @@ use rehearse_rules::RehearseError;
 use rehearse_runs::Runs;
 use std::alloc::Global;
 
-/// Of causes of which none is covered by one before it, those that none behind them covers. Errors:
+/// Of causes of which none is covered by one before it, those that none after them covers. Errors:
 /// `Memory`.
 fn least(alloc: Global, causes: Vec<Cause>) -> Result<Vec<Cause>, StoreError>
     ensures { IfOk result (λ made. made.items ≡ reverse (foremost (reverse causes.items))) }

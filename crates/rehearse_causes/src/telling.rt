@@ -24,11 +24,11 @@ pub struct CausesAsk<'a> {
     pub text: Option<&'a [u8]>,
     /// The bounds of its runs, and how many device commands may fail in those that are looked at.
     pub bounds: Bounds,
-    /// Whether only causes are told that do not boot.
+    /// Whether only causes are reported that do not boot.
     pub check: bool,
 }
 
-/// Those that are told. Errors: `Memory`.
+/// Those that are reported. Errors: `Memory`.
 fn reported(alloc: Global, check: bool, causes: Vec<Cause>) -> Result<Vec<Cause>, StoreError>
     ensures { IfOk result (λ told. told.items ≡ reported check causes.items) }
 {
@@ -55,7 +55,7 @@ fn text_of(alloc: Global, causes: &[Cause]) -> Result<Vec<u8>, StoreError>
     Ok(text)
 }
 
-/// The causes of the given text, or else of a variable, that are told. Errors: `NoSuchVariable`, `Memory`.
+/// The causes of the given text, or else of a variable, that are reported. Errors: `NoSuchVariable`, `Memory`.
 fn causes_in<S: Store>(
     alloc: Global,
     env: &Env,

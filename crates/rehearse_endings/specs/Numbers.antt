@@ -19,7 +19,7 @@ abbrev pub mixed_answer : ℕ → Option Bool → ℕ
 mixed_answer number (Some success) = mixed_flag (mixed number 1) success
 mixed_answer number None = mixed number 0
 
--- a number with a key and what is known at it; the first part tells the kind of the key
+-- a number with a key and what is known at it; the first part is the kind of the key
 abbrev pub mixed_known : ℕ → Known → ℕ
 mixed_known number (Environment name value) = mixed_value (mixed_text (mixed number 1) name.items) (value_shown value)
 mixed_known number (Local name value) = mixed_value (mixed_text (mixed number 2) name.items) (value_shown value)

@@ -53,7 +53,7 @@ pub(crate) fn have_one_key(one: &Known, other: &Known) -> bool
     }
 }
 
-/// Adds a key and what is known at it. The first part tells the kind of the key.
+/// Adds a key and what is known at it. The first part is the kind of the key.
 pub(crate) fn mix_known(hash: u64, known: &Known) -> u64
     ensures { result ≡ mixed_known hash known.now }
 {

@@ -136,7 +136,8 @@ fn is_spent<S: Store>(store: &S, most_work: u32) -> bool
 }
 
 /// Gives the device command that asks an outcome, and goes on until the text stops again. So many states were entered
-/// before. Says how many frames there were at least: none if the text ended. Errors: `Memory`; `Steps` with this number, after the stretch with which more steps were begun than allowed.
+/// before. Says how many frames there were at least: none if the text ended. Errors: `Memory`; `Steps` with this number,
+/// after the stretch with which more steps were begun than allowed.
 fn resumed<S: Store>(
     rehearsal: &Rehearsal<'_>,
     reported: &mut Reported,
@@ -354,12 +355,12 @@ fn summed<S: Store>(
 /// unexpected answers. Runs that leave other values of the named variables are told apart. The endings are in
 /// the order of their first runs.
 ///
-/// Two moments are the same state if they are at the same place, but for frames to which nothing comes back, have the same at
-/// the keys that were found to be enough, and have room for the same runs. Each state is searched once, so at most two
-/// stretches of steps start at a state. Returns `States` if the runs reach more states than allowed. Returns `Steps` after the
-/// first stretch with which more steps were begun than allowed, in all stretches together. Returns `Bytes` if the states that
-/// were searched count more bytes than allowed, each by its frames that count and what is known at its keys. Both have the
-/// number of states that were entered by then.
+/// Two moments are the same state if they are at the same place, have the same values at the keys that were found to be
+/// enough, and have room for the same runs. Frames to which nothing comes back do not count. Each state is searched once, so
+/// at most two stretches of steps start at a state. Returns `States` if the runs reach more states than allowed. Returns
+/// `Steps` after the first stretch with which all stretches together have more steps than allowed. Returns `Bytes` if the
+/// states that were searched count more bytes than allowed. A state counts the bytes of its frames that count, and of what is
+/// known at its keys. All three have the number of states that were entered by then.
 /// Errors: `Memory`, `States`, `Steps`, `Bytes`.
 pub fn sum_endings<S: Store>(
     rehearsal: &Rehearsal<'_>,

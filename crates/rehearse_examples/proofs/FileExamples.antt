@@ -51,7 +51,7 @@ ending_the_run : listed (sourcing (record source { ends = Some Boots }) (codes "
 unfolding listed_along ends_along
 ending_the_run = along 1 (sourcing (record source { ends = Some Boots }) (codes "echo a") (codes "source")) z (Some 1) _ refl refl
 
--- a command that is told its answer again hands over again
+-- a command that is given its answer again hands over again
 told_again : listed (sourcing (record source { stays = true }) (codes "echo a") (codes "source; source")) z None ≡ codes "run 0\ndev 0 source\ndev 0 source\ntext a\\na\\n\nunset z\nend 0\nrun 1\ndev 1 source\ndev 1 source\nunset z\nend 1\ndone\n"
 unfolding listed_along ends_along
 told_again = along 1 (sourcing (record source { stays = true }) (codes "echo a") (codes "source; source")) z None _ refl refl
@@ -86,7 +86,7 @@ empty_text : in_each [] (codes "source; echo $?") ≡ all_write (codes "0\n")
 unfolding told_of
 empty_text = refl
 
--- it begins with the status from before the call, but a text without a command has the status 0
+-- it starts with the status from before the call, but a text without a command has the status 0
 status_before : in_each (codes "echo $?") (codes "false; source; echo $?") ≡ all_write (codes "1\n0\n")
 unfolding told_of
 status_before = refl
@@ -128,7 +128,7 @@ unfolding told_of
 exit_in_its_if = refl
 
 -- a text that is no script. The old shells read it a line at a time: without a newline they find that its end is missing, and what they
--- do behind a fault is not followed
+-- do after a fault is not followed
 no_script : in_each (codes "echo a; if true; then echo b") (codes "source; echo $?") ≡ ([], Syntax (codes "boot.scr")) ∷ (codes "1\n", End 0) ∷ (codes "1\n", End 0) ∷ (codes "1\n", End 0) ∷ []
 unfolding told_of
 no_script = refl

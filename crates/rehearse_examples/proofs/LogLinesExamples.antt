@@ -13,7 +13,7 @@ failed = record { success = false; words = codes "boot" ∷ [] ∷ codes "b c" �
 of_a_success : entry_line loaded ≡ codes "dev 0 load a\n"
 of_a_success = refl
 
--- also of a command that is told its answer again
+-- also of a command that is given its answer again
 of_a_failure : entry_line failed ≡ codes "dev 1 boot \\e b\\x20c\n"
 of_a_failure = refl
 

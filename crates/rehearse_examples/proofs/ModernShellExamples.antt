@@ -65,7 +65,7 @@ words : by_modern (codes "echo a '' \"\" b" ∷ codes "echo a*\\b \"x-y\"*" ∷ 
 unfolding told_of
 words = refl
 
--- a text of `run` with a fault that the shell tells has the status 1, and nothing of it is run; at one by which it gives up the run ends
+-- a text of `run` with a fault that the shell reports has the status 1, and nothing of it is run; at one by which it gives up the run ends
 abbrev started : Text → Text → Told
 started t text = told_of (bootcmd_among in_modern ((codes "t", t) ∷ []) text)
 

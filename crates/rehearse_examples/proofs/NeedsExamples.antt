@@ -94,7 +94,7 @@ told_list = record (needing (codes "bootz") quiet (codes "load" ∷ [])) {
 told_read : lists.listed (codes "call load ** : always 0\ncall bootz ** : needs load") ≡ Ok told_list
 told_read = refl
 
--- a success that is told meets a need, too
+-- a success that is reported meets a need, too
 abbrev told_meets : Task
 told_meets = bootcmd (limits told_list 16 10000) (codes "load; bootz")
 

@@ -102,7 +102,7 @@ file_among_words : listed (bootcmd (record (limits only_load 2 10000) { shell = 
 unfolding listed
 file_among_words = refl
 
--- words behind the file that U-Boot cannot read hold, whether it is there or not
+-- words after the file that U-Boot cannot read hold, whether it is there or not
 file_in_front_of_a_word : listed (bootcmd (record (limits only_load 2 10000) { shell = Old2025 }) (codes "test -e mmc 0 a b; echo $?")) z None
     ≡ codes "run 0\ndev 0 test -e mmc 0 a\ntext 0\\n\nunset z\nend 0\nrun 1\ndev 1 test -e mmc 0 a\ntext 0\\n\nunset z\nend 0\ndone\n"
 unfolding listed
@@ -171,7 +171,7 @@ newer_exits_read_again : by_newer (codes "x=1; exit $x; echo $?" ∷ codes "e=ex
 unfolding told_of
 newer_exits_read_again = refl
 
--- its number is its status up to 255: decimal, or hexadecimal behind `0x`; a word that is no number is 0
+-- its number is its status up to 255: decimal, or hexadecimal after `0x`; a word that is no number is 0
 newer_exit_numbers : by_newer (codes "exit 2; echo a" ∷ codes "exit 255" ∷ codes "exit 0x10" ∷ codes "exit 010" ∷ codes "exit 3x" ∷ codes "x=255; exit $x; echo $?" ∷ [])
     ≡ ([], End 2) ∷ ([], End 255) ∷ ([], End 16) ∷ ([], End 10) ∷ ([], End 3) ∷ (codes "255\n", End 0) ∷ []
 unfolding told_of
@@ -224,7 +224,7 @@ empty_value : in_each (codes "x=a; x=; echo $?$x; x=$none; echo $?$x") ≡ (code
 unfolding told_of
 empty_value = refl
 
--- options of `setenv`: `-f` and `-` are dropped, and by another letter it tells its usage
+-- options of `setenv`: `-f` and `-` are dropped, and by another letter it prints its usage
 option_of_setenv : in_each (codes "setenv -f b c; echo $b $?") ≡ (codes "1\n", End 0) ∷ (codes "c 0\n", End 0) ∷ (codes "c 0\n", End 0) ∷ []
 unfolding told_of
 option_of_setenv = refl

@@ -131,7 +131,7 @@ parts_listed = along 1 parts (codes "v" ∷ []) None _ refl refl
 sub_lines_decide : effect_of (record { commands = (codes "mmc", steady) ∷ []; subs = (codes "mmc", (codes "rescan", quiet) ∷ []) ∷ []; calls = []; known = []; test_stays = false; choices = []; files = [] }) (codes "mmc") (codes "rescan" ∷ []) ≡ Some quiet
 sub_lines_decide = refl
 
--- an answer that is told again counts against the bound of device commands
+-- an answer that is given again counts against the bound of device commands
 abbrev bounded : Task
 bounded = bootcmd (limits steady_load 2 10000) (codes "load; load; load")
 

@@ -1,3 +1,3 @@
 //! Worked examples of rehearsals: each row of `proofs/` is computed from the definitions of `rehearse` when this crate is
-//! proved. No program stands on it.
+//! proved. No program depends on it.
 #![tactic(auto)]

@@ -31,7 +31,7 @@ use Rattle.rehearse_frames.specs.Laws.{KeysOfAlikeFrames, KeysOfEnds, KeysOfMove
 use Rattle.rehearse_frames.proofs.FramesAlike.{over_alike, continue_alike, beside}
 use Rattle.rehearse_frames.proofs.MovesAlike.{NextAlike, goes_alike, asks_alike, stops_alike, cut_alike, beyond_there, IsBeyondThere, one_more, moves_alike, answers_alike}
 
--- ---- what is known in front of accesses, and behind them
+-- ---- what is known in front of accesses, and after them
 
 pub agree_fewer : (keys more : List Key) (s t : State) → AreAmong keys more → AgreeOn more s t → AgreeOn keys s t
 agree_fewer keys more s t all agree key h = agree key (all_of_more (key ∷ []) keys more (h, tt) all).0
@@ -94,7 +94,7 @@ module _ (limits : Limits) (wanted : List Text) (i j : ℕ) (k l : List LoggedCo
   alike_before c d (beyond (inl h)) = let a = near.steps in let g = h.1 in let f = h.0 in beyond (inl (omega arith, omega arith))
   alike_before c d (beyond (inr h)) = let a = further_apart k l s.log t.log near.logs in let g = h.1 in let f = h.0 in beyond (inr (omega arith, omega arith))
 
--- ---- behind a move, or behind an outcome
+-- ---- after a move, or after an outcome
 
 module _ (limits : Limits) (wanted : List Text) (i j : ℕ) (k l : List LoggedCommand) where
   abbrev Alike : Came → Came → Type 0

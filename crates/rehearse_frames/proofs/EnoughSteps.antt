@@ -1,4 +1,4 @@
--- Keys that are enough before a step of the machine, and where a device command asks, by what is enough behind.
+-- Keys that are enough before a step of the machine, and where a device command asks, by what is enough after.
 use Rattle.std.proofs.Common.{◌≡◌, ◌∙◌, ap, subst, List, []}
 use Rattle.bootstore_state.specs.Moment.{Moment}
 use Rattle.bootstore_state.specs.StoredState.{state_at}

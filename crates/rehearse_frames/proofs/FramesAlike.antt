@@ -204,7 +204,7 @@ frames_go_alike limits wanted w fs keys s t within agree =
     continue_alike limits s.steps t.steps s.log t.log wanted fs keys (Normal (with w s)) (Normal (with w t)) (reads_within keys (of_frames limits wanted fs (Normal (with w s))) within)
     (normal_alike limits s.steps t.steps s.log t.log keys (with w s) (with w t) (beside limits keys s t w agree))
 
--- the text of the file that follows begins with the same status, if it follows
+-- the text of the file that follows starts with the same status, if it follows
 file_alike : (limits : Limits) (request : Request) (fs : List Frame) (keys : List Key) (s t : State) → AgreeOn keys s t → (w : OutcomeWord) → ReadsWithin keys (taken_accesses request w)
     → continue limits (with_file t.memory.status request.effect.runs fs) (take_outcome request w (with w t)) ≡ continue limits (with_file s.memory.status request.effect.runs fs) (take_outcome request w (with w t))
 file_alike limits request fs keys s t agree [] within =

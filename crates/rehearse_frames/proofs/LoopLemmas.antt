@@ -39,7 +39,7 @@ filtered p (key ∷ keys) first later h = by (p key) refl (filtered p keys first
     by true e rest = (kept_or_later p key first later e h.0, rest)
     by false e rest = rest
 
--- a key in front is read, or it is one of those behind
+-- a key in front is read, or it is one of those after
 read_or_later : (accesses : List Access) (keys : List Key) → AreAmong (keys_in_front accesses keys) (keys_in_front accesses [] ++ keys)
 read_or_later [] keys = all_itself keys
 read_or_later (Reads key ∷ accesses) keys = (inl refl, all_right (keys_in_front accesses keys) (key ∷ []) (keys_in_front accesses [] ++ keys) (read_or_later accesses keys))

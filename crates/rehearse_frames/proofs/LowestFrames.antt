@@ -279,7 +279,7 @@ pub keys_hold_below : KeysHoldBelow
 unfolding IsAsking
 keys_hold_below limits wanted below m keys asking within never enough = keys_above limits below m asking within never wanted keys enough
 
--- with no outcome left, the command that asks wants one
+-- with no outcome left, the command that asks needs one
 wants_one : (limits : Limits) (m : Moment) (asking : Asking limits m) → asked_at limits m [] ≡ Wants (state_at m [])
 wants_one limits m asking = asked_so limits m asking [] ∙ continue-dry limits (with_file m.status asking.request.effect.runs (frames_of m.frames)) (state_at m [])
 

@@ -93,7 +93,7 @@ module _ (limits : Limits) (wanted : List Text) (w : OutcomeWord) where
   nothing_of shell (Ended ending t) e = refl
   nothing_of shell (Dry t) e = refl
 
-  -- behind a block of an `if`
+  -- after a block of an `if`
   passed_so : (shell : Shell) → limits.shell ≡ shell → left_accesses shell ≡ [] → (fs : List Frame) (a : Answer) → compound shell a ≡ a → Rest fs a ≡ Rest (CommandEnd ∷ fs) a
   passed_so shell own none fs a same =
       sym (ap (λ (x : Shell). compound_accesses x a ++ Rest fs (compound x a)) own ∙ ap (λ (xs : List Access). xs ++ Rest fs (compound shell a)) (nothing_of shell a none) ∙ ap (Rest fs) same)

@@ -11,11 +11,11 @@ use Rattle.rehearse_machine.proofs.BoundLemmas.{Cut-block, Cut-command, Cut-if, 
 use Rattle.rehearse_reads.specs.Keys.{Access, Reads, Status, all_read}
 use Rattle.rehearse_reads.specs.Accesses.{behind, status_written, words_reads, sized_accesses, simple_accesses, assign_accesses, for_accesses, begun_accesses, turns_accesses, script_accesses, list_accesses, joined_accesses, command_accesses, arms_accesses, modern_accesses, for_words_accesses, compound_accesses}
 
--- nothing before a cut, and nothing behind it
+-- nothing before a cut, and nothing after it
 pub nothing_behind : (xs : List Access) (a : Answer) (s : State) (f : State → List Access) → xs ≡ [] → a ≡ Ended CutSteps s → xs ++ behind a f ≡ []
 nothing_behind xs a s f e cut = ap (λ (ys : List Access). ys ++ behind a f) e ∙ ap (λ (b : Answer). behind b f) cut
 
--- nor behind a compound command that is cut
+-- nor after a compound command that is cut
 nothing_left : (shell : Shell) (xs : List Access) (a : Answer) (s : State) → xs ≡ [] → a ≡ Ended CutSteps s → xs ++ compound_accesses shell a ≡ []
 nothing_left shell xs a s e cut = ap (λ (ys : List Access). ys ++ compound_accesses shell a) e ∙ ap (compound_accesses shell) cut
 

@@ -45,7 +45,7 @@ abbrev pub of_exit : Shell → Option ℕ → List Frame → List Access
 of_exit shell (Some status) fs = Writes Status ∷ of_leaving shell status fs
 of_exit shell None fs = status_written
 
--- a command that is told an answer goes on with it
+-- a command that is given an answer goes on with it
 abbrev pub of_telling : (told : Option Bool) → Request → List Access
 of_telling (Some success) request = outcome_accesses (outcome_when success) request
 of_telling None request = []
@@ -86,7 +86,7 @@ abbrev pub of_beginning_file : Shell → Option Text → List Access
 of_beginning_file shell None = status_written
 of_beginning_file shell (Some text) = of_beginning_read (sourced_in shell text)
 
--- a text that asks something is read, and the frame behind it reads its status
+-- a text that asks something is read, and the frame after it reads its status
 abbrev pub of_beginning_question : TextRead → List Access
 of_beginning_question (Runs tree.Empty) = status_written
 of_beginning_question (Runs (tree.Runs list more)) = []
@@ -159,7 +159,7 @@ module _ (limits : Limits) where
       begun_accesses limits (λ t. modern_accesses limits.shell
       ++ of_beginning_words limits.shell name words (for_begun limits.shell t)) s
 
-  -- the text of a file begins with the status from before, and the question whether it is this one does not
+  -- the text of a file starts with the status from before, and the question whether it is this one does not
   abbrev pub of_beginning_one : (name : Text) → (others : List Text) → List Access
   of_beginning_one name [] = Writes Status ∷ of_beginning_file limits.shell (file_in limits.devices name)
   of_beginning_one name (other ∷ others) = of_beginning_question (started_in limits.shell (choice_text name))

@@ -38,19 +38,19 @@ module _ (limits : Limits) where
   abbrev pub of_arms : Arms → State → List Access
   of_arms = arms_accesses limits limits.step_bound (full limits) of_full
 
-  -- the next turns of a loop, behind a body whose status may be the loop's
+  -- the next turns of a loop, after a body whose status may be the loop's
   abbrev pub of_again : Bool → Script → Script → State → List Access
   of_again until c b u =
       Reads Status ∷ turns_accesses limits.shell limits.step_bound until (script limits c) (script limits b) (of_script c) (of_script b) u
 
-  -- of a loop, behind its condition
+  -- of a loop, after its condition
   abbrev pub of_condition : Bool → Script → Script → State → List Access
   of_condition until c b t = Reads Status ∷ elim (holds until t.memory.status) [
     | true ↦ of_script b t ++ behind (script limits b t) (of_again until c b)
     | false ↦ status_written
   ]
 
-  -- of an `if`, behind a condition
+  -- of an `if`, after a condition
   abbrev pub of_choice : Script → Arms → State → List Access
   of_choice b arms t =
       Reads Status ∷ elim (nat_eq t.memory.status 0) [
@@ -69,7 +69,7 @@ module _ (limits : Limits) where
   of_chosen name other others before =
       chosen_accesses limits (full limits) of_full name before (one_accesses limits (full limits) of_full other others before)
 
-  -- ---- what compound commands do, behind a part of them
+  -- ---- what compound commands do, after a part of them
 
   abbrev pub choice : Script → Arms → State → Answer
   choice b arms t = elim (nat_eq t.memory.status 0) [
@@ -86,11 +86,11 @@ module _ (limits : Limits) where
   abbrev pub turns_left : Text → List Text → Script → State → Answer
   turns_left name values body t = for_each limits.shell name (script limits body) t.memory.status values t
 
-  -- a compound command ends behind this answer
+  -- a compound command ends after this answer
   abbrev pub of_compound : Answer → List Access
   of_compound a = compound_accesses limits.shell a
 
-  -- a frame, behind the answer of the frames above it
+  -- a frame, after the answer of the frames above it
   abbrev pub of_frame : Frame → Answer → List Access
   of_frame (Lists lists) a = behind a (of_script lists)
   of_frame (Linked links) a = behind a (of_joined links)
@@ -116,7 +116,7 @@ module _ (limits : Limits) where
     of_end (Ended ending s) = names_read wanted
     of_end (Dry s) = []
 
-    -- all frames, behind an answer
+    -- all frames, after an answer
     abbrev pub of_frames : List Frame → Answer → List Access
     of_frames [] a = of_end a
     of_frames (f ∷ fs) a = of_frame f a ++ of_frames fs (resume limits f a)

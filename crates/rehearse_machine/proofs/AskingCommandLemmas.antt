@@ -1,4 +1,4 @@
--- A command that asks was not told an answer: it takes an outcome of the word.
+-- A command that asks was given no answer: it takes an outcome of the word.
 use Rattle.device_list.specs.declared.finish.BoardEnd.{BoardEnd}
 use Rattle.rehearse_rules.specs.ByShell.{leaves_in, status_of_exit, asks_in, truth_in, fields_in, follows, reads_again, call_in}
 use Rattle.std.proofs.Common.{ℕ, zero, suc, Bool, true, false, List, [], ◌∷◌, length, Option, Some, None, refl, subst, ◌≡◌, nat_lt, nat_le, nat_eq}

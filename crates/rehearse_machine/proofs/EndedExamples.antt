@@ -27,7 +27,7 @@ new = names_frame one (codes "b" ∷ [])
 abbrev ended : RunningFrame
 ended = text_at 0 1 one
 
--- behind the last command of the last list, and behind the last list
+-- after the last command of the last list, and after the last list
 two_ways_to_end : lightened (new ∷ text_at 1 1 two ∷ begun ∷ text_at 2 0 two ∷ begun ∷ ended ∷ begun ∷ [])
     ≡ new ∷ text_at 2 0 two ∷ begun ∷ ended ∷ begun ∷ []
 two_ways_to_end = refl
@@ -39,7 +39,7 @@ below_stays = refl
 
 -- ---- a `run` that is the last command in a block
 
--- an `if`, alone, and with a command behind it
+-- an `if`, alone, and with a command after it
 abbrev branch : Script
 branch = tree.Runs (tree.Starts (tree.If (tree.Arm one one tree.NoElse)) tree.Alone) tree.Empty
 
@@ -65,11 +65,11 @@ in_nested_ifs : lightened (new ∷ done ∷ block_at 0 1 branch ∷ block_at 1 0
     ≡ new ∷ ended ∷ begun ∷ ended ∷ begun ∷ done ∷ []
 in_nested_ifs = refl
 
--- the modern shell: the text stands in the `if`, which is over
+-- the modern shell: the text is in the `if`, which is over
 in_an_if_that_is_over : lightened (new ∷ done ∷ moved_to (place 0 0 2 1) (text_frame branch) ∷ begun ∷ ended ∷ begun ∷ ended ∷ begun ∷ []) ≡ new ∷ ended ∷ begun ∷ ended ∷ begun ∷ []
 in_an_if_that_is_over = refl
 
--- a command behind the `if`, in the old shell and in the modern one
+-- a command after the `if`, in the old shell and in the modern one
 command_behind_if : lightened (new ∷ done ∷ text_at 0 1 branch_and_one ∷ begun ∷ ended ∷ begun ∷ ended ∷ begun ∷ []) ≡ new ∷ done ∷ text_at 0 1 branch_and_one ∷ begun ∷ ended ∷ begun ∷ ended ∷ begun ∷ []
 command_behind_if = refl
 

@@ -30,7 +30,7 @@ one_of : (b c : Bool) → b || c ≡ true → (b ≡ true) ⊎ (c ≡ true)
 one_of true c e = inl refl
 one_of false c e = inr e
 
--- ---- parts of a script behind its last command
+-- ---- parts of a script after its last command
 
 no_lists : (script : Script) (i : ℕ) → is_some (list_at script i) ≡ false → drop_lists i script ≡ tree.Empty
 no_lists tree.Empty zero e = refl

@@ -159,7 +159,7 @@ module _ (limits : Limits) where
     finish-is (Some finish) name fs s = sym (continue-ended fs (Finished finish name) (with w s))
     finish-is None name fs s = refl
 
-    -- a command that is told its answer again, or one that asks
+    -- a command that is given its answer again, or one that asks
     tell-is : (o : Option Bool) (request : Request) (fs : List Frame) (s : State) → comes_to limits w (tell_or_ask o request fs s) ≡ continue limits (with_file s.memory.status request.effect.runs fs) (tell_or_take o request (with w s))
     tell-is None request fs s = refl
     tell-is (Some true) request fs s = finish-is request.effect.ends request.name (with_file s.memory.status request.effect.runs fs) (set_environment (sets_in request.words request.effect.sets) (logged Success (told_again request) s))

@@ -38,7 +38,7 @@ known_before found found_now e h = (e, ap (λ (x : List Text). nat_le (size x) m
 pub top_moves : (limits : Limits) (m : Moment) (f : RunningFrame) (does : List RunningFrame → State → PlaceNext) → IsTop f m → ((w : OutcomeWord) → does (under m) (state_at m w) ≡ place_by limits f.kind f (under m) (state_at m w)) → (w : OutcomeWord) → does (under m) (state_at m w) ≡ place_move limits m.frames (state_at m w)
 top_moves limits m f does t e w = e w ∙ sym (ap (λ (fs : List RunningFrame). place_move limits fs (state_at m w)) t)
 
--- a command whose place has one after it begins with room
+-- a command whose place has one after it starts with room
 pub has_room : (next : Next) (f : RunningFrame) → f.place.command + 1 < 2 ^ 64 → HasRoom next f
 has_room nexts.Leaves f h = tt
 has_room (nexts.Goes at) f h = tt

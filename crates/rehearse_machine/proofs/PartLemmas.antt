@@ -65,7 +65,7 @@ module _ (l : ListCode) (n : ℕ) where
       sym (later h ∙ ap (λ (x : List Join). command_in (tree.Starts (view.command l.first) (view.joins (map view.joined x))) (suc (n - 1))) (sym is)
       ∙ ap second (join_none items (n - 1) (slice_get_past items (n - 1) past)))
 
--- the command behind another one
+-- the command after another one
 module _ (l : ListCode) (n : ℕ) (items : List Join) (is : items ≡ l.rest.items) where
   behind : command_in (view.list l) (suc n) ≡ second (joined_at (view.joins (map view.joined items)) n)
   behind = opened l (suc n) ∙ ap (λ (x : List Join). second (joined_at (view.joins (map view.joined x)) n)) (sym is)

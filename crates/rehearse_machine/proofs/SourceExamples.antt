@@ -28,7 +28,7 @@ none = finite.empty
 no_variables : entries none ≡ []
 no_variables = ap (λ (s : State). s.memory.locals) (stored_starts Kept none [])
 
--- a run begins with these variables
+-- a run starts with these variables
 variables : entries (environment_of environment) ≡ environment
 variables =
     stored_changes (finite.insert none (codes "boot.cmd") (codes "exit 3")) (codes "x") (codes "exit 4")
@@ -100,7 +100,7 @@ runs_its_namesake : told (codes "run boot.cmd") ≡ Some ([], End 3)
 unfolding tree_of fields joined atoms digits
 runs_its_namesake = computed (named (codes "run boot.cmd")) (Some ([], End 3)) refl
 
--- a text that the shell cannot read ends the run by its name, before anything is run (fails if another name is told)
+-- a text that the shell cannot read ends the run by its name, before anything is run (fails if another name is reported)
 no_script : told (codes "echo a; if") ≡ Some ([], Syntax (codes "boot.cmd"))
 unfolding tree_of fields joined atoms digits
 no_script = refl

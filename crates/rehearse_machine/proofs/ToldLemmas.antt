@@ -79,7 +79,7 @@ room_for asked bound l = by (nat_lt asked bound) refl
     by true e = refl
     by false e = absurd (let m = ltb-false asked bound e in omega arith)
 
--- it is told its answer again
+-- it is given its answer again
 pub told_comes : (request : Request) (again success : Bool) (r : Result Step StoreError) (old new : Record) → again ≡ true → Comes r old new (place_answered (outcome_when success) (record request { again = again }) old.present.frames)
     → Comes r old new (place_tell_or_ask (Some success) request old.present.frames)
 told_comes request again success r old new e h = subst (λ (b : Bool). Comes r old new (place_answered (outcome_when success) (record request { again = b }) old.present.frames)) e h

@@ -41,7 +41,7 @@ is_over at = nat_eq at.turn 2 && nat_eq at.last 1
 abbrev pub is_between : At → Bool
 is_between at = nat_eq at.turn 0 || is_over at
 
--- the next command of a list: that of the place, or the one behind it
+-- the next command of a list: that of the place, or the one after it
 abbrev pub next_command : AndOr → At → Option Command
 next_command list at = elim (is_over at) [ true ↦ command_in list (suc at.command) | false ↦ command_in list at.command ]
 

@@ -68,7 +68,7 @@ names_weight shell environment [] m = m
 names_weight shell environment (name ∷ names) m =
     text_weight shell (get environment name) (suc (names_weight shell environment names m + m)) m
 
--- one of these files, which the question is behind
+-- one of these files, which the question is after
 abbrev pub one_weight : Limits → (name : Text) → (others : List Text) → ℕ → ℕ
 one_weight limits name [] m = file_weight limits.shell (file_in limits.devices name) m
 one_weight limits name (other ∷ others) m =

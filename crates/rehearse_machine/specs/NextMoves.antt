@@ -38,7 +38,7 @@ ContinuesAt shell status next f says =
     (limits : Limits) (fs : List RunningFrame) (s : State) → limits.shell ≡ shell → s.memory.status ≡ status →
     continued limits next f fs s ≡ says limits fs s
 
--- the same in this shell, behind a block that is not run and leaves this status
+-- the same in this shell, after a block that is not run and leaves this status
 abbrev pub SkipsTo : Shell → (skipped : ℕ) → Next → RunningFrame → (Limits → List RunningFrame → State → PlaceNext) →
     Type 0
 SkipsTo shell skipped next f says =

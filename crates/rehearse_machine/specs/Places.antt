@@ -74,7 +74,7 @@ abbrev pub from_command : AndOr → ℕ → Script → List Frame
 from_command list zero rest = Lists (tree.Runs list rest) ∷ []
 from_command (tree.Starts c joins) (suc j) rest = Linked (drop_joined j joins) ∷ Lists rest ∷ []
 
--- behind the condition of the first of these arms, if there is one
+-- after the condition of the first of these arms, if there is one
 abbrev pub condition_frame : Arms → Frame
 condition_frame (tree.Arm c b more) = IfCondition b more
 condition_frame (tree.Else b) = CommandEnd
@@ -262,7 +262,7 @@ place_taken Failure request ps s = GoOn ps (logged Failure request s)
 abbrev pub place_answered : Outcome → Request → List RunningFrame → State → PlaceNext
 place_answered outcome request ps s = place_taken outcome request (above_file s.memory.status request.effect.runs ps) s
 
--- a command that is told its answer again goes on with it; another one asks
+-- a command that is given its answer again goes on with it; another one asks
 abbrev pub place_tell_or_ask : (told : Option Bool) → Request → List RunningFrame → State → PlaceNext
 place_tell_or_ask (Some success) request ps s = place_answered (outcome_when success) (told_again request) ps s
 place_tell_or_ask None request ps s = AskOn request ps s
@@ -292,7 +292,7 @@ abbrev pub place_sourced : Shell → Option Text → Text → RunningFrame → L
 place_sourced shell None name f fs s = GoOn fs (set_status 1 s)
 place_sourced shell (Some text) name f fs s = place_read shell (sourced_in shell text) name f fs s
 
--- a text that asks something is read, and the frame is behind it
+-- a text that asks something is read, and the frame is after it
 abbrev pub place_question : Shell → TextRead → Text → RunningFrame → List RunningFrame → State → PlaceNext
 place_question shell (Runs t) name f fs s = GoOn (text_frame t ∷ f ∷ fs) (begun_text t s)
 place_question shell Fails name f fs s = GoOn (f ∷ fs) (set_status 1 s)

@@ -54,7 +54,7 @@ fn is_between(at: At) -> bool
     at.turn == 0 || is_over(at)
 }
 
-/// The next command of a list: that of the place, or the one behind it if that is over.
+/// The next command of a list: that of the place, or the one after it if that is over.
 fn next_command(list: &AndOr, at: At) -> Option<&Command>
     ensures { option_map (λ found. view.command found.now) result
         ≡ next_command (view.list list.now) at }

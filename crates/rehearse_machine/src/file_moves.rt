@@ -54,7 +54,7 @@ pub(crate) fn hand_over<S: Store>(
 }
 
 /// Advances the frame of files: begins the text of one if the command that handed over has succeeded, or
-/// asks which one it is. Behind the text the command has ended, with the status that such a text gives it.
+/// asks which one it is. After the text the command has ended, with the status that such a text gives it.
 /// Errors: `Memory`.
 pub(crate) fn move_file<'d, S: Store>(
     alloc: Global,
@@ -210,7 +210,7 @@ fn ask_which<'d, S: Store>(
     }
 }
 
-/// Begins the text of a file, by what the shell reads in it: a text with a fault that the shell tells
+/// Begins the text of a file, by what the shell reads in it: a text with a fault that the shell reports
 /// has the status 1, and another one that is not run ends the run. Errors: `Memory`.
 fn begin_read<'d, S: Store>(
     alloc: Global,

@@ -106,7 +106,7 @@ pub(crate) fn move_run<'d, S: Store>(
 }
 
 /// Starts the text of the next name of a `run`, or ends the `run` if no name is left. A name that
-/// is not set, or a text with a fault that the shell tells, ends it with status 1. Another text that
+/// is not set, or a text with a fault that the shell reports, ends it with status 1. Another text that
 /// is not run ends the whole run.
 fn next_name<'d, S: Store>(
     store: &mut S,

@@ -21,7 +21,7 @@ pub fn command_of(list: &AndOr, command: usize) -> Option<&Command>
     }
 }
 
-/// The command of a list behind the one with this number.
+/// The command of a list after the one with this number.
 pub(crate) fn command_behind(list: &AndOr, command: usize) -> Option<&Command>
     ensures { option_map (λ found. view.command found.now) result
         ≡ command_in (view.list list.now) (suc command) }

@@ -82,7 +82,7 @@ fn take<'d, S: Store>(
     Ok(Step::Going)
 }
 
-/// A device command, if the bound allows one more: one that is told its answer again goes on with
+/// A device command, if the bound allows one more: one that is given its answer again goes on with
 /// it, and another one asks. Errors: `Memory`.
 pub(crate) fn ask<'d, S: Store>(
     alloc: Global,

@@ -39,7 +39,7 @@ fn is_force(word: &[u8]) -> bool
     }
 }
 
-/// The words of `setenv` behind its options: none, if it does not take one of them.
+/// The words of `setenv` after its options: none, if it does not take one of them.
 fn behind_options(words: &[Vec<u8>]) -> &[Vec<u8>]
     ensures { bytes_of_words result.now ≡ says.behind_options (bytes_of_words words.now) }
 {
@@ -73,13 +73,13 @@ fn plain_words<'w>(most: usize, name: &[u8], words: &'w [Vec<u8>]) -> &'w [Vec<u
 pub struct ShellCall<'c> {
     /// The name of the command.
     pub name: &'c [u8],
-    /// The words behind it.
+    /// The words after it.
     pub words: &'c [Vec<u8>],
     /// The built-in command that the name names, if it names one.
     pub builtin: Option<Builtin>,
 }
 
-/// A call in U-Boot 2025.01, which tells its usage if it has too many words, as `false` does.
+/// A call in U-Boot 2025.01, which prints its usage if it has too many words, as `false` does.
 fn bounded_call<'c>(name: &'c [u8], words: &'c [Vec<u8>], builtin: Option<Builtin>) -> ShellCall<'c>
     requires { option_map builtin_shown builtin ≡ builtin_of name.now }
     ensures call { result.name.now ∷ bytes_of_words result.words.now

@@ -255,7 +255,7 @@ read_first : keys_read (reached (codes "echo $a; setenv a 2; echo $a")) ≡ a �
 unfolding reached_in
 read_first = refl
 
--- a shell variable is behind that of the environment, which is read all the same
+-- a shell variable is after that of the environment, which is read all the same
 shell_variable_written : keys_read (reached (codes "b=1; echo $b")) ≡ b ∷ []
 unfolding reached_in
 shell_variable_written = refl

@@ -129,7 +129,7 @@ module _ (limits : Limits) (i j : ℕ) (k l : List LoggedCommand) where
   tell_needs None request s = take_needs request s.word s
   tell_needs (Some success) request s = with_needs (told_again request) (outcome_when success) s
 
-  -- what the command is told is the same if it is told anything
+  -- what the command is reported is the same if it is reported anything
   device_by : (o p : Option Bool) (request : Request) (known : List Key) (s t : State) → Near known s t → (b c : Bool) → nat_lt (length s.log) limits.device_bound ≡ b → nat_lt (length t.log) limits.device_bound ≡ c → (b ≡ true → p ≡ o)
       → ReadsWithin known (elim b [ true ↦ all_read (told_reads request) ++ answer_accesses o request s | false ↦ [] ])
       → Is (known_after known (elim b [ true ↦ all_read (told_reads request) ++ answer_accesses o request s | false ↦ [] ])) (elim b [ true ↦ tell_or_take o request s | false ↦ Ended CutDevices s ]) (elim c [ true ↦ tell_or_take p request t | false ↦ Ended CutDevices t ])

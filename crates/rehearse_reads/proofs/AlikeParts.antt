@@ -149,7 +149,7 @@ module _ (limits : Limits) (i j : ℕ) (k l : List LoggedCommand) where
       subst (λ (x : List Text). Is (known_after known (sized_accesses fs u s)) (sized fs f s) (sized x f t)) (sym e)
       (if_alike known (nat_le (size fs) most_bytes) (nat_le (size fs) most_bytes) refl (f fs s) (Ended Size s) (f fs t) (Ended Size t) (u fs s) [] (h near) (λ x. ended_alike known Size s t near) w)
 
-  -- a part that takes the status as a number, behind which the status is read
+  -- a part that takes the status as a number, after which the status is read
   pub Alike-read : (f : ℕ → State → Answer) (u : State → List Access) → ((n : ℕ) → AlwaysDoes (f n) u) → AlwaysDoes (λ s. f s.memory.status s) (λ s. Reads Status ∷ u s)
   Alike-read f u does known s t near w =
       subst (λ (n : ℕ). Is (known_after known (u s)) (f s.memory.status s) (f n t)) (sym (near.keys Status w.0)) (does s.memory.status known s t near w.1)

@@ -314,7 +314,7 @@ module _ (limits : Limits) where
               ++ behind_text (sourced_text limits script name text s) (λ t. [])
         ]
 
-    -- the text of a file begins with the status from before
+    -- the text of a file starts with the status from before
     abbrev pub here_accesses : (name : Text) → (before : ℕ) → State → List Access
     here_accesses name before s = Writes Status ∷ file_accesses name (set_status before s)
 

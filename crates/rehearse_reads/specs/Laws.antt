@@ -21,7 +21,7 @@ abbrev pub StretchesJoin : Type 0
 StretchesJoin = (front behind : List Access) (later : List Key) →
     keys_in_front (front ++ behind) later ≡ keys_in_front front (keys_in_front behind later)
 
--- with more keys behind, no fewer have to be known in front
+-- with more keys after, no fewer have to be known in front
 abbrev pub MoreKeysInFront : Type 0
 MoreKeysInFront = (front : List Access) (later more : List Key) → AreAmong later more →
     AreAmong (keys_in_front front later) (keys_in_front front more)

@@ -108,7 +108,7 @@ module _ (test : ℕ → Bool) where
   pub any-cut : (bytes : List ℕ) (n : ℕ) → list_any test bytes ≡ (list_any test (take n bytes) || list_any test (drop n bytes))
   any-cut bytes n = ap (list_any test) (sym (take-append-drop n bytes)) ∙ list_any-append test (take n bytes) (drop n bytes)
 
-  -- what stands in a rest stands in a longer one
+  -- what is in a rest is in a longer one
   any-longer : (bytes : List ℕ) (n : ℕ) → list_any test (drop n bytes) ≡ true → list_any test bytes ≡ true
   any-longer bytes n h = any-cut bytes n ∙ (ap (λ t. list_any test (take n bytes) || t) h ∙ or-true (list_any test (take n bytes)))
     where

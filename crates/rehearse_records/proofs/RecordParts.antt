@@ -74,6 +74,6 @@ module _ {S : Type 0} (store : Ghosts S) (v : RunView S) (asked : List (Bor (Lis
   pub breaks_first : {a b : Sink} (p : List ℕ) → BrokeOff a b (p ++ first) → BrokeOff a b (p ++ whole)
   breaks_first p m = Breaks-as _ _ p _ _ (record_parts (shown_word v) stood (shown_ending v) names) (Breaks-before p first behind m)
 
-  -- the first part was put, and then those behind it, or the output broke off in them
+  -- the first part was put, and then those after it, or the output broke off in them
   pub puts_first : {T E : Type 0} {a b : Sink} {p q : List ℕ} (c : Sink) (r : List ℕ) (result : Result T E) → Put a b p q first → Puts result b c q r behind → Puts result a c p r whole
   puts_first c r result m n = Puts-as _ c _ r _ _ result (record_parts (shown_word v) stood (shown_ending v) names) (Puts-after c r behind result m n)

@@ -116,7 +116,7 @@ module _ (limits : Limits) (s t : State) where
   ask_same : (r : Request) (ps : List RunningFrame) → AskSame (place_ask limits r ps s) (place_ask limits r ps t)
   ask_same r ps = ask_by (told r s.log) (told r t.log) (nat_lt (length s.log) limits.device_bound) (nat_lt (length t.log) limits.device_bound) r ps s t
 
-  -- a command that needs a call asks only if that has succeeded; or else it is told that it fails
+  -- a command that needs a call asks only if that has succeeded; or else it is reported that it fails
   abbrev by_need : Effect → (met : Bool) → Effect
   by_need effect met = if met then effect else record effect { stays = false; always = Some false }
 

@@ -153,7 +153,7 @@ turns_then limits step old mid new on turn = record {
 pub on_turns : (limits : Limits) (old new : Record) → Comes_on limits old new → old.present.steps < new.present.steps → Turns limits steps.Going old new
 on_turns limits old new on grown = record { means = on.means; sound = on.sound; kept = on.kept; further = (grown, on.within); again = λ w. tt }
 
--- one turn more, and what is dropped behind it
+-- one turn more, and what is dropped after it
 pub record Goes_on (limits : Limits) (fewest : ℕ) (old new : Record) (before after : List Access) : Type 0 where
   pub on : Comes_on limits old new
   pub grown : old.present.steps < new.present.steps

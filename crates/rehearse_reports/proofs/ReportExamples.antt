@@ -1,4 +1,4 @@
--- What the words of the command read that asks, and which reports may stand for others, computed.
+-- What the words of the command read that asks, and which reports may replace others, computed.
 use Rattle.std.proofs.Common.{◌≡◌, refl, ℕ, [], ◌∷◌, Some, None, codes}
 use Rattle.std.specs.Fmt.{digits}
 use Rattle.hushlang.specs.Expansion.{fields, joined, atoms}
@@ -73,7 +73,7 @@ no_frame = refl
 
 -- ---- reports
 
--- one that leaves out what is read may not stand for it
+-- one that leaves out what is read may not be for it
 left_out : Reports [] [] (Reads a ∷ []) → ⊥
 left_out h = (h []).0
 

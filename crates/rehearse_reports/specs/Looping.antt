@@ -51,7 +51,7 @@ HasFrames fewest steps.Going m = Unit {0}
 HasFrames fewest (steps.Asks ask) m = fewest ≤ length m.frames
 HasFrames fewest (steps.Ends halt) m = Unit {0}
 
--- behind a step, so many frames are left
+-- after a step, so many frames are left
 pub record FramesLeft (step : Step) (m : Moment) (left : ℕ) : Type 0 where
   pub stays : (below : ℕ) → below < left → StaysAbove below step m
   pub there : HasFrames left step m

@@ -10,7 +10,7 @@ use Rattle.rehearse_frames.specs.Above.{above, AboveAll}
 use Rattle.rehearse_frames.specs.MoveAccesses.{of_builtin, of_move}
 use Rattle.rehearse_reads.specs.Keys.{Access, Covers}
 
--- the new report may stand for the old one and these accesses after it: no fewer keys have to be known before it
+-- the new report may replace the old one and these accesses after it: no fewer keys have to be known before it
 abbrev pub Reports : (old new accesses : List Access) → Type 0
 Reports old new accesses = Covers new (old ++ accesses)
 

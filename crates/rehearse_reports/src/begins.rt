@@ -1,4 +1,4 @@
-//! What the innermost frame begins with its next move.
+//! What the innermost frame starts with its next move.
 ghost use Rattle.std.specs.Prelude.{◌≡◌, ℕ};
 ghost use Rattle.rehearse_rules.specs.Execution.{goes};
 ghost use Rattle.rehearse_reports.specs.Begins.{BeginsBy, BeginsWith, NamesText};
@@ -8,7 +8,7 @@ use bootstore_state::{Frame, FrameKind};
 use hushlang::{Command, Op};
 use rehearse_machine::command_of;
 
-/// What a frame begins with its next move.
+/// What a frame starts with its next move.
 #[derive(Clone, Copy)]
 pub(crate) enum Begins<'a> {
     /// Nothing that reads or writes more than the status.
@@ -109,7 +109,7 @@ fn begins_in_run(frame: &Frame, status: u8) -> Begins<'_>
     Begins::Nothing
 }
 
-/// What a frame begins with its next move, at this status.
+/// What a frame starts with its next move, at this status.
 pub(crate) fn begins_in(frame: &Frame, status: u8) -> Begins<'_>
     ensures { BeginsWith result frame.now status }
 {

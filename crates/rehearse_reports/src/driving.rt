@@ -26,7 +26,7 @@ use std::alloc::Global;
 /// A stretch that begins no more steps is not watched for an endless loop.
 const FEW_STEPS: u32 = 64;
 
-/// Whether a text came to its end.
+/// Whether a text ended.
 fn is_end(halt: &Halt) -> bool
     ensures { IsFalse result → IsNoEnd (halt_shown halt.now) }
 {
@@ -38,7 +38,7 @@ fn is_end(halt: &Halt) -> bool
     }
 }
 
-/// How many frames there are behind a step: none if the text came to its end.
+/// How many frames there are after a step: none if the text ended.
 fn frames_left<S: Store>(step: &Step<'_>, store: &S) -> usize
     ensures { FramesLeft step.now (S.record_of store.now).present result }
 {
@@ -241,7 +241,7 @@ fn next_turns<'d, S: Store>(
 }
 
 /// Makes moves, with reports, until an outcome is asked for, or the run is over. Ended texts that change
-/// nothing are dropped. Notes how many frames there are at least, or that the text came to its end. Errors:
+/// nothing are dropped. Notes how many frames there are at least, or that the text ended. Errors:
 /// `Memory`.
 pub(crate) fn reported_drive<'d, S: Store>(
     alloc: Global,

@@ -106,7 +106,7 @@ fn give_outcome<'a, S: Store>(
 }
 
 /// Does what `resume` of the machine does, and reports what is read and written from the outcome up to
-/// where the text stops, and how many frames there were at least: none if the text came to its end. Errors:
+/// where the text stops, and how many frames there were at least: none if the text ended. Errors:
 /// `Memory`.
 pub fn resume_reported<S: Store>(
     rehearsal: &Rehearsal<'_>,

@@ -1,4 +1,4 @@
--- Over a device list on which no answer stays, no command is told an answer again.
+-- Over a device list on which no answer stays, no command is given an answer again.
 use Rattle.std.proofs.Common.{ℕ, ◌&&◌, None, ◌≡◌, ◌∙◌, Bool, true, false, not, cond, List, [], ◌∷◌, ◌++◌, length, map, refl, sym, ap, subst, nat_lt, Option, Some, if◌then◌else◌}
 use Rattle.std.proofs.lemmas.List.Elements.{filter-append}
 use Rattle.device_list.specs.declared.finish.BoardEnd.{BoardEnd}

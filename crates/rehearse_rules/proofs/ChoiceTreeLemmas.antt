@@ -144,7 +144,7 @@ begins_lost won lost w none h = (map (λ v. Failure ∷ v) h.0, λ i. behind_bot
 begins_same : (u w : OutcomeWord) (us ws : List OutcomeWord) → u ≡ w → us ≡ ws → BeginsWith w ws → BeginsWith u us
 begins_same u w us ws e f h = (h.0, f ∙ h.1 ∙ ap (λ (v : OutcomeWord). v ∷ h.0) (sym e))
 
--- at a question, if the list behind each outcome that is allowed starts with the first run there
+-- at a question, if the list after each outcome that is allowed starts with the first run there
 begins_beyond : (allowed : Test) (kind : Kinds) (n : ℕ) → kind [] ≡ Short → (allowed (Success ∷ []) ≡ false → allowed (Failure ∷ []) ≡ true) → (allowed (Success ∷ []) ≡ false → behind Success allowed kind n ≡ [])
     → (allowed (Success ∷ []) ≡ true → BeginsWith (first_run (allowed_beyond Success allowed) (beyond Success kind) n) (behind Success allowed kind n))
     → (allowed (Failure ∷ []) ≡ true → BeginsWith (first_run (allowed_beyond Failure allowed) (beyond Failure kind) n) (behind Failure allowed kind n))

@@ -174,7 +174,7 @@ few_twice kind cost free n asked none more most m e (suc left) cap f within side
     let twice : 2 ^ suc left * z ≡ 2 ^ left * (2 * z) = ap (λ (k : ℕ). k * z) (pow-suc 2 left) ∙ mul_assoc (2 ^ left) 2 z in
     omega (arith, sum, both, twice)
 
--- at a question, if behind each outcome are so few
+-- at a question, if after each outcome are so few
 few_beyond : (kind : Kinds) (cost free : OutcomeWord → ℕ) (n : ℕ) → kind [] ≡ Short → ((d : Outcome) → IsChoice n (beyond d kind)) → IsCountedFree kind cost free → (most m : ℕ) → cost [] + most ≡ m → (left cap : ℕ) → free [] + left ≡ cap
     → ((w : OutcomeWord) → free w ≤ cap) → Sides kind cost free n m cap → length (allowed_within (no_more cost m) kind (suc n)) ≤ 2 ^ left * (suc n + 1) ^ most
 few_beyond kind cost free n asked c counted most m e left cap f within side = by (counted [] asked)

@@ -59,7 +59,7 @@ module _ (devices : Devices) where
       ap (λ (x : Effect). cond x.stays (answer_in s.log (r.name ∷ r.words)) x.always)
       (e ∙ ap (λ (b : Bool). cond (b && has_room room s.memory.environment listed.sets) listed (record listed { stays = false; always = Some false })) f)
 
-  -- one that is told no failure has what it needs
+  -- one that is reported no failure has what it needs
   met_unless : (room : Option ℕ) (r : Request) (s : State) (o : Option Bool) → told r s.log ≡ o → AsSaid room s r.name r.words r.effect → (o ≡ Some false → ⊥) → (one : LoggedCommand) → one.words ≡ r.name ∷ r.words → IsMetAt s.log one
   met_unless room r s o e said other one own name words listed same free found success = by (is_met listed.needs s.log) refl
     where

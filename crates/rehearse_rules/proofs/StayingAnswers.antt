@@ -1,4 +1,4 @@
--- The answers that stay in the log of a run are answers to different words; all others were told again.
+-- The answers that stay in the log of a run are answers to different words; all others were given again.
 use Rattle.std.proofs.Common.{◌≡◌, ◌∙◌, Bool, true, false, not, ◌&&◌, cond, List, [], ◌∷◌, ◌++◌, length, map, filter, Option, Some, None, refl, sym, ap, subst, nat_lt, append_assoc}
 use Rattle.std.proofs.lemmas.List.{map-append, append-nil}
 use Rattle.std.proofs.lemmas.List.Elements.{filter-append}
@@ -61,7 +61,7 @@ answer_begins front behind one none stays fresh =
 
 -- ---- each command by the log before it
 
--- it was told the answer that the log has, or it was asked
+-- it was given the answer that the log has, or it was asked
 abbrev pub Fits : Option Bool → LoggedCommand → Type 0
 Fits (Some success) one = (one.success ≡ success) × (one.again ≡ true)
 Fits None one = one.again ≡ false

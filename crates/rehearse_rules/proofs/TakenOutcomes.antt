@@ -36,7 +36,7 @@ answers-asked log e is =
     ap (map (λ e. e.success)) (filter-append (λ e. not e.again) log (e ∷ []) ∙ ap (λ (es : List LoggedCommand). asked_of log ++ es) one)
     ∙ map-append (λ e. e.success) (asked_of log) (e ∷ [])
 
--- or was told an answer again
+-- or was given an answer again
 answers-again : (log : List LoggedCommand) (e : LoggedCommand) → e.again ≡ true → answers (log ++ e ∷ []) ≡ answers log
 answers-again log e is =
     let none : asked_of (e ∷ []) ≡ [] = ap (λ (b : Bool). cond (not b) (e ∷ []) []) is in

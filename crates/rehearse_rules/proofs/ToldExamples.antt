@@ -1,4 +1,4 @@
--- Worked examples, computed: what a device command is told again, and what it takes from the word.
+-- Worked examples, computed: what a device command is given again, and what it takes from the word.
 use Rattle.std.proofs.Common.{◌≡◌, ℕ, Bool, true, false, List, [], ◌∷◌, Option, Some, None, codes, refl, map}
 use Rattle.device_list.specs.declared.finish.BoardEnd.TheVariants.{Boots}
 use Rattle.rehearse_terms.specs.Outcomes.{OutcomeWord, Success, Failure}
@@ -20,12 +20,12 @@ request effect = request_of (codes "load") (codes "a" ∷ []) effect
 abbrev logged : Text → LoggedCommand
 logged name = record { success = false; words = name ∷ codes "a" ∷ []; stays = true; again = false }
 
--- ---- which answer is told
+-- ---- which answer is reported
 
 is_told : told (request steady) (logged (codes "load") ∷ []) ≡ Some false
 is_told = refl
 
--- a command that is not steady is told nothing
+-- a command that is not steady is reported nothing
 not_steady : told (request quiet) (logged (codes "load") ∷ []) ≡ None
 not_steady = refl
 
@@ -39,7 +39,7 @@ name_and_words = refl
 not_asked_yet : told (request steady) [] ≡ None
 not_asked_yet = refl
 
--- an answer that is always the same is told from the first time on, and again
+-- an answer that is always the same is reported from the first time on, and again
 always_told : map (λ success. told (request (record quiet { always = Some success })) []) (true ∷ false ∷ []) ≡ Some true ∷ Some false ∷ []
 always_told = refl
 
@@ -63,7 +63,7 @@ entry success stays again = record { success = success; words = codes "load" ∷
 abbrev unchanged : Variables
 unchanged = (codes "b", codes "2") ∷ []
 
--- an answer that is told takes no outcome of the word; it is logged as told again, and is the status
+-- an answer that is reported takes no outcome of the word; it is logged as given again, and is the status
 failure_told : tell_or_take (Some false) (request steady) (at [] (Success ∷ [])) ≡ Normal (then_at (entry false true true ∷ []) (Success ∷ []) 1 unchanged)
 failure_told = refl
 
@@ -73,7 +73,7 @@ success_told = refl
 told_without_word : tell_or_take (Some true) (request steady) (at [] []) ≡ Normal (then_at (entry true true true ∷ []) [] 0 unchanged)
 told_without_word = refl
 
--- without one it takes the next outcome, and is not told again
+-- without one it takes the next outcome, and is not given again
 success_taken : tell_or_take None (request steady) (at [] (Success ∷ Failure ∷ [])) ≡ Normal (then_at (entry true true false ∷ []) (Failure ∷ []) 0 unchanged)
 success_taken = refl
 
@@ -83,7 +83,7 @@ failure_taken = refl
 none_left : tell_or_take None (request steady) (at [] []) ≡ Dry (at [] [])
 none_left = refl
 
--- what a success sets, it sets when it is told; a failure sets nothing
+-- what a success sets, it sets when it is reported; a failure sets nothing
 abbrev setting : Effect
 setting = record steady { sets = (Variable (codes "b"), Literal (codes "3")) ∷ [] }
 
@@ -106,7 +106,7 @@ failure_goes_on = refl
 met_by_nothing : is_met [] [] ≡ true
 met_by_nothing = refl
 
--- a success meets it, also one that was told, and any word may follow
+-- a success meets it, also one that was given again, and any word may follow
 met : map (λ e. is_met (codes "load" ∷ []) (e ∷ [])) (entry true false false ∷ entry true true true ∷ []) ≡ true ∷ true ∷ []
 met = refl
 
@@ -186,7 +186,7 @@ room_and_need : map (λ room. map (λ log. can_succeed room (at log []) (needing
     ≡ (false ∷ false ∷ []) ∷ (false ∷ true ∷ []) ∷ []
 room_and_need = refl
 
--- ---- the bound counts what is told: one more in the log, or none
+-- ---- the bound counts what is reported: one more in the log, or none
 
 abbrev bounded : ℕ → Limits
 bounded bound = record { devices = only []; device_bound = bound; step_bound = 9; shell = Profile; room = None }

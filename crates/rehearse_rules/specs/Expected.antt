@@ -8,7 +8,7 @@ use Rattle.rehearse_terms.specs.State.{Text, LoggedCommand, asked_of}
 abbrev pub Answered : Type 0
 Answered = Bool × List Text
 
--- the device commands of a log that took an outcome; those that were told an answer are left out
+-- the device commands of a log that took an outcome; those that were given an answer again are left out
 abbrev pub asked_in : List LoggedCommand → List Answered
 asked_in log = map (λ e. (e.success, e.words)) (asked_of log)
 

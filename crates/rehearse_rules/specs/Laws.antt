@@ -42,7 +42,7 @@ abbrev pub RunsPartWhereAsked : Type 0
 RunsPartWhereAsked = (task : Task) (u v : OutcomeWord) → kind task u ≡ Run → kind task v ≡ Run → u ≢ v →
     kind task (common_prefix u v) ≡ Short
 
--- the outcomes in the log of a run are its word, without the commands that were told an answer again
+-- the outcomes in the log of a run are its word, without the commands that were given an answer again
 abbrev pub LogIsWord : Type 0
 LogIsWord = (task : Task) (w : OutcomeWord) → kind task w ≡ Run →
     map (λ e. e.success) (asked_of (state_of (run_on task w)).log) ≡ map succeeds w
@@ -55,7 +55,7 @@ WholeLogIsWord = (task : Task) (w : OutcomeWord) → task.limits.room ≡ None �
     map (λ e. e.success) (state_of (run_on task w)).log ≡ map succeeds w
 
 -- Of two commands in the log of a run whose answers stay, with the same words, the later one has the answer of the earlier
--- one. It was told it again, so it has no outcome of the word.
+-- one. It was given it again, so it has no outcome of the word.
 abbrev pub AnswersStay : Type 0
 AnswersStay = (task : Task) (w : OutcomeWord) (front between behind : List LoggedCommand) (one other : LoggedCommand) →
     (state_of (run_on task w)).log ≡ front ++ one ∷ between ++ other ∷ behind → one.stays ≡ true → other.stays ≡ true →
@@ -75,7 +75,7 @@ NeedsAreMet = (task : Task) (w : OutcomeWord) (front behind : List LoggedCommand
 abbrev pub StepsAreBounded : Type 0
 StepsAreBounded = (task : Task) (w : OutcomeWord) → steps task w ≤ task.limits.step_bound
 
--- no more device commands are in the log than the bound allows, those that were told an answer again among them
+-- no more device commands are in the log than the bound allows, those that were given an answer again among them
 abbrev pub DevicesAreBounded : Type 0
 DevicesAreBounded =
     (task : Task) (w : OutcomeWord) → length (state_of (run_on task w)).log ≤ task.limits.device_bound

@@ -7,7 +7,7 @@ use Rattle.rehearse_terms.specs.State.{Text, Variables, get, LoggedCommand, same
 
 -- ---- another call
 
--- whether a device command has succeeded whose words, its name first, begin so; also one that was told its answer
+-- whether a device command has succeeded whose words, its name first, begin so; also one whose answer was given again
 abbrev pub has_succeeded : List LoggedCommand → (start : List Text) → Bool
 has_succeeded log start = list_any (λ e. e.success && same_words start (take (length start) e.words)) log
 

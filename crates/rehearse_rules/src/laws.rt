@@ -20,7 +20,7 @@ pub fn words_of_runs()
     ensures another { AnotherFollows }
 {}
 
-/// The outcomes in a run's log, without the commands that were told an answer again, are its word; if
+/// The outcomes in a run's log, without the commands that were given an answer again, are its word; if
 /// the device list says of no answer that it stays, there is no such command. Two runs differ first at
 /// an outcome that a device command asks for. If the answers of two commands of the log stay, and their words are the same, the
 /// later one has the answer of the earlier one, and no outcome of the word. A call that succeeds has a success of the call that

@@ -56,7 +56,7 @@ abbrev pub LeavesPrefix : (found : Option Task) → Asking → (old new : Sink) 
 LeavesPrefix found asking old new = WithRuns found asking.wanted (λ task words.
     BreaksOff task asking.names words (page_of asking.wanted) old new)
 
--- "want of memory .. leaves a prefix": whole records of the listing, starting with its first
+-- "out of memory .. leaves a prefix": whole records of the listing, starting with its first
 abbrev pub LeavesRecords : (found : Option Task) → Asking → (old new : Sink) → Type 0
 LeavesRecords found asking old new = WithRuns found asking.wanted (λ task words.
     LacksMemory task asking.names words (page_of asking.wanted) old new)

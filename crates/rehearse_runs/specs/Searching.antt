@@ -67,7 +67,7 @@ AreAsked limits [] (m ∷ ms) = ⊥
 AreAsked limits (request ∷ rest) [] = ⊥
 AreAsked limits (request ∷ rest) (m ∷ ms) = IsAsked limits request m × AreAsked limits rest ms
 
--- a command was kept behind the others, or nothing changed
+-- a command was kept after the others, or nothing changed
 abbrev pub KeepsIf : Bool → Request → (old new : List Request) → Type 0
 KeepsIf true request old new = new ≡ old ++ request ∷ []
 KeepsIf false request old new = new ≡ old

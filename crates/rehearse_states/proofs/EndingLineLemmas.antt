@@ -28,7 +28,7 @@ count_told n = count_if (nat_lt n most_runs) n refl
 pub row_told : (r : Row) → row_text (saturated r) ≡ row_text r
 row_told r = ap (λ (t : Text). codes "ends " ++ t ++ codes " first " ++ spelled r.word ++ codes " fewest " ++ decimal r.fewest.1 ++ codes " " ++ spelled r.fewest.0 ++ codes " " ++ last_line r.run_end.ending) (count_told r.count)
 
--- what fails is told of the same word
+-- what fails is said of the same word
 lines_told : (names : List Text) (fails other : OutcomeWord → List Answered) → ((w : OutcomeWord) → fails w ≡ other w) → (r : Row) → row_lines names fails (saturated r) ≡ row_lines names other r
 lines_told names fails other same r =
     ap (λ (t : Text). line t ++ (value_lines names r.run_end.values ++ fails_lines (fails r.fewest.0))) (row_told r)

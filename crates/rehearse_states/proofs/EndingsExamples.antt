@@ -86,7 +86,7 @@ after_expansion = refl
 
 -- ---- variables
 
--- runs that leave other values are told apart, and the same ending comes once for each value
+-- runs that leave other values are distinguished, and the same ending comes once for each value
 two_values : lines_with (codes "v" ∷ []) (task 3 (codes "if load a; then v=1; else v=2; fi; load b; setenv v $v; true")) 3 ≡ codes "ends 2 first 00 fewest 0 00 end 0\nvar v=1\nends 2 first 10 fewest 1 10 end 0\nvar v=2\nfails load a\nall 4 states 3\n"
 unfolding tree_of fields joined atoms digits
 two_values = refl
@@ -144,7 +144,7 @@ told_again : lines (steady (codes "load; load; exit $?")) 1 ≡ codes "ends 1 fi
 unfolding tree_of fields joined atoms digits
 told_again = refl
 
--- a command that is told again that it failed is no further failure
+-- a command that is given again that it failed is no further failure
 told_again_is_no_failure : failing (steady (codes "load; load")) (Failure ∷ []) ≡ (false, codes "load" ∷ []) ∷ []
 unfolding tree_of fields joined atoms
 told_again_is_no_failure = refl
@@ -159,7 +159,7 @@ asked_each_time = refl
 abbrev expected : Text → Task
 expected text = bootcmd (limits (record (only ((codes "try", quiet) ∷ [])) { calls = (codes "load", (record { words = []; more = true }, record quiet { normal = true }) ∷ []) ∷ [] }) 3 20) text
 
--- a success counts, and is told
+-- a success counts, and is reported
 success_counts : lines (expected (codes "load a || load b")) 2 ≡ codes "ends 2 first 0 fewest 1 0 end 0\nsucceeds load a\nends 1 first 11 fewest 0 11 end 1\nall 3 states 2\n"
 unfolding tree_of fields joined atoms digits
 success_counts = refl
@@ -198,7 +198,7 @@ each_equals_itself = refl
 abbrev left : Ending → List (Option Text) → RunEnd
 left ending values = record { ending = ending; values = values }
 
--- no value is the empty one, and the order of values tells
+-- no value is the empty one, and the order of values counts
 abbrev ways : List RunEnd
 ways =
     left (End 0) (Some (codes "a") ∷ None ∷ []) ∷ left (End 1) (Some (codes "a") ∷ None ∷ []) ∷ left (End 0) (Some (codes "b") ∷ None ∷ [])
@@ -225,7 +225,7 @@ fewer_first = refl
 fewer_of_as_many : fewer (Success ∷ Failure ∷ [], 1) (Failure ∷ [], 1) ≡ (Success ∷ Failure ∷ [], 1)
 fewer_of_as_many = refl
 
--- the numbers tell, not the failures
+-- the numbers decide, not the failures
 fewer_by_number : fewer (Success ∷ [], 1) (Failure ∷ [], 0) ≡ (Failure ∷ [], 0)
 fewer_by_number = refl
 

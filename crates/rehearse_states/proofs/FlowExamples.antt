@@ -87,7 +87,7 @@ exited : walk (numbered (Ends (End 3) ∷ [])) [] 1 ≡ seen_of (run_on (bootcmd
 unfolding tree_of fields joined atoms digits
 exited = refl
 
--- a steady command that is told its answer again takes no digit, and is no node
+-- a steady command that is given its answer again takes no digit, and is no node
 abbrev steady : Task
 steady = bootcmd (limits (only ((codes "load", record quiet { stays = true }) ∷ [])) 3 20) (codes "load; load")
 

@@ -13,7 +13,7 @@ use Rattle.rehearse_states.specs.RowsShown.{most_runs}
 
 -- ---- the commands whose answers are unexpected
 
--- those of the run on a word, in the order of the run; one that is told an answer is left out
+-- those of the run on a word, in the order of the run; one that is given an answer is left out
 abbrev pub failing : Task → OutcomeWord → List Answered
 failing task w = unexpected_of task.limits.devices (asked_in (state_of (run_on task w)).log)
 

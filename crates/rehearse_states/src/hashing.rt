@@ -117,7 +117,7 @@ fn mix_lists(hash: u64, lists: &[AndOr]) -> u64
     }
 }
 
-/// Adds what tells scripts apart that are alike: the first list, which often sets what the others
+/// Adds what distinguishes scripts that are alike: the first list, which often sets what the others
 /// use, and how many there are.
 fn mix_script(hash: u64, script: &Script) -> u64
     ensures { result ≡ mixed_script hash (view.script script.now) }

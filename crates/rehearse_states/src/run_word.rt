@@ -9,16 +9,16 @@ use std::clone::Clone;
 use std::marker::Model;
 use std::rc::Rc;
 
-/// The outcomes of the device commands of a run, in their order. Words share the outcomes behind, so
+/// The outcomes of the device commands of a run, in their order. Words share the outcomes after, so
 /// a clone takes no memory. An outcome that comes many times in a row is kept once. A word is no longer than the bound on
 /// device commands.
 #[cycle(run_word)]
 pub struct RunWord {
-    /// The first outcome and what is behind it; none of the empty word.
+    /// The first outcome and what is after it; none of the empty word.
     first: Option<Rc<Step>>,
 }
 
-/// An outcome, how many more times it comes, and the word behind it.
+/// An outcome, how many more times it comes, and the word after it.
 #[cycle(run_word)]
 #[derive(Drop)]
 struct Step {
@@ -103,7 +103,7 @@ impl RunWord {
         Ok(word)
     }
 
-    /// The first outcome, how many more times it comes, and the word behind it; none of the empty word.
+    /// The first outcome, how many more times it comes, and the word after it; none of the empty word.
     fn split_first(&self) -> Option<(bool, u32, &RunWord)>
         ensures some { IfSome result (λ split. self.now ≡ repeated split.1 (outcome_when split.0) split.2.now) }
         ensures none { IfNone result (self.now ≡ []) }

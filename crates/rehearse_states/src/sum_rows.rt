@@ -12,7 +12,7 @@ use bootstore_state::StoreError;
 use std::alloc::Global;
 use std::mem::replace;
 
-/// Notes that the rows of a place are used at this node, behind those so far.
+/// Notes that the rows of a place are used at this node, after those so far.
 fn note_use(last: &mut Vec<usize>, place: usize, at: usize)
     ensures many { length last.new.items ≡ length last.old.items }
     ensures noted { place < length last.old.items → IsUsedAt last.new.items place at }
@@ -43,7 +43,7 @@ fn note_uses(last: &mut Vec<usize>, node: &SumNode, at: usize)
     }
 }
 
-/// For each place the last node that is made of its rows. Those of the root are used behind all nodes. Errors:
+/// For each place the last node that is made of its rows. Those of the root are used after all nodes. Errors:
 /// `Memory`.
 fn last_uses(alloc: Global, nodes: &[SumNode], root: usize) -> Result<Vec<usize>, StoreError>
     ensures uses { IfOk result (λ last. AreUses (map sum_shown nodes.now) last.items (length nodes.now)) }
@@ -58,7 +58,7 @@ fn last_uses(alloc: Global, nodes: &[SumNode], root: usize) -> Result<Vec<usize>
     Ok(last)
 }
 
-/// Whether the rows of a place are used behind this node.
+/// Whether the rows of a place are used after this node.
 fn is_used_behind(last: &[usize], place: usize, at: usize) -> bool
     ensures { IsUsedAt last.now place (at + 1) → IsTrue result }
 {
@@ -89,7 +89,7 @@ fn taken(
     }
 }
 
-/// Whether the rows behind a success are used again: behind this node, or by it behind the failure.
+/// Whether the rows after a success are used again: after this node, or by it after the failure.
 fn is_used_again(last: &[usize], won: usize, lost: usize, at: usize) -> bool
     ensures behind { IsUsedAt last.now won (at + 1) → IsTrue result }
     ensures here { won ≡ lost → IsTrue result }

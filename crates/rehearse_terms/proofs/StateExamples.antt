@@ -22,14 +22,14 @@ success_stays = refl
 failure_stays : answer_in (record (steady call) { success = false } ∷ []) call ≡ Some false
 failure_stays = refl
 
--- only an answer that stays is told, and the first of them
+-- only an answer that stays is reported, and the first of them
 none_stays : answer_in (entry call ∷ []) call ≡ None
 none_stays = refl
 
 one_stays : answer_in (entry call ∷ record (steady call) { success = false } ∷ steady call ∷ []) call ≡ Some false
 one_stays = refl
 
--- a command that was told its answer again took no outcome, and gives none
+-- a command that was given its answer again took no outcome, and gives none
 asked_once : asked_of (entry call ∷ record (entry call) { again = true } ∷ []) ≡ entry call ∷ []
 asked_once = refl
 

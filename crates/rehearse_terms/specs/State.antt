@@ -37,7 +37,7 @@ pub record LoggedCommand : Type 0 where
   pub words : List Text
   -- whether the list says that its answer stays for the rest of the run
   pub stays : Bool
-  -- whether it was asked before, and is told that answer again
+  -- whether it was asked before, and is given that answer again
   pub again : Bool
 
 -- the commands that took an outcome of the word
@@ -65,7 +65,7 @@ pub record State : Type 0 where
   pub steps : ℕ
   pub word : OutcomeWord
 
--- a text with more behind it, if it is kept
+-- a text with more after it, if it is kept
 abbrev pub text_with : (more : Text) → Option Text → Option Text
 text_with more text = option_map (λ t. t ++ more) text
 

@@ -28,7 +28,7 @@ no_header = refl
 -- ---- images
 
 -- An image that was made on 1 January 1970 for an ARM processor, and has no name: with this checksum of its header, this size
--- and checksum of its data, this type, and this behind its header.
+-- and checksum of its data, this type, and this after its header.
 abbrev made : (header_checksum size data_checksum type : ℕ) → (rest : List ℕ) → List ℕ
 made header_checksum size data_checksum type rest =
     magic ++ to_be_bytes w32 header_checksum ++ replicate 4 0 ++ to_be_bytes w32 size ++ replicate 8 0
@@ -47,7 +47,7 @@ up_to_a_nul = refl
 a_kernel : script_in (made 0xecb3c815 1 0x8cdc1683 2 (0x78 ∷ [])) ≡ Err NotScript
 a_kernel = refl
 
--- what is behind the data does not count
+-- what is after the data does not count
 more_behind : script_in (made 0xeddc3e41 9 0x738b3e05 6 (0 ∷ 0 ∷ 0 ∷ 0x01 ∷ 0 ∷ 0 ∷ 0 ∷ 0 ∷ 0x78 ∷ 0xff ∷ 0xff ∷ [])) ≡ Ok (0x78 ∷ [])
 more_behind = refl
 

@@ -51,7 +51,7 @@ header_is_right header = crc (blanked header) == header_checksum header
 
 -- ---- the data: the sizes of texts, four bytes each, then a zero of four bytes, then the texts
 
--- what stands behind the list of sizes, if it ends
+-- what is after the list of sizes, if it ends
 abbrev pub behind_sizes : List ℕ → Option (List ℕ)
 behind_sizes (a ∷ b ∷ c ∷ d ∷ rest) =
     if from_be_bytes w32 (a ∷ b ∷ c ∷ d ∷ []) == 0 then Some rest else behind_sizes rest
@@ -70,7 +70,7 @@ first_text body = of_size (word_at 0 body) (behind_sizes body)
 
 -- ---- the file
 
--- the first text of an image with this header and this behind it, or its first fault
+-- the first text of an image with this header and this after it, or its first fault
 abbrev pub text_behind : (header rest : List ℕ) → Result (List ℕ) ScriptFault
 text_behind header rest =
     if not (header_is_right header) then Err HeaderChecksum
@@ -84,7 +84,7 @@ abbrev pub image_text : List ℕ → Result (List ℕ) ScriptFault
 image_text image =
     if nat_lt (length image) 64 then Err CutOff else text_behind (take 64 image) (drop 64 image)
 
--- the text of a file, with what is behind its first NUL
+-- the text of a file, with what is after its first NUL
 abbrev pub text_in : List ℕ → Result (List ℕ) ScriptFault
 text_in bytes = if is_image bytes then image_text bytes else Ok bytes
 

@@ -67,7 +67,7 @@ fn header_is_right(header: &[u8; 64]) -> bool
     crc32(&blanked) == word_at(header, 4)
 }
 
-/// What stands behind the list of sizes, if it ends.
+/// What is after the list of sizes, if it ends.
 fn behind_sizes(body: &[u8]) -> Option<&[u8]>
     ensures behind { option_copied result ≡ behind_sizes body.now }
     ensures listed { IfSome result (λ _. 4 ≤ length body.now) }
@@ -99,7 +99,7 @@ fn first_text(body: &[u8]) -> Result<&[u8], ScriptFault>
     Ok(&texts[..size])
 }
 
-/// The first text of an image with this header and this behind it.
+/// The first text of an image with this header and this after it.
 fn text_behind<'a>(header: &[u8; 64], rest: &'a [u8]) -> Result<&'a [u8], ScriptFault>
     ensures { Gives (λ text. text.now) result (text_behind header.now rest.now) }
 {
@@ -130,7 +130,7 @@ fn image_text(image: &[u8]) -> Result<&[u8], ScriptFault>
     }
 }
 
-/// The text of a file, with what is behind its first NUL.
+/// The text of a file, with what is after its first NUL.
 fn text_in(bytes: &[u8]) -> Result<&[u8], ScriptFault>
     ensures { Gives (λ text. text.now) result (text_in bytes.now) }
 {

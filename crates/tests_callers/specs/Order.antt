@@ -1,4 +1,4 @@
--- The byte order of an image: ours, since an image does not tell it.
+-- The byte order of an image: ours, since an image does not say it.
 use Rattle.std.specs.Prelude.{ℕ, List, Option, None, Some, is_ok, if◌then◌else◌}
 use Rattle.envimage.specs.Image.{load_of}
 use Rattle.envimage.specs.declared.image.ByteOrder.{ByteOrder}

@@ -97,7 +97,7 @@ impl Case {
         Ok(String::new(self.alloc))
     }
 
-    /// Sets the shell, or the bounds, which are then told as they were made.
+    /// Sets the shell, or the bounds, which are then printed as they were made.
     fn bound(&mut self, word: &str, says: &str) -> anyhow::Result<String> {
         if word == "shell" {
             self.bounds = self.bounds.in_shell(shell_of(says)?);

@@ -47,7 +47,7 @@
 //!   `encode SIZE [FLAG]`, which puts the image of the environment after the first;
 //! - `escaped` and `null`, how `print` and `value` print;
 //! - `env CHANGE`, which changes the environment: `set`, `change`, `remove`, `script` and `data`; `env show` and
-//!   `env copy` tell it;
+//!   `env copy` print it;
 //! - `file PATH BYTES`, `copy-of-file PATH`, a file with the image, and `failing N`, the call of files that fails;
 //! - `input BYTES`, `step N`, how many bytes a read gives, and `failing-read N`;
 //! - `out KIND` and `err KIND`, the outputs: `slow`, `limited N`, `full N` or `once N`; `fw-tool`, what was called;
@@ -106,7 +106,7 @@ fn first(words: &[String]) -> Option<&str> {
     }
 }
 
-/// Runs the job that the words say, and tells whether there is one.
+/// Runs the job that the words say, and returns whether there is one.
 fn run(rt: &HostRuntime, words: &[String]) -> io::Result<bool> {
     let [what, rest @ ..] = words else {
         run_growths(rt, None)?;

@@ -37,7 +37,7 @@ fn answered<R: Rows>(alloc: Global, rows: &mut R, row: &str) -> Result<String, A
     said(alloc, rows.answer(word, says))
 }
 
-/// A text of rows, each with the lines of its answer after it. A line that begins with `#` is a heading, and at an
+/// A text of rows, each with the lines of its answer after it. A line that starts with `#` is a heading, and at an
 /// empty line what the rows have set is forgotten.
 fn transcript<R: Rows>(alloc: Global, text: &str, rows: &mut R) -> anyhow::Result<String> {
     let mut transcript = String::new(alloc);

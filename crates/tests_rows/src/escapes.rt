@@ -9,7 +9,7 @@ use std::fmt::Write;
 enum Next {
     /// Itself, or the begin of an escape.
     Plain,
-    /// What stands after a backslash.
+    /// What is after a backslash.
     Escape,
     /// The first digit of a byte.
     High,
@@ -42,7 +42,7 @@ fn digit_of(byte: u8) -> u8 {
 }
 
 impl Reading {
-    /// Reads a byte that stands for itself, or begins an escape.
+    /// Reads a byte that means itself, or begins an escape.
     fn plain(&mut self, byte: u8) -> Result<(), AllocError> {
         if byte == b'\\' {
             self.next = Next::Escape;
@@ -110,7 +110,7 @@ impl Reading {
     }
 }
 
-/// The bytes that a text of a row stands for.
+/// The bytes that a text of a row means.
 pub fn unescaped(alloc: Global, text: &str) -> Result<Vec<u8>, AllocError> {
     let mut reading = Reading {
         alloc,

@@ -53,7 +53,7 @@ pub fn text_of(alloc: Global, bytes: &[u8]) -> Result<String, AllocError> {
     }
 }
 
-/// What a text of a row stands for, as `text_of` has its bytes.
+/// What a text of a row means, as `text_of` has its bytes.
 pub fn unescaped_text(alloc: Global, says: &str) -> Result<String, AllocError> {
     text_of(alloc, &unescaped(alloc, says)?)
 }

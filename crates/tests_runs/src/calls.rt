@@ -88,7 +88,7 @@ pub(crate) fn list<S: Store, O: Out>(
     write_listing(runs, names, Page { limit }, out)
 }
 
-/// The word after which a listing goes on that was broken off, and how many bytes of it stand. Before the end of the
+/// The word after which a broken-off listing goes on, and how many bytes of it are written. Before the end of the
 /// first record they are `none` and 0.
 pub(crate) fn resumed_at(written: &[u8]) -> (&[u8], usize) {
     match resume_point(written) {

@@ -225,7 +225,7 @@ fn listed<S: Store>(case: &Case, runs: &mut Runs<'_, S>) -> anyhow::Result<Vec<u
     Ok(out.into_writer())
 }
 
-/// Where a listing goes on if so many bytes of it stand, a line for each place.
+/// Where a listing goes on if so many bytes of it are written, a line for each place.
 fn places(alloc: Global, listing: &[u8]) -> anyhow::Result<String> {
     let mut lines = String::new(alloc);
     let mut last = usize::MAX;
@@ -240,7 +240,7 @@ fn places(alloc: Global, listing: &[u8]) -> anyhow::Result<String> {
     Ok(lines)
 }
 
-/// Where the whole listing goes on if so many bytes of it stand, a line for each place.
+/// Where the whole listing goes on if so many bytes of it are written, a line for each place.
 fn resumed<S: Store>(case: &Case, given: &Given<'_>) -> anyhow::Result<String> {
     let mut runs = given.runs::<S>(None)?;
     let listing = listed(case, &mut runs);

@@ -38,7 +38,7 @@ fn set(case: &mut Case<'_>, change: &str, says: &str) -> anyhow::Result<()> {
     Ok(calls::change(&mut case.env, &name, &words)?)
 }
 
-/// Makes a change that tells nothing.
+/// Makes a change that reports nothing.
 fn change_one(case: &mut Case<'_>, change: &str, says: &str) -> anyhow::Result<String> {
     match change {
         "set" | "change" => set(case, change, says)?,
@@ -48,7 +48,7 @@ fn change_one(case: &mut Case<'_>, change: &str, says: &str) -> anyhow::Result<S
     Ok(String::new(case.alloc))
 }
 
-/// Changes the environment of a case, and tells its variables, or those of its copy: `set NAME VALUE`,
+/// Changes the environment of a case, and prints its variables, or those of its copy: `set NAME VALUE`,
 /// `change NAME WORD..`, `remove NAME`, `script TEXT`, `data TEXT`, `copy` and `show`.
 pub(crate) fn changed(case: &mut Case<'_>, says: &str) -> anyhow::Result<String> {
     let (change, says) = first_word(says);

@@ -101,7 +101,7 @@ fn changed(case: &Case<'_>, word: &str, says: &str) -> anyhow::Result<String> {
     written(case, edit)
 }
 
-/// Makes an image, and tells it or adds it as a file.
+/// Makes an image, and prints it or adds it as a file.
 fn made(case: &mut Case<'_>, word: &str, says: &str) -> anyhow::Result<String> {
     match word {
         "encode" => encoded(case, says),

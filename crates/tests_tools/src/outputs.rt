@@ -54,7 +54,7 @@ fn pass(alloc: Global, says: &str) -> anyhow::Result<String> {
     Ok(format!(in alloc; "{answer:?}, {none:?}: {bytes}")?)
 }
 
-/// Writes until the write of a number fails, and tells the last answer and how many writes there were.
+/// Writes until the write of a number fails, and returns the last answer and how many writes there were.
 fn over(alloc: Global, failing: u32) -> anyhow::Result<String> {
     let (mut writes, mut flushes) = (0, 0);
     let mut over = Over::new(Writer {
@@ -70,7 +70,7 @@ fn over(alloc: Global, failing: u32) -> anyhow::Result<String> {
     Ok(format!(in alloc; "{answer:?} after {writes} writes")?)
 }
 
-/// Flushes a buffer twice over a writer of which the first write fails, and tells how many writes there were.
+/// Flushes a buffer twice over a writer of which the first write fails, and returns how many writes there were.
 fn buffer(alloc: Global) -> anyhow::Result<String> {
     let (mut writes, mut flushes) = (0, 0);
     let writer = Writer {

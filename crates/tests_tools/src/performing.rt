@@ -154,7 +154,7 @@ impl Sweep {
         self.told = answer;
     }
 
-    /// Makes the call with an output that fails at a count, and tells whether it failed.
+    /// Makes the call with an output that fails at a count, and returns whether it failed.
     fn next<C: Calls>(
         &mut self,
         calls: &mut C,

@@ -13,7 +13,7 @@ pub struct Source<'a> {
     pub(crate) failing: u32,
     /// How many reads there were.
     pub reads: u32,
-    /// Whether it told its end.
+    /// Whether it reported its end.
     pub(crate) has_ended: bool,
 }
 

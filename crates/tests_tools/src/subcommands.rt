@@ -40,7 +40,7 @@ fn called(alloc: Global, word: &str, says: &str) -> anyhow::Result<String> {
     }
 }
 
-/// Keeps the help, and tells whether it ends with a line.
+/// Keeps the help, and returns whether it ends with a line.
 fn help(case: &mut Case<'_>, says: &str) -> anyhow::Result<String> {
     let help = answer(case.alloc, says)?;
     let is_ended = help.ends_with('\n');

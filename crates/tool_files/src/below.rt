@@ -23,8 +23,8 @@ fn is_plain<R: rt::Files>(rt: &R, path: &str) -> bool {
     }
 }
 
-/// Whether there is a plain file at the path, and each part of it behind the first `folder` bytes leads down, and none of
-/// them is a link. A slash stands behind these bytes.
+/// Whether there is a plain file at the path, and each part of it after the first `folder` bytes leads down, and none of
+/// them is a link. A slash is after these bytes.
 pub fn is_plain_below<R: rt::Files>(rt: &R, path: &str, folder: usize) -> bool {
     if folder >= path.len() {
         return false;

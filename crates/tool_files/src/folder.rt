@@ -26,7 +26,7 @@ fn fault_of(error: &Error) -> FileFault
     }
 }
 
-/// Whether a file of a folder counts: a plain file, or a link to one, whose name does not begin with a dot. A link that
+/// Whether a file of a folder counts: a plain file, or a link to one, whose name does not start with a dot. A link that
 /// leads nowhere does not. Errors: `Failed`, `Memory`.
 fn is_counted<R: rt::Files>(rt: &R, name: &str, path: &str) -> Result<bool, FileFault>
     ensures { IfErr result (λ fault. fault ≢ Short) }
@@ -83,7 +83,7 @@ fn add_file<R: rt::Files>(
     Ok(())
 }
 
-/// Reads the files of a folder as one text, in the order of their names. Files whose names begin with a dot, and
+/// Reads the files of a folder as one text, in the order of their names. Files whose names start with a dot, and
 /// what is no plain file, do not count. Errors: `Failed`, `TooLong`, `Memory`.
 pub fn read_folder<R: rt::Files + AllocGlobal + Clone + Drop>(
     rt: &R,

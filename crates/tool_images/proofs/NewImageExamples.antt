@@ -1,4 +1,4 @@
--- New images of texts, in worked cases, computed. The bytes behind the checksum are those of Debian's mkenvimage (2023.01).
+-- New images of texts, in worked cases, computed. The bytes after the checksum are those of Debian's mkenvimage (2023.01).
 use Rattle.std.specs.Prelude.{◌≡◌, [], ◌∷◌, ◌++◌, codes, true, false, refl}
 use Rattle.envimage.specs.declared.image.ByteOrder.TheVariants.{Little, Big}
 use Rattle.envtools.specs.Environment.{env_of}

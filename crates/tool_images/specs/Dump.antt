@@ -1,6 +1,6 @@
--- A text that U-Boot's `printenv` wrote to its console, and that was copied from there. Behind the variables it writes an
+-- A text that U-Boot's `printenv` wrote to its console, and that was copied from there. After the variables it writes an
 -- empty line and `Environment size: N/M bytes` (U-Boot, cmd/nvedit.c, `do_env_print`), and the console puts a carriage return
--- in front of each newline. That such a text is told by this last line alone is ours.
+-- in front of each newline. That such a text is reported by this last line alone is ours.
 use Rattle.std.specs.Prelude.{ℕ, ◌==◌, ◌&&◌, ◌-◌, not, nat_eq, Bool, List, [], ◌∷◌, ◌++◌, length, take, drop, map, reverse, Option, Some, None, codes, slice_index, option_map, unwrap_or, if◌then◌else◌}
 use Rattle.std.specs.List.{after_first, before_first, ends_with, flat_map, starts_with}
 use Rattle.text.specs.Bytes as ascii
@@ -52,7 +52,7 @@ from_last [] = []
 from_last ([] ∷ lines) = from_last lines
 from_last ((b ∷ bs) ∷ lines) = (b ∷ bs) ∷ lines
 
--- lines from the last one back: those behind the size and an empty line, if these come first
+-- lines from the last one back: those after the size and an empty line, if these come first
 abbrev pub behind_size : List (List ℕ) → Option (List (List ℕ))
 behind_size (size ∷ [] ∷ lines) = if is_size_line size then Some lines else None
 behind_size _ = None

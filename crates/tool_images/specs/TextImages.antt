@@ -1,4 +1,4 @@
--- The image that stands for a text. How a text is read is mkenvimage's (U-Boot, tools/mkenvimage.c, `main`), but for the last
+-- The image that is made of a text. How a text is read is mkenvimage's (U-Boot, tools/mkenvimage.c, `main`), but for the last
 -- lines of a console (`Dump.antt`). That an image of the same variables is made of it is ours.
 use Rattle.std.specs.Prelude.{◌≡◌, ◌<◌, List, [], ℕ, None, Result, Ok, Err, Vec}
 use Rattle.std.specs.declared.alloc.Global.{Global}
@@ -39,7 +39,7 @@ IsTextsFault text TextTooLarge = IsTooLarge text
 IsTextsFault text Memory = Unit {0}
 IsTextsFault text _ = ⊥
 
--- an image that stands for the text, or why there is none
+-- an image that means the text, or why there is none
 abbrev pub MakesImage : ByteOrder → (text : List ℕ) → Result (Vec ℕ Global) Fault → Type 0
 MakesImage order text (Ok image) = StandsFor order text image.items
 MakesImage order text (Err fault) = IsTextsFault text fault

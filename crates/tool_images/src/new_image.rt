@@ -23,7 +23,7 @@ pub struct Layout {
     pub redundant: bool,
     /// How its checksum is stored.
     pub order: ByteOrder,
-    /// The byte that fills it behind the variables.
+    /// The byte that fills it after the variables.
     pub fill: u8,
 }
 

@@ -1,4 +1,4 @@
-//! The image that stands for a text.
+//! The image that is made of a text.
 ghost use Rattle.std.specs.Prelude.{◌≡◌, IfErr, IfOk, None, Ok};
 ghost use Rattle.envtools.specs.Environment.{env_of};
 ghost use Rattle.envtools.specs.FromText.{IsReadFromText};
@@ -13,7 +13,7 @@ use envtools::{Env, TextError, from_text};
 use std::alloc::Global;
 
 /// The environment of a text, as `mkenvimage` reads it. Of a text that U-Boot's `printenv` wrote to its console,
-/// the lines behind the variables and the carriage returns at the ends of lines are left out first.
+/// the lines after the variables and the carriage returns at the ends of lines are left out first.
 ///
 /// Errors: `NoEquals` or `EmptyName` for the first line that is no variable; `Memory`.
 pub fn env_of_text(alloc: Global, text: &[u8]) -> Result<Env, TextError>

@@ -11,7 +11,7 @@ CountsTold old new (Err (CannotRead path)) = new ≡ counted old
 CountsTold old new (Err (CannotWrite path)) = new ≡ counted old
 CountsTold old new _ = new ≡ old
 
--- If one copy of a pair is enough, one more failure may be counted than the answer tells: that of the copy that is lost.
+-- If one copy of a pair is enough, one more failure may be counted than the answer says: that of the copy that is lost.
 abbrev pub CountsReads : {T : Type 0} → (one_copy : Bool) → ℕ → ℕ → Result T Fault → Type 0
 CountsReads false old new answer = CountsTold old new answer
 CountsReads true old new answer = CountsTold old new answer ⊎ CountsTold (counted old) new answer

@@ -70,7 +70,7 @@ PrintsFrom program source names form outputs old new answer =
     FromFound program source outputs old new (λ found s. PrintsCopies source.order found names form s answer)
     ⊎ IsNotFound source outputs old new answer
 
--- a refusal other than that of an output leaves both as they were; it may only be told that a copy is lost
+-- a refusal other than that of an output leaves both as they were; it may only be reported that a copy is lost
 abbrev pub LeavesOutputs : (program : List ℕ) → (one_copy : Bool) → Result Bool Fault → Outputs → Type 0
 LeavesOutputs program one_copy (Ok all) s = Unit {0}
 LeavesOutputs program one_copy (Err (Tool Write)) s = Unit {0}

@@ -85,7 +85,7 @@ pub enum Ask {
         /// How the image's CRC is stored.
         order: ByteOrder,
     },
-    /// To tell which boots follow one another.
+    /// To list which boots follow one another.
     Boots {
         /// The files to read.
         inputs: Inputs,
@@ -94,7 +94,7 @@ pub enum Ask {
         /// How the image's CRC is stored.
         order: ByteOrder,
     },
-    /// To tell what has to fail for each ending of a boot script.
+    /// To list what has to fail for each ending of a boot script.
     Causes {
         /// The files to read.
         inputs: Inputs,
@@ -112,7 +112,7 @@ pub enum Ask {
         /// What image to make.
         what: ImageAsk,
     },
-    /// To tell what a configuration or an image is.
+    /// To describe a configuration or an image.
     Inspect {
         /// What names the images.
         origin: Origin,

@@ -103,7 +103,7 @@ module _ (g : Given) (check : Bool) (count : ℕ) (old new : Sink) (found : begi
   turns-refused refused.Write h same = absurd h.lacks
   turns-refused refused.Memory h same = refuses-some refused.Memory (turns_of (beginning_of g)) (ap turns_of found) (image-of-start g (Alternatives count) found, same)
 
--- ---- what is never told
+-- ---- what is never reported
 
 pub never : (g : Given) (check : Bool) (old new : Sink) (error : RehearseError) → ((h : Given) → WhyNoCauses h (refused.Rehearsal error) → ⊥) → RefusesCauses g check old new (refused.Rehearsal error) → ⊥
 never g check old new error none h = by (turns_of (beginning_of g)) h

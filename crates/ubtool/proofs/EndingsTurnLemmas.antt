@@ -103,7 +103,7 @@ module _ (g : Given) (flow : Bool) (states work bytes count : ℕ) (old new : Si
   turns-refused refused.Write h same = absurd h.lacks
   turns-refused refused.Memory h same = refuses-some refused.Memory (turns_of (beginning_of g)) (ap turns_of found) (image-of-start g (Alternatives count) found, same)
 
--- ---- what is never told
+-- ---- what is never reported
 
 pub never : (g : Given) (flow : Bool) (states work bytes : ℕ) (old new : Sink) (error : RehearseError) → ((h : Given) → WhyNoLines states work bytes h (refused.Rehearsal error) → ⊥) → RefusesEndings g flow states work bytes old new (refused.Rehearsal error) → ⊥
 never g flow states work bytes old new error none h = by (turns_of (beginning_of g)) h

@@ -39,7 +39,7 @@ faulty_image fault = refl
 one_alone : (beginning : Beginning) → turns_of (Ok beginning) ≡ None
 one_alone beginning = refl
 
--- and so the program tells it
+-- and so the program prints it
 several_told : turns_told (CannotStart (Alternatives 3)) ≡ Some 3
 several_told = refl
 

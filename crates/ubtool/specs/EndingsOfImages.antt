@@ -22,7 +22,7 @@ use Rattle.ubtool.specs.declared.rehearsal_error.RehearsalError.{RehearsalError}
 use Rattle.ubtool.specs.declared.rehearsal_error.RehearsalError.TheVariants.{Image, Rehearsal, Start, Write, Memory}
 
 -- what is given: the text, if there is one, all runs of it or of the variable that is asked for, within the bounds, and
--- the variables whose values are told apart
+-- the variables by whose values runs are told apart
 abbrev pub runs_by : EndingsAsk → Asking
 runs_by ask = all_runs ask.name.now ask.bounds (names_of ask)
 

@@ -67,7 +67,7 @@ abbrev pub MakesOf : (text output : List ℕ) → Layout → Told → Told → R
 MakesOf text output layout old new (Ok all) = (all ≡ true) × Makes text output layout old new (Ok tt)
 MakesOf text output layout old new (Err fault) = Makes text output layout old new (Err fault)
 
--- the count of failures of the device: one more than the answer tells, if one copy of a pair is enough and one is lost
+-- the count of failures of the device: one more than the answer says, if one copy of a pair is enough and one is lost
 abbrev pub Counts : Ask → ℕ → ℕ → Result Bool ProgramFault → Type 0
 Counts (Print origin what order one_copy) old new result = IsShared (CountsReads one_copy old new) result
 Counts (Setenv origin change order one_copy) old new result = IsShared (CountsReads one_copy old new) result

@@ -45,7 +45,7 @@ IsStart text (Err error) = ⊥
 abbrev pub taken_by : Taking → (number : ℕ) → Taking
 taken_by taking number = record taking { alternative = Some number }
 
--- how many alternatives a refusal tells
+-- how many alternatives a refusal names
 abbrev pub turns_told : RehearsalError → Option ℕ
 turns_told (CannotStart (Alternatives count)) = Some count
 turns_told error = None

@@ -64,7 +64,7 @@ pub(crate) fn add_headed(
     }
 }
 
-/// How many alternatives a refusal tells.
+/// How many alternatives a refusal names.
 pub(crate) fn turns_told(error: RehearsalError) -> Option<u32>
     ensures { result ≡ turns_told error }
 {

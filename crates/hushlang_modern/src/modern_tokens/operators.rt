@@ -136,7 +136,7 @@ impl TextReading {
         self.read_comment(byte)
     }
 
-    /// Reads the byte behind a single `&` or `|`.
+    /// Reads the byte after a single `&` or `|`.
     fn read_single_joint(&mut self, op: Op, byte: u8) -> Result<(), AllocError>
         ensures { OnOk result (shown.reading self.new
             ≡ says.read_single_joint op byte (shown.reading self.old)) }
@@ -150,7 +150,7 @@ impl TextReading {
         self.read_open(byte)
     }
 
-    /// Reads the byte behind the first `&` or `|`.
+    /// Reads the byte after the first `&` or `|`.
     pub(super) fn read_joint(&mut self, op: Op, byte: u8) -> Result<(), AllocError>
         ensures { OnOk result
             (shown.reading self.new ≡ says.read_joint op byte (shown.reading self.old)) }

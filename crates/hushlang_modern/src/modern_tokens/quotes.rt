@@ -1,4 +1,4 @@
-//! The bytes that may act: quotes and backslashes, and what stands in them or behind them.
+//! The bytes that may act: quotes and backslashes, and what is in them or after them.
 ghost use Rattle.std.specs.Prelude.{◌≡◌, OnOk};
 ghost use Rattle.hushlang_modern.specs.ModernTokens as says;
 ghost use Rattle.hushlang_modern.specs.ModernTokensShown as shown;
@@ -10,7 +10,7 @@ use hushlang::Piece;
 use std::alloc::AllocError;
 
 impl TextReading {
-    /// Adds a byte, behind a backslash if it would act in a pattern (`o_addqchr`).
+    /// Adds a byte, after a backslash if it would act in a pattern (`o_addqchr`).
     fn guard(&mut self, byte: u8) -> Result<(), AllocError>
         ensures { OnOk result (shown.reading self.new
             ≡ says.with_bytes (says.guarded byte) (shown.reading self.old)) }
@@ -83,7 +83,7 @@ impl TextReading {
         self.read_open(byte)
     }
 
-    /// Reads the byte behind an opening `"`.
+    /// Reads the byte after an opening `"`.
     pub(super) fn read_opened(&mut self, byte: u8) -> Result<(), AllocError>
         ensures { OnOk result
             (shown.reading self.new ≡ says.read_opened byte (shown.reading self.old)) }
@@ -96,7 +96,7 @@ impl TextReading {
         self.read_strict(byte)
     }
 
-    /// Adds the result of a backslash and the byte behind it.
+    /// Adds the result of a backslash and the byte after it.
     fn push_escaped(&mut self, byte: u8) -> Result<(), AllocError>
         ensures { OnOk result (shown.reading self.new
             ≡ says.with_bytes (says.escaped self.old.double byte) (shown.reading self.old)) }
@@ -113,7 +113,7 @@ impl TextReading {
         self.guard(byte)
     }
 
-    /// Reads the byte behind a backslash.
+    /// Reads the byte after a backslash.
     pub(super) fn read_behind(&mut self, strict: bool, byte: u8) -> Result<(), AllocError>
         ensures { OnOk result (shown.reading self.new
             ≡ says.read_behind strict byte (shown.reading self.old)) }

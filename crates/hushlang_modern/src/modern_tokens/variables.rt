@@ -1,4 +1,4 @@
-//! The bytes behind `$`: names, parameters of the shell, and what stands in braces.
+//! The bytes after `$`: names, parameters of the shell, and what is in braces.
 ghost use Rattle.std.specs.Prelude.{◌≡◌, OnOk};
 ghost use Rattle.hushlang.specs.TreesShown as view;
 ghost use Rattle.hushlang_modern.specs.ModernTokens as says;
@@ -37,7 +37,7 @@ impl TextReading {
         self.push_value(Piece::Var { name, split })
     }
 
-    /// A name begins with this byte.
+    /// A name starts with this byte.
     fn begin_name(&mut self, byte: u8) -> Result<(), AllocError>
         ensures { OnOk result (shown.reading self.new
             ≡ says.at_place (says.Name (shown.one byte)) (shown.reading self.old)) }
@@ -48,7 +48,7 @@ impl TextReading {
         Ok(())
     }
 
-    /// A name in braces begins with this byte.
+    /// A name in braces starts with this byte.
     fn begin_brace(&mut self, byte: u8) -> Result<(), AllocError>
         ensures { OnOk result (shown.reading self.new
             ≡ says.at_place (says.Brace (shown.one byte)) (shown.reading self.old)) }
@@ -108,7 +108,7 @@ impl TextReading {
         Ok(())
     }
 
-    /// Reads the byte behind `$`.
+    /// Reads the byte after `$`.
     pub(super) fn read_dollar(&mut self, byte: u8) -> Result<(), AllocError>
         ensures { OnOk result
             (shown.reading self.new ≡ says.read_dollar byte (shown.reading self.old)) }
@@ -134,7 +134,7 @@ impl TextReading {
         self.read_strict(byte)
     }
 
-    /// Reads the byte behind `$` and the first bytes of a name.
+    /// Reads the byte after `$` and the first bytes of a name.
     pub(super) fn read_name(&mut self, byte: u8) -> Result<(), AllocError>
         requires { self.old.place ≡ shown.in_name }
         ensures { OnOk result (shown.reading self.new
@@ -170,7 +170,7 @@ impl TextReading {
         Ok(())
     }
 
-    /// Braces end behind a name, a digit or `?`.
+    /// Braces end after a name, a digit or `?`.
     fn end_brace(&mut self) -> Result<(), AllocError>
         ensures { OnOk result (shown.reading self.new
             ≡ says.brace_ended self.old.name.items (shown.reading self.old)) }
@@ -185,7 +185,7 @@ impl TextReading {
         self.push_value(Piece::Status)
     }
 
-    /// Whether a byte in braces is a fault behind a digit.
+    /// Whether a byte in braces is a fault after a digit.
     fn spoils(&self, byte: u8) -> bool
         ensures { result ≡ says.spoils self.now.name.items byte }
     {
@@ -235,7 +235,7 @@ impl TextReading {
         self.read_brace_next(byte)
     }
 
-    /// Reads the byte behind an operator in braces.
+    /// Reads the byte after an operator in braces.
     pub(super) fn read_operator(&mut self, byte: u8) -> Result<(), AllocError>
         requires { self.old.place ≡ shown.behind_operator }
         ensures { OnOk result (shown.reading self.new
@@ -251,7 +251,7 @@ impl TextReading {
     }
 }
 
-/// How the reading stops if the text ends in braces, behind these bytes.
+/// How the reading stops if the text ends in braces, after these bytes.
 pub(super) fn stop_in_brace(name: &[u8]) -> Stop
     ensures { result ≡ says.stop_in_brace name.now }
 {

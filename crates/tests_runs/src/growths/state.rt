@@ -4,7 +4,7 @@ use crate::growths::bytes::{print_bytes, print_pair};
 use bootstore_state::Store;
 use std::io;
 
-/// Prints all that a store tells of its state.
+/// Prints all that a store says of its state.
 pub(crate) fn print_state<S: Store>(rt: &impl Print, store: &S) -> io::Result<()> {
     print!(rt;
         " status {} steps {} begun {} log {}",

@@ -2,7 +2,7 @@ use Rattle.std.proofs.Common.{◌≡◌, ◌≤◌, length, map, reverse, take}
 use Rattle.tool_images.specs.Dump.{from_last}
 use Rattle.tool_images.proofs.dump.shown_len.Given as goal
 
--- the lines behind the first `len` are empty
+-- the lines after the first `len` are empty
 abbrev pub invariant-loop-len : goal.invariant-loop-len
 invariant-loop-len l =
     (from_last (reverse (map (λ line. line.now) l.lines)) ≡ from_last (reverse (map (λ line. line.now) (take l.len l.lines)))) × (l.len ≤ length l.lines)
