@@ -85,7 +85,7 @@ a word that is missing
 
 an assignment
   $ text 'x=1 load'
-  bootcmd:1:5: an assignment stands before the command
+  bootcmd:1:5: an assignment before the command
   x=1 load
       ^
   [1]

@@ -44,7 +44,7 @@ what_of size blocks (Unexpected at) =
     else (if list_any (λ place. place == at) blocks then codes "the block before this word is empty: write true in it"
     else codes "unexpected token")
 what_of size blocks (MissingWord at) = codes "a word is missing"
-what_of size blocks (AssignmentBeforeCommand at) = codes "an assignment stands before the command"
+what_of size blocks (AssignmentBeforeCommand at) = codes "an assignment before the command"
 what_of size blocks (TooDeep at) = codes "nested too deep"
 what_of size blocks Memory = codes "out of memory"
 

@@ -60,7 +60,7 @@ pub(crate) fn what_of(size: usize, blocks: &[usize], error: SyntaxError) -> &'st
         SyntaxError::SinglePipe(_) => b"a single |",
         SyntaxError::Unexpected(at) => unexpected(size, blocks, at),
         SyntaxError::MissingWord(_) => b"a word is missing",
-        SyntaxError::AssignmentBeforeCommand(_) => b"an assignment stands before the command",
+        SyntaxError::AssignmentBeforeCommand(_) => b"an assignment before the command",
         SyntaxError::TooDeep(_) => b"nested too deep",
         SyntaxError::Memory => b"out of memory",
     }

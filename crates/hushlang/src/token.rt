@@ -46,7 +46,7 @@ pub enum SyntaxError {
     #[error("a word is missing at byte {0}")]
     MissingWord(usize),
     /// A word that is not an assignment follows assignments at this byte.
-    #[error("an assignment stands before the command at byte {0}")]
+    #[error("an assignment before the command at byte {0}")]
     AssignmentBeforeCommand(usize),
     /// A compound command starts at this byte, inside as many others as are allowed.
     #[error("nested too deep at byte {0}")]

@@ -91,7 +91,7 @@ abbrev pub is_second : Option Which → Bool
 is_second (Some Second) = true
 is_second _ = false
 
--- why the copy counts that does: the other one's checksum is wrong; or both are right, and the flags tell; or the flags
+-- why the copy counts that does: the other one's checksum is wrong; or both are right, and the flags decide; or the flags
 -- are the same, and the first one counts
 abbrev pub reason_line : ByteOrder → (first second : List ℕ) → List ℕ
 reason_line order first second = by (is_right order 5 first) (is_right order 5 second)
@@ -113,7 +113,7 @@ copies_lines order (pair first second) = pair_lines order first second
 
 -- ---- the data
 
--- the bytes of the entries as they stand, and of the NUL behind them
+-- the bytes of the entries as they are, and of the NUL after them
 abbrev pub used_by : List ℕ → ℕ
 used_by body = length (flat_map entry (pairs_of body)) + 1
 
