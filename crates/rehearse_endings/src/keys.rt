@@ -38,10 +38,11 @@ pub(crate) fn keys_of_both<S: Store>(
         ++ keys_in_front (accesses_shown lost) (keys_shown after_lost.items))
         (keys_shown keys.items)) }
 {
+    let hasher = won.hasher();
     let before_won = won.in_front(after_won)?;
     let before_lost = lost.in_front(after_lost)?;
-    let both = together(alloc, before_won, before_lost)?;
-    let mut asked = Reported::new(alloc);
+    let both = together(alloc, hasher, before_won, before_lost)?;
+    let mut asked = Reported::new(alloc, hasher);
     report_asked(alloc, &mut asked, store)?;
     let keys = asked.in_front(both)?;
     Ok(keys)

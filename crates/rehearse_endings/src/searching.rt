@@ -272,7 +272,7 @@ fn summed<S: Store>(
             table.enter()?;
             store.mark()?;
             store.mark()?;
-            let mut won_way = Reported::new(rehearsal.alloc);
+            let mut won_way = Reported::new(rehearsal.alloc, rehearsal.env.hasher());
             let mut won_frames = 0;
             let entered = table.visited;
             let won_stop = resumed(
@@ -295,7 +295,7 @@ fn summed<S: Store>(
                 won_stop,
             )?;
             store.back();
-            let mut lost_way = Reported::new(rehearsal.alloc);
+            let mut lost_way = Reported::new(rehearsal.alloc, rehearsal.env.hasher());
             let mut lost_frames = 0;
             let entered = table.visited;
             let lost_stop = resumed(

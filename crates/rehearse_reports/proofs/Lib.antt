@@ -1,6 +1,6 @@
 pub mod MemberLemmas
 pub mod AddingLemmas
-pub mod FoundKeys
+pub mod KeyEquality
 pub mod ReportLemmas
 pub mod CoverLemmas
 pub mod WordLemmas

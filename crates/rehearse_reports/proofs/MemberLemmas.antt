@@ -61,7 +61,7 @@ equal_keys x key e =
     let nothing : AreAmong (keys_read (Writes key ∷ Reads x ∷ [])) [] = subst (λ (b : Bool). AreAmong (cond (not b) (x ∷ []) []) []) (sym e) tt in
     elim ((keys_read_suffice (Writes key ∷ Reads x ∷ []) []).1 nothing).0 [ inl same ↦ same | inr other ↦ absurd other ]
 
-pub not_other : (x : Key) → same_key x x ≡ false → ⊥
+not_other : (x : Key) → same_key x x ≡ false → ⊥
 not_other x e =
     let known : ReadsWithin [] (Writes x ∷ Reads x ∷ []) = (inl refl, tt) in
     (subst (λ (b : Bool). AreAmong (cond (not b) (x ∷ []) []) []) e ((keys_read_suffice (Writes x ∷ Reads x ∷ []) []).0 known)).0
@@ -129,14 +129,21 @@ found_among x (k ∷ keys) e = by (same_key x k) refl e (found_among x keys)
     by true f g rest = inl (equal_keys x k f)
     by false f g rest = inr (rest g)
 
-pub any_pushed : (x k : Key) (keys : List Key) → list_any (same_key x) (keys ++ k ∷ []) ≡ (list_any (same_key x) keys || same_key x k)
-any_pushed x k [] = by (same_key x k)
+same_itself : (x : Key) → same_key x x ≡ true
+same_itself x = by (same_key x x) refl
   where
-    by : (b : Bool) → (b || false) ≡ b
-    by true = refl
-    by false = refl
-any_pushed x k (y ∷ keys) = by (same_key x y) (any_pushed x k keys)
+    by : (b : Bool) → same_key x x ≡ b → b ≡ true
+    by true e = refl
+    by false e = absurd (not_other x e)
+
+pub same_found : (x key : Key) → x ≡ key → same_key x key ≡ true
+same_found x key same = ap (λ (k : Key). same_key x k) (sym same) ∙ same_itself x
+
+pub any_found : (x : Key) (keys : List Key) → IsAmong x keys → list_any (same_key x) keys ≡ true
+any_found x [] h = absurd h
+any_found x (k ∷ keys) (inl same) = ap (λ (b : Bool). b || list_any (same_key x) keys) (same_found x k same)
+any_found x (k ∷ keys) (inr h) = by (same_key x k) (any_found x keys h)
   where
-    by : (b : Bool) → list_any (same_key x) (keys ++ k ∷ []) ≡ (list_any (same_key x) keys || same_key x k) → (b || list_any (same_key x) (keys ++ k ∷ [])) ≡ ((b || list_any (same_key x) keys) || same_key x k)
+    by : (b : Bool) → list_any (same_key x) keys ≡ true → (b || list_any (same_key x) keys) ≡ true
     by true e = refl
     by false e = e

@@ -193,7 +193,7 @@ fn watched_turns<'d, S: Store>(
             Step::Going => {
                 drop_noted(store, fewest)?;
                 let steps = store.steps() - first.steps;
-                if is_back(&first, store, &reported.written) {
+                if is_back(&first, store, reported.written()) {
                     begin_rounds(store, steps, bounds)?;
                     return Ok(Step::Going);
                 }

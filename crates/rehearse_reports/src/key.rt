@@ -1,10 +1,6 @@
 //! A thing that a run can read.
-ghost use Rattle.std.specs.Prelude.{◌≡◌};
-ghost use Rattle.rehearse_reads.specs.Keys.{same_key};
-ghost use Rattle.rehearse_reports.specs.ReportsShown.{key_shown};
-
 /// A thing that a run can read.
-#[derive(Drop)]
+#[derive(PartialEq, Eq, Hash, Drop)]
 pub enum Key {
     /// A variable of the environment: its value, or that it is not set.
     Environment(Vec<u8>),
@@ -17,22 +13,4 @@ pub enum Key {
     Succeeded(Vec<Vec<u8>>),
     /// `$?`
     Status,
-}
-
-impl Key {
-    /// Whether two keys are the same.
-    pub(crate) fn is_same(&self, other: &Key) -> bool
-        ensures { result ≡ same_key (key_shown self.now) (key_shown other.now) }
-    {
-        match (self, other) {
-            (Key::Environment(name), Key::Environment(other)) => {
-                name.as_slice() == other.as_slice()
-            }
-            (Key::Local(name), Key::Local(other)) => name.as_slice() == other.as_slice(),
-            (Key::AnswerTo(call), Key::AnswerTo(other)) => call.as_slice() == other.as_slice(),
-            (Key::Succeeded(start), Key::Succeeded(other)) => start.as_slice() == other.as_slice(),
-            (Key::Status, Key::Status) => true,
-            _ => false,
-        }
-    }
 }

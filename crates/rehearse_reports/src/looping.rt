@@ -6,6 +6,8 @@ ghost use Rattle.rehearse_reports.specs.Looping.{IsBack, BeginsRounds};
 
 use crate::key::Key;
 use bootstore_state::{Frame, LogEntry, Present, Store, StoreError, Variables, text_length};
+use indexmap::IndexSet;
+use keyed_hash::KeyedHash;
 use rehearse_states::same_frames;
 use rehearse_terms::RunBounds;
 
@@ -84,7 +86,7 @@ fn same_at(key: &Key, a: &Present, b: &Present) -> bool {
 
 /// Whether both states look the same at first sight. In a loop that ends they mostly do not,
 /// and then no more of them is compared.
-fn looks_same(a: &Present, b: &Present, written: &[Key]) -> bool {
+fn looks_same(a: &Present, b: &Present, written: &IndexSet<Key, KeyedHash>) -> bool {
     if a.frames.len() != b.frames.len() || !same_place(a.top(), b.top()) {
         return false;
     }
@@ -117,7 +119,11 @@ fn is_again(first: &Present, present: &Present) -> bool
 }
 
 /// Whether a store is at the first state again, but for the count of steps. These keys were written since.
-pub(crate) fn is_back<S: Store>(first: &Present, store: &S, written: &[Key]) -> bool
+pub(crate) fn is_back<S: Store>(
+    first: &Present,
+    store: &S,
+    written: &IndexSet<Key, KeyedHash>,
+) -> bool
     ensures { IsTrue result → IsBack (moment_of first.now) (S.record_of store.now).present }
 {
     let present = store.present();

@@ -72,7 +72,7 @@ pub fn begin_watched<S: Store>(rehearsal: &Rehearsal<'_>, store: &mut S) -> Resu
     ensures within { OnOk result ((S.record_of store.new).present.steps ≤ most_steps) }
 {
     let _bound = rehearsal.bounds.steps();
-    let mut unread = Reported::new(rehearsal.alloc);
+    let mut unread = Reported::new(rehearsal.alloc, rehearsal.env.hasher());
     let mut fewest = 0;
     match start(rehearsal, store)? {
         None => go_on(rehearsal, &mut unread, store, &mut fewest),
