@@ -1,5 +1,5 @@
 //! What is kept from one boot to the next: the values of variables, an empty one of a variable that is not set.
-ghost use Rattle.std.specs.Prelude.{◌≡◌, ◌++◌, ◌+◌, ◌-◌, [], length, map, option_map, unwrap_or, IfOk, OnOk};
+ghost use Rattle.std.specs.Prelude.{◌≡◌, ◌∷◌, ◌++◌, ◌+◌, ◌-◌, [], length, map, option_map, unwrap_or, IfOk, OnOk};
 ghost use Rattle.std.specs.List.{flat_map, zip};
 ghost use Rattle.envtools.specs.Environment.{value_of};
 ghost use Rattle.envimage.specs.Data.{entry};
@@ -47,13 +47,10 @@ fn add_changes<'a>(
     ensures { OnOk result (map pair_at changes.new.items
         ≡ map pair_at changes.old.items ++ zip (map (λ n. n.now) names.now) (bytes_of_words kept.now)) }
 {
-    match (names.split_first(), kept.split_first()) {
-        (Some((name, names)), Some((value, kept))) => {
-            changes.push((*name, value.as_slice()))?;
-            add_changes(changes, names, kept)
-        }
-        _ => Ok(()),
+    for (name, value) in names.iter().zip(kept) {
+        changes.push((*name, value.as_slice()))?;
     }
+    Ok(())
 }
 
 /// An environment in which these variables have these values. Errors: memory ran out.
@@ -86,6 +83,16 @@ fn kept_by<'a>(before: &'a [u8], copy: &'a Option<Vec<u8>>) -> &'a [u8]
     }
 }
 
+/// The value that is saved after a run, by the one that was saved before it and the copies that are left.
+fn first_kept<'a>(before: &'a [u8], copies: &'a [Option<Vec<u8>>]) -> &'a [u8]
+    ensures { spec.kept_after (before.now ∷ []) (map value_shown copies.now) ≡ result.now ∷ [] }
+{
+    match copies {
+        [copy, ..] => kept_by(before, copy),
+        [] => before,
+    }
+}
+
 /// Adds the values that are saved after a run, by those that were saved before it and the copies that the run
 /// leaves. Errors: memory ran out.
 pub(crate) fn add_kept(
@@ -97,17 +104,14 @@ pub(crate) fn add_kept(
     ensures { OnOk result (bytes_of_words after.new.items ≡ bytes_of_words after.old.items
         ++ spec.kept_after (bytes_of_words before.now) (map value_shown copies.now)) }
 {
-    match (before.split_first(), copies.split_first()) {
-        (Some((value, before)), Some((copy, copies))) => {
-            after.push(Vec::from_slice(alloc, kept_by(value, copy))?)?;
-            add_kept(alloc, after, before, copies)
+    let mut left = copies;
+    for value in before {
+        after.push(Vec::from_slice(alloc, first_kept(value, left))?)?;
+        if let [_, more @ ..] = left {
+            left = more;
         }
-        (Some((value, before)), None) => {
-            after.push(Vec::from_slice(alloc, value)?)?;
-            add_kept(alloc, after, before, copies)
-        }
-        _ => Ok(()),
     }
+    Ok(())
 }
 
 /// Whether an image has room for an environment; without a number, it has room for any.

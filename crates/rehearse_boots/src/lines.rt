@@ -72,13 +72,15 @@ fn put_all_changed(
     ensures { OnOk result (text.new.items ≡ text.old.items
         ++ spec.changed_lines (map (λ n. n.now) names.now) (bytes_of_words first.now) (bytes_of_words kept.now)) }
 {
-    match (names.split_first(), first.split_first(), kept.split_first()) {
-        (Some((name, names)), Some((value, first)), Some((other, kept))) => {
-            put_changed(text, name, value, other)?;
-            put_all_changed(text, names, first, kept)
-        }
-        _ => Ok(()),
+    let mut left = kept;
+    for (name, value) in names.iter().zip(first) {
+        let Some((other, more)) = left.split_first() else {
+            return Ok(());
+        };
+        put_changed(text, name, value, other)?;
+        left = more;
     }
+    Ok(())
 }
 
 /// Adds the number of the boot that follows after changes, if there is one.

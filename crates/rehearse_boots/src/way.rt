@@ -57,18 +57,12 @@ fn ends_so(alloc: Global, words: &[u8], halt: &Halt) -> Result<bool, StoreError>
 fn value_left<'a>(names: &[&[u8]], values: &'a [Option<Vec<u8>>], name: &[u8]) -> &'a [u8]
     ensures { result.now ≡ spec.value_left (map (λ n. n.now) names.now) (map value_shown values.now) name.now }
 {
-    match (names.split_first(), values.split_first()) {
-        (Some((other, names)), Some((value, values))) => {
-            if *other != name {
-                return value_left(names, values, name);
-            }
-            match value {
-                Some(value) => value.as_slice(),
-                None => &[],
-            }
+    for (other, value) in names.iter().zip(values) {
+        if *other == name {
+            return value.as_deref().unwrap_or(&[]);
         }
-        _ => &[],
     }
+    &[]
 }
 
 /// Whether an ending leaves this value of a variable.
