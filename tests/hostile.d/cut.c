@@ -30,7 +30,7 @@ static bool is_failed_output(const struct ran *ran) {
     return ran->status == 1 && begins_with(&ran->err, "ubtool: output failed\n") && ran->err.length == 22;
 }
 
-/* Whether all is right where the listing is broken off after so many bytes. */
+/* Whether all is right if the listing is broken off after so many bytes. */
 static bool is_right(const struct bytes *whole, size_t room) {
     static struct ran broken, rest;
     static struct bytes word;

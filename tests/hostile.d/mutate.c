@@ -2,11 +2,11 @@
  * by JOBS processes at a time: mutated images, configurations, scripts, device lists, boot scripts and words. The seeds
  * are the files of SEEDS; number N is the same input on every machine. Of each run:
  *   - no signal ends it, it takes less than SECONDS (10 where none are given), and its status is 0, 1 or 2;
- *   - nothing is on the error output if the status is 0; one line `ubtool: ..` where it is 1, or of printenv a
+ *   - nothing is on the error output if the status is 0; one line `ubtool: ..` if it is 1, or of printenv a
  *     line `## Error: "NAME" not defined` for some of its names, in their order, and no other; one line `ubtool: ..`
  *     or the lines of wrong words where it is 2;
  *   - no file is changed but the copy that a setenv with status 0 writes, and its size stays;
- *   - where the status is 2, and after each refusal but for a failed output or lack of memory, nothing was printed.
+ *   - if the status is 2, and after each refusal but for a failed output or lack of memory, nothing was printed.
  * Some runs are followed by a second one: a variable that was set is printed, and a listing is broken off and gone on
  * with. Of many inputs, some of each kind must end with status 0. The input of a run that fails one of these stays in
  * FOLDER/failed-N, and the status is then 1. */
@@ -297,7 +297,7 @@ static void run_words(struct bytes *words, size_t count, bool has_input, struct 
     run(&start, ran);
 }
 
-/* One line that begins so, and nothing after it. */
+/* One line that starts so, and nothing after it. */
 static bool is_line(const struct bytes *text, const char *front) {
     const unsigned char *end = text->length == 0 ? NULL : memchr(text->data, '\n', text->length);
     return begins_with(text, front) && end == text->data + text->length - 1;
