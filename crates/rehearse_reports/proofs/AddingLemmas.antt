@@ -3,6 +3,7 @@ use Rattle.std.proofs.Common.{◌≡◌, ◌∙◌, refl, sym, ap, subst, Bool, 
 use Rattle.indexmap.specs.IndexSet.{IndexSet, insert_key}
 use Rattle.keyed_hash.specs.declared.keyed.KeyedHash.{KeyedHash}
 use Rattle.std.specs.List.{list_any}
+use Rattle.std.proofs.lemmas.Bool.{or_parts, or_right}
 use Rattle.rehearse_reads.specs.Keys.{Key, Access, Reads, Writes, IsAmong, all_read, same_key, keys_in_front}
 use Rattle.rehearse_reads.proofs.KeysRead.{stretches_join}
 use Rattle.rehearse_reports.specs.Reports.{Adds}
@@ -35,14 +36,6 @@ either : (a b : Bool) → (a || b) ≡ true → (a ≡ true) ⊎ (b ≡ true)
 either true b e = inl refl
 either false b e = inr e
 
-neither : (a b : Bool) → (a || b) ≡ false → (a ≡ false) × (b ≡ false)
-neither true b e = absurd (cc)
-neither false b e = (refl, e)
-
-or_true : (a b : Bool) → b ≡ true → (a || b) ≡ true
-or_true true b e = refl
-or_true false b e = e
-
 module _ (read written : List Key) (key : Key) where
   -- a key that was written is read
   pub reads_written : list_any (same_key key) written ≡ true → Adds (report read written) (report read written) (Reads key ∷ [])
@@ -59,7 +52,7 @@ module _ (read written : List Key) (key : Key) where
     where
       to : (x : Key) (later : List Key) → HasToBeKnown x read written (key ∷ later) → HasToBeKnown x more written later
       to x later (inl g) = inl (found_among x more (has x ∙ ap (λ (b : Bool). b || same_key x key) (any_found x read g)))
-      to x later (inr (inl same, f)) = inl (found_among x more (has x ∙ or_true (list_any (same_key x) read) (same_key x key) (same_found x key same)))
+      to x later (inr (inl same, f)) = inl (found_among x more (has x ∙ or_right (list_any (same_key x) read) (same_key x key) (same_found x key same)))
       to x later (inr (inr g, f)) = inr (g, f)
 
       from : (x : Key) (later : List Key) → HasToBeKnown x more written later → HasToBeKnown x read written (key ∷ later)
@@ -82,7 +75,7 @@ module _ (read written : List Key) (key : Key) where
       from : (x : Key) (later : List Key) → HasToBeKnown x read more later → HasToBeKnown x read written (keys_in_front (Writes key ∷ []) later)
       from x later (inl g) = inl g
       from x later (inr g) =
-          let p = neither (list_any (same_key x) written) (same_key x key) (sym (has x) ∙ g.1) in
+          let p = or_parts (list_any (same_key x) written) (same_key x key) (sym (has x) ∙ g.1) in
           inr (before_write x key later g.0 p.1, p.0)
 
 -- ---- the program's reports

@@ -8,7 +8,7 @@ use Rattle.rehearse_reads.specs.Keys.{IsAmong, Key, Access, Reads, Writes, AreAm
 use Rattle.rehearse_reads.proofs.KeysRead.{stretches_join, all_of_more, all_itself}
 use Rattle.rehearse_reports.specs.Reports.{Adds}
 use Rattle.rehearse_reports.specs.ReportsShown.{key_shown, keys_shown, accesses_shown, is_in}
-use Rattle.rehearse_reports.proofs.KeyEquality.{keys_joined}
+use Rattle.std.proofs.lemmas.List.{map-append}
 use Rattle.rehearse_reports.proofs.MemberLemmas.{all_by, HasToBeKnown, known_so, so_known, found_among, among_left, among_right, among_either}
 use Rattle.rehearse_reports.specs.declared.reported.Reported.{Reported}
 
@@ -144,13 +144,13 @@ module _ (start : List Key) (r : Reported) (found : List Key_in) where
       by false true e f g = subst (λ (ks : List Key_in). AreAlike (in_front_after r found (key ∷ rest)) (in_front_after r ks rest)) (sym g)
           (key_dropped (keys_shown r.read.keys) (keys_shown r.written.keys) (key_shown key) (keys_shown rest) (keys_shown found) (ap (λ (x : Bool). x || is_in key r.written) e ∙ f))
       by false false e f g = subst (λ (ks : List Key). AreAlike (in_front_after r found (key ∷ rest)) (ks ++ keys_in_front (accesses_shown r) (keys_shown rest)))
-          (sym (ap keys_shown g ∙ keys_joined found (key ∷ [])))
+          (sym (ap keys_shown g ∙ map-append key_shown found (key ∷ [])))
           (key_found (keys_shown r.read.keys) (keys_shown r.written.keys) (key_shown key) (keys_shown rest) (keys_shown found) f)
 
   -- at last the keys that were read, in front of those that were found
   ended : (keys : List Key_in) → keys ≡ r.read.keys ++ found → AreAlike start (in_front_after r found []) → AreAlike start (keys_shown keys)
   ended keys joined so = alike_then start (in_front_after r found []) (keys_shown keys) so
-      (subst (AreAlike (in_front_after r found [])) (sym (ap keys_shown joined ∙ keys_joined r.read.keys found))
+      (subst (AreAlike (in_front_after r found [])) (sym (ap keys_shown joined ∙ map-append key_shown r.read.keys found))
       (subst (λ (front : List Key). AreAlike (keys_shown found ++ front) (keys_shown r.read.keys ++ keys_shown found)) (sym (read_in r))
       (alike_swapped (keys_shown found) (keys_shown r.read.keys))))
 

@@ -3,6 +3,9 @@ use Rattle.std.proofs.Common.{◌≡◌, ◌∙◌, refl, sym, ap, Bool, true, f
 use Rattle.std.specs.Str.{bytes_eq}
 use Rattle.std.specs.List.{list_any}
 use Rattle.std.specs.Cmp.Lexicographic.{pointwise}
+use Rattle.std.proofs.Math.Bool.{or-false}
+use Rattle.std.proofs.lemmas.List.{map-append}
+use Rattle.std.proofs.lemmas.List.Folds.{list_any-append}
 use Rattle.indexmap.specs.IndexSet.{insert_key}
 use Rattle.text.specs.TextsShown.{bytes_of_words}
 use Rattle.rehearse_terms.specs.State.{same_words}
@@ -60,29 +63,13 @@ found_as_shown key (k ∷ ks) =
 
 -- ---- a key that goes last, unless an equal one is there
 
-or_none : (a : Bool) → (a || false) ≡ a
-or_none true = refl
-or_none false = refl
-
-or_swap : (a b c : Bool) → (a || (b || c)) ≡ ((a || b) || c)
-or_swap true b c = refl
-or_swap false b c = refl
-
-any_pushed : (x k : keys.Key) (ks : List keys.Key) → list_any (same_key x) (ks ++ k ∷ []) ≡ (list_any (same_key x) ks || same_key x k)
-any_pushed x k [] = or_none (same_key x k)
-any_pushed x k (y ∷ ks) = ap (λ (b : Bool). same_key x y || b) (any_pushed x k ks) ∙ or_swap (same_key x y) (list_any (same_key x) ks) (same_key x k)
-
-pub keys_joined : (ks more : List Key) → keys_shown (ks ++ more) ≡ keys_shown ks ++ keys_shown more
-keys_joined [] more = refl
-keys_joined (k ∷ ks) more = ap (λ (shown : List keys.Key). key_shown k ∷ shown) (keys_joined ks more)
-
 -- one that is there already
 already : (x key : keys.Key) (ks : List keys.Key) → list_any (same_key key) ks ≡ true → list_any (same_key x) ks ≡ (list_any (same_key x) ks || same_key x key)
 already x key ks e = by (same_key x key) refl
   where
     by : (b : Bool) → same_key x key ≡ b → list_any (same_key x) ks ≡ (list_any (same_key x) ks || b)
     by true f = let all : list_any (same_key x) ks ≡ true = ap (λ (k : keys.Key). list_any (same_key k) ks) (equal_keys x key f) ∙ e in all ∙ sym (ap (λ (a : Bool). a || true) all)
-    by false f = sym (or_none (list_any (same_key x) ks))
+    by false f = sym (or-false (list_any (same_key x) ks))
 
 -- then a key is among them if it was, or is this one
 pub any_inserted : (x : keys.Key) (ks : List Key) (key : Key) → list_any (same_key x) (keys_shown (insert_key are_equal ks key)) ≡ (list_any (same_key x) (keys_shown ks) || same_key x (key_shown key))
@@ -90,4 +77,7 @@ any_inserted x ks key = by (list_any (are_equal key) ks) (found_as_shown key ks)
   where
     by : (b : Bool) → b ≡ list_any (same_key (key_shown key)) (keys_shown ks) → list_any (same_key x) (keys_shown (cond b ks (ks ++ key ∷ []))) ≡ (list_any (same_key x) (keys_shown ks) || same_key x (key_shown key))
     by true e = already x (key_shown key) (keys_shown ks) (sym e)
-    by false e = ap (list_any (same_key x)) (keys_joined ks (key ∷ [])) ∙ any_pushed x (key_shown key) (keys_shown ks)
+    by false e =
+        ap (list_any (same_key x)) (map-append key_shown ks (key ∷ []))
+        ∙ list_any-append (same_key x) (keys_shown ks) (key_shown key ∷ [])
+        ∙ ap (λ (b : Bool). list_any (same_key x) (keys_shown ks) || b) (or-false (same_key x (key_shown key)))

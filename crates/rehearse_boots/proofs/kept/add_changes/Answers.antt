@@ -1,4 +1,5 @@
 use Rattle.std.proofs.Common.{◌≡◌, ◌∙◌, ◌++◌, ◌⊎◌, inl, inr, ℕ, List, [], ◌∷◌, Vec, Global, Bor, map, ap, ap₂, append-nil, append_assoc, sym, refl}
+use Rattle.std.proofs.lemmas.List.{map-append}
 use Rattle.std.proofs.lemmas.Slice.Zip.{Zip-more, either_empty_from_Zip}
 use Rattle.std.specs.Iterator.Adapters.{zip_first, zip_second}
 use Rattle.std.specs.List.{zip}
@@ -29,10 +30,6 @@ none_left : (names : List (Bor (List ℕ))) (values : List (Vec ℕ Global)) →
 none_left names values (inl e) = ap (λ (ns : List (Bor (List ℕ))). changes_left ns values) e
 none_left names values (inr e) = ap (changes_left names) e ∙ none_without_values names
 
-pushed : (changes : List (Bor (List ℕ) × Bor (List ℕ))) (change : Bor (List ℕ) × Bor (List ℕ)) → map pair_at (changes ++ change ∷ []) ≡ map pair_at changes ++ pair_at change ∷ []
-pushed [] change = refl
-pushed (x ∷ changes) change = ap (λ (t : List Pair). pair_at x ∷ t) (pushed changes change)
-
 pub loop-name-init : goal.loop-name-init
 loop-name-init c =
     let first : iter_rest (zip_first c.into_iter-name-iterator.result) ≡ c.args.names.now = cc in
@@ -43,7 +40,7 @@ pub loop-name-preserved : goal.loop-name-preserved
 loop-name-preserved c =
     let more = Zip-more c.loop-name.name-iterator c.next.new.self c.next.result (c.in-Some.name, c.in-Some.value) c.in-Some.is c.next.ensures.steps in
     one_more (map pair_at c.loop-name.changes.items) (map pair_at c.push.new.self.items) _ _ _ _ _ c.in-Some.name.now c.in-Some.value.now more.0 more.1
-    (ap (map pair_at) c.in_ok-push.ensures.items ∙ pushed c.loop-name.changes.items _ ∙ ap (λ (value : List ℕ). map pair_at c.loop-name.changes.items ++ (c.in-Some.name.now.now, value) ∷ []) c.as_slice.ensures.value)
+    (ap (map pair_at) c.in_ok-push.ensures.items ∙ map-append pair_at c.loop-name.changes.items _ ∙ ap (λ (value : List ℕ). map pair_at c.loop-name.changes.items ++ (c.in-Some.name.now.now, value) ∷ []) c.as_slice.ensures.value)
     c.loop-name.invariant
 
 pub returns : goal.returns
