@@ -139,6 +139,19 @@ a file that runs itself ends at the bound of device commands
   unset c
   cut devices
 
+the same text as a variable and as a file: each is read by its own rules, however often
+  $ printf 'false\n ' >card/boot.cmd; printf 'call source : always 0 runs boot.cmd\n' >list
+  $ image both 'bootcmd=run t; setenv a $?; source; setenv b $?; run t; setenv c $?; source; setenv d $?' 't=false\n '
+  $ for it in old-2023.01 modern-2025.01; do ubtool rehearse -i both --shell $it -d list --files card a b c d | grep '^var'; done
+  var a=1
+  var b=0
+  var c=1
+  var d=0
+  var a=1
+  var b=1
+  var c=1
+  var d=1
+
 a script image, a file in a folder, and a text that hands over to another one
   $ printf 'setenv a image\n' >it.cmd; script_image it.cmd >card/boot.scr
   $ mkdir card/sub; printf 'setenv c sub; source 1\n' >card/sub/more.cmd

@@ -11,6 +11,8 @@ use Rattle.hushlang.specs.declared.tree.Script.{Script as Code}
 use Rattle.hushlang_shells.specs.TreesByShell as read
 use Rattle.rehearse_terms.specs.declared.shell.Shell.{Shell}
 use Rattle.bootstore_state.specs.ScriptCode.{coded_read}
+use Rattle.bootstore_state.specs.declared.scripts.Runner.{Runner}
+use Rattle.bootstore_state.specs.declared.scripts.Runner.TheVariants as run
 use Rattle.bootstore_state.specs.declared.scripts.TextFound.{TextFound}
 use Rattle.bootstore_state.specs.declared.scripts.TextFound.TheVariants as found
 
@@ -22,15 +24,20 @@ most_kept = 262144
 abbrev pub script_shown : Rc Code Global → Script
 script_shown shared = view.script shared.value
 
--- each script is that of its text in this shell
-abbrev pub AreOfTexts : Shell → List (Vec ℕ Global × Rc Code Global) → Type 0
-AreOfTexts shell kept = All (λ e. read.started_in shell e.0.items ≡ read.Runs (script_shown e.1)) kept
+-- what becomes of a text that this command runs
+abbrev pub read_as : Runner → Shell → List ℕ → read.TextRead
+read_as run.Run = read.started_in
+read_as run.Source = read.sourced_in
+
+-- each script is that of its text, for this command and in this shell
+abbrev pub AreOfTexts : Runner → Shell → List (Vec ℕ Global × Rc Code Global) → Type 0
+AreOfTexts runner shell kept = All (λ e. read_as runner shell e.0.items ≡ read.Runs (script_shown e.1)) kept
 
 -- (a fact with at most one proof, as a field of a type has to be)
-pub one_proof : (shell : Shell) (kept : List (Vec ℕ Global × Rc Code Global)) → IsProp (AreOfTexts shell kept)
-one_proof shell kept p q = λ i k d below. Coded-set coded_read _ _ (p k d below) (q k d below) i
+pub one_proof : (runner : Runner) (shell : Shell) (kept : List (Vec ℕ Global × Rc Code Global)) → IsProp (AreOfTexts runner shell kept)
+one_proof runner shell kept p q = λ i k d below. Coded-set coded_read _ _ (p k d below) (q k d below) i
 
--- what becomes of the text of a variable that `run` starts; none if the variable is not set
+-- what becomes of the text of a variable that `run` starts, or of a file that `source` runs; none if the variable is not set
 abbrev pub text_found : TextFound → Option read.TextRead
 text_found found.Unset = None
 text_found (found.Script script) = Some (read.Runs (script_shown script))

@@ -1,24 +1,25 @@
-//! The scripts of texts. A text that was read is not read again while its script is kept.
+//! The scripts of texts, of variables and of files. A text that was read is not read again while its script is kept.
 ghost use Rattle.std.specs.Prelude.{◌≡◌, ◌+◌, ◌≤◌, true, Some, IfOk, option_map};
 ghost use Rattle.std.specs.FinMap.{get};
 ghost use Rattle.hushlang.specs.TreesShown as view;
+ghost use Rattle.hushlang_shells.specs.TextsShown as shown;
 ghost use Rattle.hushlang_shells.specs.TreesByShell as read;
-ghost use Rattle.bootstore_state.specs.Scripts.{AreOfTexts, most_kept, one_proof, text_found};
+ghost use Rattle.bootstore_state.specs.Scripts.{AreOfTexts, most_kept, one_proof, read_as, text_found};
 ghost use Rattle.bootstore_state.specs.Table.{variables_of};
 
 use crate::store::StoreError;
 use crate::table::Table;
 use hushlang::Script;
-use hushlang_shells::{TextRead, read_started};
+use hushlang_shells::{TextRead, read_sourced, read_started};
 use rehearse_terms::Shell;
-use std::alloc::Global;
+use std::alloc::{AllocError, Global};
 use std::collections::BTreeMap;
 use std::rc::Rc;
 
 /// The most bytes of texts whose scripts are kept at one time.
 const KEPT_MAX: usize = 262_144;
 
-/// What becomes of the text of a variable that `run` starts.
+/// What becomes of the text of a variable that `run` starts, or of a file that `source` runs.
 #[derive(Drop)]
 pub enum TextFound {
     /// The variable is not set.
@@ -33,15 +34,58 @@ pub enum TextFound {
     Unread,
 }
 
-/// Scripts by their texts, all read by the rules of one shell.
+/// Which command runs a text. The old shell reads a file that `source` runs by other rules.
+#[derive(Clone, Copy)]
+pub enum Runner {
+    /// `run` starts the text of a variable.
+    Run,
+    /// `source` runs the text of a file.
+    Source,
+}
+
+/// Scripts by their texts, all read for one command and by the rules of one shell.
 #[derive(Drop)]
-pub struct Scripts {
+struct TextScripts {
     alloc: Global,
+    runner: Runner,
     shell: Shell,
     kept: BTreeMap<Vec<u8>, Rc<Script>>,
     bytes: usize,
-    ghost texts: { AreOfTexts shell kept.entries } by { one_proof shell kept.entries },
+    ghost texts: { AreOfTexts runner shell kept.entries } by { one_proof runner shell kept.entries },
     ghost bound: { bytes ≤ most_kept },
+}
+
+/// The scripts of the texts of variables, and those of the texts of files.
+#[derive(Drop)]
+pub struct Scripts {
+    of_variables: TextScripts,
+    of_files: TextScripts,
+}
+
+/// What becomes of a text. Errors: memory ran out.
+fn read_text(
+    alloc: Global,
+    runner: Runner,
+    shell: Shell,
+    text: &[u8],
+) -> Result<TextRead, AllocError>
+    ensures { IfOk result (λ found. shown.text_read found ≡ read_as runner shell text.now) }
+{
+    match runner {
+        Runner::Run => read_started(alloc, shell, text),
+        Runner::Source => read_sourced(alloc, shell, text),
+    }
+}
+
+/// Whether two commands are the same.
+fn is_same_runner(left: Runner, right: Runner) -> bool
+    ensures { result ≡ true → left ≡ right }
+{
+    match (left, right) {
+        (Runner::Run, Runner::Run) => true,
+        (Runner::Source, Runner::Source) => true,
+        _ => false,
+    }
 }
 
 /// Whether two shells are the same.
@@ -57,11 +101,12 @@ fn is_same(left: Shell, right: Shell) -> bool
     }
 }
 
-impl Scripts {
+impl TextScripts {
     /// No script is kept. Takes no memory.
-    pub fn new(alloc: Global) -> Scripts {
-        Scripts {
+    fn new(alloc: Global, runner: Runner) -> TextScripts {
+        TextScripts {
             alloc,
+            runner,
             shell: Shell::Profile,
             kept: BTreeMap::new(alloc),
             bytes: 0,
@@ -72,6 +117,7 @@ impl Scripts {
     fn make_room(&mut self, length: usize)
         requires { length ≤ most_kept }
         ensures room { self.new.bytes + length ≤ most_kept }
+        ensures runner { self.new.runner ≡ self.old.runner }
         ensures shell { self.new.shell ≡ self.old.shell }
     {
         if length > KEPT_MAX - self.bytes {
@@ -82,7 +128,7 @@ impl Scripts {
 
     /// Keeps the script of a text, unless the text alone is too long. Errors: `Memory`.
     fn keep(&mut self, text: &[u8], script: &Rc<Script>) -> Result<(), StoreError>
-        requires { read.started_in self.old.shell text.now ≡ read.Runs (view.script script.now.value) }
+        requires { read_as self.old.runner self.old.shell text.now ≡ read.Runs (view.script script.now.value) }
     {
         if text.len() > KEPT_MAX {
             return Ok(());
@@ -94,20 +140,22 @@ impl Scripts {
         Ok(())
     }
 
-    /// Keeps scripts of this shell alone: lets all go if they are of another one.
-    fn take_shell(&mut self, shell: Shell)
-        ensures { self.new.shell ≡ shell }
+    /// Keeps scripts for this command and of this shell alone: lets all go if they are others.
+    fn take_rules(&mut self, runner: Runner, shell: Shell)
+        ensures runner { self.new.runner ≡ runner }
+        ensures shell { self.new.shell ≡ shell }
     {
-        if !is_same(self.shell, shell) {
+        if !is_same_runner(self.runner, runner) || !is_same(self.shell, shell) {
             self.kept.clear();
             self.bytes = 0;
+            self.runner = runner;
             self.shell = shell;
         }
     }
 
     /// A script that was read, which is kept. Errors: `Memory`.
     fn script_read(&mut self, text: &[u8], script: Script) -> Result<TextFound, StoreError>
-        requires { read.started_in self.old.shell text.now ≡ read.Runs (view.script script) }
+        requires { read_as self.old.runner self.old.shell text.now ≡ read.Runs (view.script script) }
         ensures { IfOk result (λ found. text_found found ≡ Some (read.Runs (view.script script))) }
     {
         let script = Rc::new(self.alloc, script)?;
@@ -115,19 +163,41 @@ impl Scripts {
         Ok(TextFound::Script(script))
     }
 
-    /// What becomes of a text that `run` starts. It is read only if its script is not kept. Errors:
-    /// `Memory`.
+    /// What becomes of a text. It is read only if its script is not kept. Errors: `Memory`.
     fn read(&mut self, text: &[u8]) -> Result<TextFound, StoreError>
-        ensures { IfOk result (λ found. text_found found ≡ Some (read.started_in self.old.shell text.now)) }
+        ensures { IfOk result (λ found. text_found found ≡ Some (read_as self.old.runner self.old.shell text.now)) }
     {
         if let Some(script) = self.kept.get(text) {
             return Ok(TextFound::Script(script.clone()?));
         }
-        match read_started(self.alloc, self.shell, text)? {
+        match read_text(self.alloc, self.runner, self.shell, text)? {
             TextRead::Runs(script) => self.script_read(text, script),
             TextRead::Fails => Ok(TextFound::Fails),
             TextRead::Panics => Ok(TextFound::Panics),
             TextRead::Unread => Ok(TextFound::Unread),
+        }
+    }
+
+    /// What becomes of a text by these rules. Errors: `Memory`.
+    fn read_by(
+        &mut self,
+        runner: Runner,
+        shell: Shell,
+        text: &[u8],
+    ) -> Result<TextFound, StoreError>
+        ensures { IfOk result (λ found. text_found found ≡ Some (read_as runner shell text.now)) }
+    {
+        self.take_rules(runner, shell);
+        self.read(text)
+    }
+}
+
+impl Scripts {
+    /// No script is kept. Takes no memory.
+    pub fn new(alloc: Global) -> Scripts {
+        Scripts {
+            of_variables: TextScripts::new(alloc, Runner::Run),
+            of_files: TextScripts::new(alloc, Runner::Source),
         }
     }
 
@@ -141,10 +211,16 @@ impl Scripts {
         ensures { IfOk result (λ found. text_found found
             ≡ option_map (read.started_in shell) (get (variables_of variables.now) name.now)) }
     {
-        let Some(text) = variables.get(name) else {
-            return Ok(TextFound::Unset);
-        };
-        self.take_shell(shell);
-        self.read(text)
+        match variables.get(name) {
+            Some(text) => self.of_variables.read_by(Runner::Run, shell, text),
+            None => Ok(TextFound::Unset),
+        }
+    }
+
+    /// What becomes of the text of a file that `source` runs in this shell. Errors: `Memory`.
+    pub fn file_text(&mut self, shell: Shell, text: &[u8]) -> Result<TextFound, StoreError>
+        ensures { IfOk result (λ found. text_found found ≡ Some (read.sourced_in shell text.now)) }
+    {
+        self.of_files.read_by(Runner::Source, shell, text)
     }
 }

@@ -1,5 +1,5 @@
 //! What a store of states can do.
-ghost use Rattle.std.specs.Prelude.{◌≡◌, ◌==◌, ◌+◌, ◌<◌, ◌≤◌, ◌^◌, not, length, IfOk, OnOk, OnErr, option_map, reverse, slice_get};
+ghost use Rattle.std.specs.Prelude.{◌≡◌, ◌==◌, ◌+◌, ◌<◌, ◌≤◌, ◌^◌, not, length, IfOk, OnOk, OnErr, option_map, reverse, slice_get, Some};
 ghost use Rattle.std.specs.List.{flat_map};
 ghost use Rattle.std.specs.FinMap.{get, entries};
 ghost use Rattle.bootstore_state.specs.Moment.{environment_of};
@@ -9,7 +9,7 @@ ghost use Rattle.bootstore_state.specs.Record.{Record, fresh, started, stepped, 
 ghost use Rattle.bootstore_state.specs.Scripts.{text_found};
 ghost use Rattle.rehearse_terms.specs.Bounds.{most_steps};
 ghost use Rattle.bootstore_state.specs.DeviceLog.{entry_line};
-ghost use Rattle.hushlang_shells.specs.TreesByShell.{started_in};
+ghost use Rattle.hushlang_shells.specs.TreesByShell.{sourced_in, started_in};
 
 use crate::frame::{At, Frame};
 use crate::log::LogEntry;
@@ -133,6 +133,11 @@ pub trait Store: Drop {
     fn text_of(&mut self, shell: Shell, name: &[u8]) -> Result<TextFound, StoreError>
         ensures found { IfOk result (λ found. text_found found
             ≡ option_map (started_in shell) (get (record_of self.old).present.environment name.now)) }
+        ensures same { record_of self.new ≡ record_of self.old };
+
+    /// What becomes of the text of a file that `source` runs in this shell. Its script is shared and kept in the same way.
+    fn file_text(&mut self, shell: Shell, text: &[u8]) -> Result<TextFound, StoreError>
+        ensures found { IfOk result (λ found. text_found found ≡ Some (sourced_in shell text.now)) }
         ensures same { record_of self.new ≡ record_of self.old };
 
     /// The present state, from which the readers below read.

@@ -193,6 +193,10 @@ impl Store for Trail {
         self.scripts.text_of(shell, &self.present.environment, name)
     }
 
+    fn file_text(&mut self, shell: Shell, text: &[u8]) -> Result<TextFound, StoreError> {
+        self.scripts.file_text(shell, text)
+    }
+
     fn present(&self) -> &Present {
         &self.present
     }

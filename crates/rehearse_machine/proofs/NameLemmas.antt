@@ -96,7 +96,7 @@ none_found : (shell : Shell) (o : Option Text) → None ≡ option_map (started_
 none_found shell None e = refl
 none_found shell (Some text) e = absurd (let f = e in cc)
 
-abbrev within : Option TextRead → TextRead
+abbrev pub within : Option TextRead → TextRead
 within None = Unread
 within (Some what) = what
 

@@ -11,10 +11,10 @@ use crate::ask::Step;
 use crate::by_shell::{status_of_text, unread};
 use crate::frame_moves::push_text;
 use crate::frames::{finish, leave, leave_with, place};
-use bootstore_state::{At, Frame, FrameKind, Store, StoreError};
+use bootstore_state::{At, Frame, FrameKind, Store, StoreError, TextFound};
 use device_list::Devices;
 use hushlang::Script;
-use hushlang_shells::{TextRead, read_sourced, read_started};
+use hushlang_shells::{TextRead, read_started};
 use rehearse_rules::Halt;
 use rehearse_terms::{RunBounds, Shell};
 use std::alloc::{AllocError, Global};
@@ -225,10 +225,10 @@ fn begin_read<'d, S: Store>(
         (place_sourced shell (Some text.now) name.now (at_file file 0 frame.now)) }
 {
     let at = at_file(frame, file, 1, 0);
-    match read_sourced(alloc, shell, text)? {
-        TextRead::Runs(script) => push_text(store, at, Rc::new(alloc, script)?),
-        TextRead::Fails => leave_with(store, 1),
-        TextRead::Panics => Ok(Step::Ends(Halt::Panic(Vec::from_slice(alloc, name)?))),
-        TextRead::Unread => Ok(Step::Ends(unread(shell, Vec::from_slice(alloc, name)?))),
+    match store.file_text(shell, text)? {
+        TextFound::Script(script) => push_text(store, at, script),
+        TextFound::Fails => leave_with(store, 1),
+        TextFound::Panics => Ok(Step::Ends(Halt::Panic(Vec::from_slice(alloc, name)?))),
+        _ => Ok(Step::Ends(unread(shell, Vec::from_slice(alloc, name)?))),
     }
 }
