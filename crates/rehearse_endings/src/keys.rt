@@ -6,7 +6,7 @@ ghost use Rattle.rehearse_reports.specs.Asked.{asked_reads};
 ghost use Rattle.rehearse_reports.specs.ReportsShown.{accesses_shown, keys_shown};
 
 use bootstore_state::{Store, StoreError};
-use rehearse_reports::{Key, Reported, report_asked, together};
+use rehearse_reports::{Key, Needed, Reported, report_asked};
 use std::alloc::{AllocError, Global};
 
 /// The keys at an end: the variables whose values are asked for. Errors: memory ran out.
@@ -39,11 +39,12 @@ pub(crate) fn keys_of_both<S: Store>(
         (keys_shown keys.items)) }
 {
     let hasher = won.hasher();
-    let before_won = won.in_front(after_won)?;
-    let before_lost = lost.in_front(after_lost)?;
-    let both = together(alloc, hasher, before_won, before_lost)?;
     let mut asked = Reported::new(alloc, hasher);
     report_asked(alloc, &mut asked, store)?;
-    let keys = asked.in_front(both)?;
+    let mut needed = Needed::new(alloc, hasher);
+    needed.add_in_front(asked, Vec::new(alloc))?;
+    needed.add_in_front(won, after_won)?;
+    needed.add_in_front(lost, after_lost)?;
+    let keys = needed.into_keys()?;
     Ok(keys)
 }

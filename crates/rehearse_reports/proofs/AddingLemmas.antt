@@ -1,5 +1,5 @@
 -- A report after one more access.
-use Rattle.std.proofs.Common.{◌≡◌, ◌∙◌, refl, sym, ap, subst, Bool, true, false, not, ◌||◌, if◌then◌else◌, List, [], ◌∷◌, ◌++◌, map, inl, inr, ◌⊎◌}
+use Rattle.std.proofs.Common.{◌≡◌, ◌∙◌, refl, sym, ap, subst, Bool, true, false, not, ◌||◌, if◌then◌else◌, List, [], ◌∷◌, ◌++◌, length, map, inl, inr, ◌⊎◌}
 use Rattle.indexmap.specs.IndexSet.{IndexSet, insert_key}
 use Rattle.keyed_hash.specs.declared.keyed.KeyedHash.{KeyedHash}
 use Rattle.std.specs.List.{list_any}
@@ -80,37 +80,29 @@ module _ (read written : List Key) (key : Key) where
 
 -- ---- the program's reports
 
+-- no key is in a set that is empty
+pub none_in : (key : Key_in) (set : IndexSet Key_in KeyedHash) → length set.keys ≡ 0 → false ≡ is_in key set
+none_in key set none = by set.keys none
+  where
+    by : (keys : List Key_in) → length keys ≡ 0 → false ≡ list_any (same_key (key_shown key)) (keys_shown keys)
+    by [] e = refl
+    by (k ∷ keys) e = absurd (cc)
+
 -- a key is found in a set as it is among the keys that are shown
 pub found_in : (b : Bool) (key : Key_in) (set : IndexSet Key_in KeyedHash) → b ≡ list_any (are_equal key) set.keys → b ≡ is_in key set
 found_in b key set e = e ∙ found_as_shown key set.keys
 
 module _ (r : Reported) (key : Key_in) where
-  pub reads_shown_written : true ≡ list_any (are_equal key) r.written.keys → Adds (accesses_shown r) (accesses_shown r) (Reads (key_shown key) ∷ [])
-  reads_shown_written e = reads_written (keys_shown r.read.keys) (keys_shown r.written.keys) (key_shown key) (sym (found_in true key r.written e))
+  pub reads_shown_written : true ≡ is_in key r.written → Adds (accesses_shown r) (accesses_shown r) (Reads (key_shown key) ∷ [])
+  reads_shown_written e = reads_written (keys_shown r.read.keys) (keys_shown r.written.keys) (key_shown key) (sym e)
 
-  pub reads_shown_new : (read : IndexSet Key_in KeyedHash) → read.keys ≡ insert_key are_equal r.read.keys key → false ≡ list_any (are_equal key) r.written.keys
+  pub reads_shown_new : (read : IndexSet Key_in KeyedHash) → read.keys ≡ insert_key are_equal r.read.keys key → false ≡ is_in key r.written
       → Adds (accesses_shown r) (all_read (keys_shown read.keys) ++ map Writes (keys_shown r.written.keys)) (Reads (key_shown key) ∷ [])
   reads_shown_new read inserted e = reads_new (keys_shown r.read.keys) (keys_shown r.written.keys) (key_shown key) (keys_shown read.keys)
       (λ x. ap (λ (ks : List Key_in). list_any (same_key x) (keys_shown ks)) inserted ∙ any_inserted x r.read.keys key)
-      (sym (found_in false key r.written e))
+      (sym e)
 
   pub writes_shown : (written : IndexSet Key_in KeyedHash) → written.keys ≡ insert_key are_equal r.written.keys key
       → Adds (accesses_shown r) (all_read (keys_shown r.read.keys) ++ map Writes (keys_shown written.keys)) (Writes (key_shown key) ∷ [])
   writes_shown written inserted = writes_new (keys_shown r.read.keys) (keys_shown r.written.keys) (key_shown key) (keys_shown written.keys)
       (λ x. ap (λ (ks : List Key_in). list_any (same_key x) (keys_shown ks)) inserted ∙ any_inserted x r.written.keys key)
-
--- ---- a key that is added if it is new
-
-module _ (read written : Bool) {A : Type 0} (one other : A) where
-  pub if_read : true ≡ read → one ≡ (if read || written then one else other)
-  if_read e = ap (λ (b : Bool). if b || written then one else other) e
-
-  pub if_written : true ≡ written → one ≡ (if read || written then one else other)
-  if_written e = by read ∙ ap (λ (b : Bool). if read || b then one else other) e
-    where
-      by : (b : Bool) → one ≡ (if b || true then one else other)
-      by true = refl
-      by false = refl
-
-  pub if_new : false ≡ read → false ≡ written → other ≡ (if read || written then one else other)
-  if_new e f = ap (λ (b : Bool). if b || false then one else other) e ∙ ap (λ (b : Bool). if read || b then one else other) f

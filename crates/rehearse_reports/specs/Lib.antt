@@ -1,3 +1,4 @@
+pub mod KeyHash
 pub mod ReportsShown
 pub mod Reports
 pub mod Known

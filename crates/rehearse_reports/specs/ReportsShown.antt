@@ -8,6 +8,7 @@ use Rattle.rehearse_reads.specs.Keys as keys
 use Rattle.rehearse_reads.specs.Keys.{Access, Writes, all_read, same_key}
 use Rattle.rehearse_reports.specs.declared.key.Key.{Key}
 use Rattle.rehearse_reports.specs.declared.key.Key.TheVariants.{Environment, Local, AnswerTo, Succeeded, Status}
+use Rattle.rehearse_reports.specs.declared.reported.Needed.{Needed}
 use Rattle.rehearse_reports.specs.declared.reported.Reported.{Reported}
 
 abbrev pub key_shown : Key → keys.Key
@@ -27,3 +28,7 @@ is_in key ks = list_any (same_key (key_shown key)) (keys_shown ks.keys)
 -- first the keys that were read before they were written, and then those that were written
 abbrev pub accesses_shown : Reported → List Access
 accesses_shown r = all_read (keys_shown r.read.keys) ++ map Writes (keys_shown r.written.keys)
+
+-- the keys that have to be known
+abbrev pub needed_shown : Needed → List keys.Key
+needed_shown needed = keys_shown needed.keys.keys

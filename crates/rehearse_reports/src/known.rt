@@ -34,7 +34,7 @@ fn answers(entry: &LogEntry, call: &[Vec<u8>]) -> bool
 }
 
 /// The answer in a log that stays for a command with these words, its name first.
-fn answer_to(log: &[LogEntry], call: &[Vec<u8>]) -> Option<bool>
+pub fn answer_to(log: &[LogEntry], call: &[Vec<u8>]) -> Option<bool>
     ensures { result ≡ answer_in log.now (bytes_of_words call.now) }
 {
     for entry in log {

@@ -18,6 +18,6 @@ mod words;
 
 pub use asked::report_asked;
 pub use key::Key;
-pub use known::{Known, all_hold, keys_of, known_at};
-pub use reported::{Reported, together};
+pub use known::{Known, all_hold, answer_to, keys_of, known_at};
+pub use reported::{Needed, Reported};
 pub use resuming::{begin_watched, resume_reported};

@@ -1,8 +1,8 @@
 //! What the steps of a run read and write, as they are made.
-ghost use Rattle.std.specs.Prelude.{◌≡◌, [], ◌∷◌, ◌++◌, ◌||◌, if◌then◌else◌, IfOk, OnOk};
-ghost use Rattle.rehearse_reads.specs.Keys.{Reads, Writes, AreAmong, keys_in_front};
-ghost use Rattle.rehearse_reports.specs.ReportsShown.{key_shown, keys_shown, accesses_shown, is_in};
-ghost use Rattle.rehearse_reports.specs.Reports.{Adds};
+ghost use Rattle.std.specs.Prelude.{◌≡◌, [], ◌∷◌, ◌++◌, IfOk, OnOk};
+ghost use Rattle.rehearse_reads.specs.Keys.{Reads, Writes, keys_in_front};
+ghost use Rattle.rehearse_reports.specs.ReportsShown.{key_shown, keys_shown, accesses_shown, needed_shown, is_in};
+ghost use Rattle.rehearse_reports.specs.Reports.{Adds, AddsUnwritten, AreAlike, unwritten};
 
 use crate::key::Key;
 use indexmap::IndexSet;
@@ -18,6 +18,13 @@ pub struct Reported {
     read: IndexSet<Key, KeyedHash>,
     /// What was written.
     written: IndexSet<Key, KeyedHash>,
+}
+
+/// Whether a key is among those that were written, mostly none.
+fn is_written(written: &IndexSet<Key, KeyedHash>, key: &Key) -> bool
+    ensures { result ≡ is_in key.now written.now }
+{
+    !written.is_empty() && written.contains(key)
 }
 
 impl Reported {
@@ -46,7 +53,7 @@ impl Reported {
     pub(crate) fn reads(&mut self, key: Key) -> Result<(), AllocError>
         ensures { OnOk result (Adds (accesses_shown self.old) (accesses_shown self.new) (Reads (key_shown key) ∷ [])) }
     {
-        if self.written.contains(&key) {
+        if is_written(&self.written, &key) {
             return Ok(());
         }
         self.read.insert(key)?;
@@ -60,62 +67,80 @@ impl Reported {
         self.written.insert(key)?;
         Ok(())
     }
+}
 
-    /// Adds a key to others, unless it was read or written. Errors: memory ran out.
-    fn add_new(&self, keys: &mut Vec<Key>, key: Key) -> Result<(), AllocError>
-        ensures { OnOk result (keys.new.items ≡ (if is_in key self.now.read || is_in key self.now.written
-            then keys.old.items else keys.old.items ++ key ∷ [])) }
+/// Keys that have to be known, each once, in the order in which they were added.
+#[derive(Drop)]
+pub struct Needed {
+    alloc: Global,
+    keys: IndexSet<Key, KeyedHash>,
+}
+
+impl Needed {
+    /// No key has to be known. Keys will be found by this hash. Takes no memory.
+    pub fn new(alloc: Global, hasher: KeyedHash) -> Needed
+        ensures { needed_shown result ≡ [] }
     {
-        if self.read.contains(&key) {
+        Needed {
+            alloc,
+            keys: IndexSet::with_hasher(alloc, hasher),
+        }
+    }
+
+    /// Adds a key, unless it was written. Errors: memory ran out.
+    fn add(&mut self, written: &IndexSet<Key, KeyedHash>, key: Key) -> Result<(), AllocError>
+        ensures { OnOk result (AddsUnwritten (keys_shown written.now.keys) (needed_shown self.old) (key_shown key) (needed_shown self.new)) }
+    {
+        if is_written(written, &key) {
             return Ok(());
         }
-        if self.written.contains(&key) {
-            return Ok(());
-        }
-        keys.push(key)?;
+        self.keys.insert(key)?;
         Ok(())
     }
 
-    /// The keys that were read, in the order of the first reads, and these others after them. Errors: memory ran out.
-    fn followed_by(self, others: Vec<Key>) -> Result<Vec<Key>, AllocError>
-        ensures { IfOk result (λ keys. keys.items ≡ self.read.keys ++ others.items) }
+    /// Adds these keys. Errors: memory ran out.
+    fn add_all(&mut self, keys: Vec<Key>) -> Result<(), AllocError>
+        ensures { OnOk result (AreAlike (needed_shown self.old ++ keys_shown keys.items) (needed_shown self.new)) }
     {
-        let mut keys: Vec<Key> = self.read.into_iter().collect(self.alloc)?;
-        let mut others = others;
-        keys.append(&mut others)?;
-        Ok(keys)
-    }
-
-    /// The keys that have to be known in front of the stretch if these keys have to be known after it,
-    /// and no others: first those that were read, in the order of the first reads. Errors: memory ran out.
-    pub fn in_front(self, later: Vec<Key>) -> Result<Vec<Key>, AllocError>
-        ensures all { IfOk result (λ keys. AreAmong
-            (keys_in_front (accesses_shown self) (keys_shown later.items)) (keys_shown keys.items)) }
-        ensures no_more { IfOk result (λ keys. AreAmong (keys_shown keys.items)
-            (keys_in_front (accesses_shown self) (keys_shown later.items))) }
-    {
-        let mut found = Vec::new(self.alloc);
-        for key in later {
-            self.add_new(&mut found, key)?;
+        for key in keys {
+            self.keys.insert(key)?;
         }
-        self.followed_by(found)
+        Ok(())
     }
-}
 
-/// The keys of both: the first ones, each once, and those of the others that are not among them. Keys will be found by
-/// this hash. Errors: memory ran out.
-pub fn together(
-    alloc: Global,
-    hasher: KeyedHash,
-    some: Vec<Key>,
-    others: Vec<Key>,
-) -> Result<Vec<Key>, AllocError>
-    ensures { IfOk result (λ keys. AreAmong (keys_shown some.items ++ keys_shown others.items)
-        (keys_shown keys.items)) }
-{
-    let mut reported = Reported::new(alloc, hasher);
-    for key in some {
-        reported.reads(key)?;
+    /// Adds these keys, without those that were written. Errors: memory ran out.
+    fn add_unwritten(
+        &mut self,
+        written: &IndexSet<Key, KeyedHash>,
+        keys: Vec<Key>,
+    ) -> Result<(), AllocError>
+        ensures { OnOk result (AreAlike
+            (needed_shown self.old ++ unwritten (keys_shown written.now.keys) (keys_shown keys.items))
+            (needed_shown self.new)) }
+    {
+        for key in keys {
+            self.add(written, key)?;
+        }
+        Ok(())
     }
-    reported.in_front(others)
+
+    /// Adds the keys that have to be known in front of a stretch if these keys have to be known after it,
+    /// and no others: first those that it read, in the order of the first reads. Errors: memory ran out.
+    pub fn add_in_front(&mut self, stretch: Reported, later: Vec<Key>) -> Result<(), AllocError>
+        ensures { OnOk result (AreAlike
+            (needed_shown self.old ++ keys_in_front (accesses_shown stretch) (keys_shown later.items))
+            (needed_shown self.new)) }
+    {
+        let Reported { read, written, .. } = stretch;
+        let read: Vec<Key> = read.into_iter().collect(self.alloc)?;
+        self.add_all(read)?;
+        self.add_unwritten(&written, later)
+    }
+
+    /// The keys, each once. Errors: memory ran out.
+    pub fn into_keys(self) -> Result<Vec<Key>, AllocError>
+        ensures { IfOk result (λ keys. keys_shown keys.items ≡ needed_shown self) }
+    {
+        self.keys.into_iter().collect(self.alloc)
+    }
 }
