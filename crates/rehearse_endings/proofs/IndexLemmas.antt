@@ -18,7 +18,7 @@ use Rattle.rehearse_rules.specs.Needs.{has_succeeded}
 use Rattle.rehearse_reports.specs.Known.{value_shown}
 use Rattle.rehearse_reports.specs.declared.known.Known.TheVariants.{Environment, Local, AnswerTo, Succeeded, Status}
 use Rattle.rehearse_states.specs.PlaceNumbers.{mixed, mixed_text, mixed_words}
-use Rattle.rehearse_endings.specs.Numbers.{mixed_answer, mixed_flag, mixed_known, mixed_value}
+use Rattle.rehearse_endings.specs.Numbers.{mixed_answer, mixed_flag, mixed_here, mixed_known, mixed_value}
 use Rattle.rehearse_endings.specs.Indexed.{AllOf, AreNoted, BeginWith, Fits, FitsNot, HasMoreWays, IsNoted, IsNumberBehind, KnowsNext, LeadTo, Leads, NoneBy, NoneFits, NoneFrom, NoneOnTop, NotesOne, TakesOne, WayIsNoted, Places, known_after, known_in, noted, one_place, ways}
 use Rattle.rehearse_reports.specs.declared.known.Known.{Known}
 use Rattle.rehearse_endings.specs.declared.entry.Entry.{Entry}
@@ -112,22 +112,22 @@ noted_one xs ys number place e =
 
 -- ---- numbers
 
--- of what a moment has at one key there is one number
-pub same_number : (number : ℕ) (m : Moment) (a b : Known) → key_of a ≡ key_of b → Holds m a → Holds m b → mixed_known number a ≡ mixed_known number b
-same_number number m (Environment x v) (Environment y w) e h k =
+-- the number with what a moment has at a key is that of whatever is known of the key and holds there
+pub number_here : (number : ℕ) (m : Moment) (a b : Known) → key_of a ≡ key_of b → Holds m b → mixed_here m number a ≡ mixed_known number b
+number_here number m (Environment x v) (Environment y w) e k =
     let names : x.items ≡ y.items = (let f = e in cc) in
-    ap (λ (t : Text). mixed_value (mixed_text (mixed number 1) t) (value_shown v)) names ∙ ap (mixed_value (mixed_text (mixed number 1) y.items)) (sym h ∙ ap (get m.environment) names ∙ k)
-same_number number m (Local x v) (Local y w) e h k =
+    ap (λ (t : Text). mixed_value (mixed_text (mixed number 1) t) (get m.environment t)) names ∙ ap (mixed_value (mixed_text (mixed number 1) y.items)) k
+number_here number m (Local x v) (Local y w) e k =
     let names : x.items ≡ y.items = (let f = e in cc) in
-    ap (λ (t : Text). mixed_value (mixed_text (mixed number 2) t) (value_shown v)) names ∙ ap (mixed_value (mixed_text (mixed number 2) y.items)) (sym h ∙ ap (get m.locals) names ∙ k)
-same_number number m (AnswerTo x v) (AnswerTo y w) e h k =
+    ap (λ (t : Text). mixed_value (mixed_text (mixed number 2) t) (get m.locals t)) names ∙ ap (mixed_value (mixed_text (mixed number 2) y.items)) k
+number_here number m (AnswerTo x v) (AnswerTo y w) e k =
     let calls : bytes_of_words x.items ≡ bytes_of_words y.items = (let f = e in cc) in
-    ap (λ (t : List Text). mixed_answer (mixed_words (mixed number 3) t) v) calls ∙ ap (mixed_answer (mixed_words (mixed number 3) (bytes_of_words y.items))) (sym h ∙ ap (answer_in m.log) calls ∙ k)
-same_number number m (Succeeded x v) (Succeeded y w) e h k =
+    ap (λ (t : List Text). mixed_answer (mixed_words (mixed number 3) t) (answer_in m.log t)) calls ∙ ap (mixed_answer (mixed_words (mixed number 3) (bytes_of_words y.items))) k
+number_here number m (Succeeded x v) (Succeeded y w) e k =
     let starts : bytes_of_words x.items ≡ bytes_of_words y.items = (let f = e in cc) in
-    ap (λ (t : List Text). mixed_flag (mixed_words (mixed number 4) t) v) starts ∙ ap (mixed_flag (mixed_words (mixed number 4) (bytes_of_words y.items))) (sym h ∙ ap (has_succeeded m.log) starts ∙ k)
-same_number number m (Status v) (Status w) e h k = ap (mixed (mixed number 5)) (sym h ∙ k)
-same_number number m a b e h k = absurd (let f = e in cc)
+    ap (λ (t : List Text). mixed_flag (mixed_words (mixed number 4) t) (has_succeeded m.log t)) starts ∙ ap (mixed_flag (mixed_words (mixed number 4) (bytes_of_words y.items))) k
+number_here number m (Status v) (Status w) e k = ap (mixed (mixed number 5)) k
+number_here number m a b e k = absurd (let f = e in cc)
 
 -- ---- looking up
 

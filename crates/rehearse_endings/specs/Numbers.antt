@@ -1,7 +1,10 @@
 -- The numbers under which the table keeps states: of a place, and of what is known there so far. Ours.
 use Rattle.std.specs.Prelude.{ℕ, Bool, true, false, Option, Some, None}
 use Rattle.text.specs.TextsShown.{bytes_of_words}
-use Rattle.rehearse_terms.specs.State.{Text}
+use Rattle.std.specs.FinMap.{get}
+use Rattle.bootstore_state.specs.Moment.{Moment}
+use Rattle.rehearse_terms.specs.State.{Text, answer_in}
+use Rattle.rehearse_rules.specs.Needs.{has_succeeded}
 use Rattle.rehearse_states.specs.PlaceNumbers.{mixed, mixed_text, mixed_words}
 use Rattle.rehearse_reports.specs.Known.{value_shown}
 use Rattle.rehearse_reports.specs.declared.known.Known.{Known}
@@ -26,3 +29,11 @@ mixed_known number (Local name value) = mixed_value (mixed_text (mixed number 2)
 mixed_known number (AnswerTo call answer) = mixed_answer (mixed_words (mixed number 3) (bytes_of_words call.items)) answer
 mixed_known number (Succeeded start has) = mixed_flag (mixed_words (mixed number 4) (bytes_of_words start.items)) has
 mixed_known number (Status status) = mixed (mixed number 5) status
+
+-- a number with the key of what is known, and what a moment has at it
+abbrev pub mixed_here : Moment → ℕ → Known → ℕ
+mixed_here m number (Environment name value) = mixed_value (mixed_text (mixed number 1) name.items) (get m.environment name.items)
+mixed_here m number (Local name value) = mixed_value (mixed_text (mixed number 2) name.items) (get m.locals name.items)
+mixed_here m number (AnswerTo call answer) = mixed_answer (mixed_words (mixed number 3) (bytes_of_words call.items)) (answer_in m.log (bytes_of_words call.items))
+mixed_here m number (Succeeded start has) = mixed_flag (mixed_words (mixed number 4) (bytes_of_words start.items)) (has_succeeded m.log (bytes_of_words start.items))
+mixed_here m number (Status status) = mixed (mixed number 5) m.status

@@ -1,14 +1,16 @@
 //! The numbers under which the table keeps states: of a place, and of what is known there so far.
 ghost use Rattle.std.specs.Prelude.{◌≡◌, IsTrue};
-ghost use Rattle.rehearse_reports.specs.Known.{key_of, value_shown};
-ghost use Rattle.rehearse_endings.specs.Numbers.{mixed_answer, mixed_flag, mixed_known, mixed_value};
+ghost use Rattle.text.specs.TextsShown.{option_bytes};
+ghost use Rattle.rehearse_reports.specs.Known.{key_of};
+ghost use Rattle.rehearse_endings.specs.Numbers.{mixed_answer, mixed_flag, mixed_here, mixed_known, mixed_value};
 
-use rehearse_reports::Known;
+use bootstore_state::{Store, has_succeeded};
+use rehearse_reports::{Known, answer_to};
 use rehearse_states::{mix, mix_text, mix_words};
 
 /// Adds a value, or that there is none.
-fn mix_value(hash: u64, value: &Option<Vec<u8>>) -> u64
-    ensures { result ≡ mixed_value hash (value_shown value.now) }
+fn mix_value(hash: u64, value: Option<&[u8]>) -> u64
+    ensures { result ≡ mixed_value hash (option_bytes value.entry) }
 {
     match value {
         Some(bytes) => mix_text(mix(hash, 1), bytes),
@@ -58,10 +60,34 @@ pub(crate) fn mix_known(hash: u64, known: &Known) -> u64
     ensures { result ≡ mixed_known hash known.now }
 {
     match known {
-        Known::Environment(name, value) => mix_value(mix_text(mix(hash, 1), name), value),
-        Known::Local(name, value) => mix_value(mix_text(mix(hash, 2), name), value),
+        Known::Environment(name, value) => {
+            mix_value(mix_text(mix(hash, 1), name), value.as_deref())
+        }
+        Known::Local(name, value) => { mix_value(mix_text(mix(hash, 2), name), value.as_deref()) }
         Known::AnswerTo(call, answer) => mix_answer(mix_words(mix(hash, 3), call), *answer),
         Known::Succeeded(start, has) => mix_flag(mix_words(mix(hash, 4), start), *has),
         Known::Status(status) => mix(mix(hash, 5), u64::from(*status)),
+    }
+}
+
+/// Adds the key of what is known, and what the present state of a store has at it.
+pub(crate) fn mix_here<S: Store>(store: &S, hash: u64, known: &Known) -> u64
+    ensures { result ≡ mixed_here (S.record_of store.now).present hash known.now }
+{
+    match known {
+        Known::Environment(name, _) => {
+            mix_value(mix_text(mix(hash, 1), name), store.get_env(name))
+        }
+        Known::Local(name, _) => mix_value(mix_text(mix(hash, 2), name), store.get_local(name)),
+        Known::AnswerTo(call, _) => {
+            mix_answer(mix_words(mix(hash, 3), call), answer_to(store.log(), call))
+        }
+        Known::Succeeded(start, _) => {
+            mix_flag(
+                mix_words(mix(hash, 4), start),
+                has_succeeded(store.log(), start),
+            )
+        }
+        Known::Status(_) => mix(mix(hash, 5), u64::from(store.get_status())),
     }
 }

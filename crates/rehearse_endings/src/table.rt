@@ -14,7 +14,7 @@ ghost use Rattle.rehearse_endings.specs.declared.sum_error.SumError.TheVariants.
 
 use crate::entry::{Entry, Future, below_entry, fits, innermost, moved};
 use crate::held::behind_state;
-use crate::numbers::{have_one_key, mix_known};
+use crate::numbers::{have_one_key, mix_here, mix_known};
 use crate::sum_error::SumError;
 use bootstore_state::{Frame, Store, StoreError};
 use device_list::Devices;
@@ -203,7 +203,7 @@ impl Table {
             let Some(place) = self.onward.get(&number) else {
                 return Ok(None);
             };
-            let Some(next) = self.number_behind(alloc, store, number, *place, at)? else {
+            let Some(next) = self.number_behind(store, number, *place, at) else {
                 return Ok(None);
             };
             number = next;
@@ -261,7 +261,7 @@ impl Table {
             (λ found. MatchOption found (NoneBy bounds.steps bounds.devices self.now (S.record_of store.now).present number at place)
             (TakesOne bounds.steps bounds.devices self.now.entries.items (S.record_of store.now).present)) }
     {
-        let Some(next) = self.number_behind(alloc, store, number, place, at)? else {
+        let Some(next) = self.number_behind(store, number, place, at) else {
             return Ok(None);
         };
         let found = self.look(alloc, store, bounds, next, at + 1, depth)?;
@@ -269,24 +269,18 @@ impl Table {
     }
 
     /// The number with what the present state has at the key that the entry at a place knows after so many
-    /// others, if it knows more. Errors: `Memory`.
+    /// others, if it knows more.
     fn number_behind<S: Store>(
         &self,
-        alloc: Global,
         store: &S,
         number: u64,
         place: usize,
         at: usize,
-    ) -> Result<Option<u64>, StoreError>
-        ensures { IfOk result
-            (IsNumberBehind self.now.entries.items (S.record_of store.now).present number at place) }
+    ) -> Option<u64>
+        ensures { IsNumberBehind self.now.entries.items (S.record_of store.now).present number at place result }
     {
-        let Some(known) = self.known_at(place, at) else {
-            return Ok(None);
-        };
-        let key = known.key(alloc)?;
-        let here = Known::at(alloc, store, key)?;
-        Ok(Some(mix_known(number, &here)))
+        let known = self.known_at(place, at)?;
+        Some(mix_here(store, number, known))
     }
 
     /// What the entry at a place knows after so many other things.

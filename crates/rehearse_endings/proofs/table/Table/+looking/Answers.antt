@@ -14,8 +14,8 @@ look-returns-in_default-get g t c =
     (none_from c.args.bounds.steps c.args.bounds.devices table m number at (nothing _ _ c.in_ok-found.field-0 c.in_default.is c.in_ok-found.ensures)
     (λ within. all_ways _ _ (NoneBy c.args.bounds.steps c.args.bounds.devices table m number at) (no_first (get nat_eq table.onward number) (NoneBy c.args.bounds.steps c.args.bounds.devices table m number at) (sym c.in_default-get.ensures.value)) (nothing _ _ c.in_ok-found-2.field-0 c.in_default-2.is c.in_ok-found-2.ensures)))
 
-pub look-returns-in_default-3 : goal.look-returns-in_default-3
-look-returns-in_default-3 g t c =
+pub look-returns-in_default-number_behind : goal.look-returns-in_default-number_behind
+look-returns-in_default-number_behind g t c =
     let table = c.args.self.now in
     let m = (g.S.Store.record_of c.args.store.now).present in
     let number = c.loop-at.number in
@@ -23,7 +23,7 @@ look-returns-in_default-3 g t c =
     let place = c.in-Some-get.place.now in
     c.loop-at.invariant
     (none_from c.args.bounds.steps c.args.bounds.devices table m number at (nothing _ _ c.in_ok-found.field-0 c.in_default.is c.in_ok-found.ensures)
-    (λ within. all_ways _ _ (NoneBy c.args.bounds.steps c.args.bounds.devices table m number at) (first_alone (get nat_eq table.onward number) place (NoneBy c.args.bounds.steps c.args.bounds.devices table m number at) (sym c.in-Some-get.ensures.value) (none_beyond c.args.bounds.steps c.args.bounds.devices table m number at place c.in_ok-next.field-0 c.in_ok-next.ensures c.in_default-3.is)) (nothing _ _ c.in_ok-found-2.field-0 c.in_default-2.is c.in_ok-found-2.ensures)))
+    (λ within. all_ways _ _ (NoneBy c.args.bounds.steps c.args.bounds.devices table m number at) (first_alone (get nat_eq table.onward number) place (NoneBy c.args.bounds.steps c.args.bounds.devices table m number at) (sym c.in-Some-get.ensures.value) (none_beyond c.args.bounds.steps c.args.bounds.devices table m number at place c.number_behind.result c.number_behind.ensures c.in_default-number_behind.is)) (nothing _ _ c.in_ok-found-2.field-0 c.in_default-2.is c.in_ok-found-2.ensures)))
 
 pub look-loop-at-preserved : goal.look-loop-at-preserved
 look-loop-at-preserved g t c further =
@@ -34,7 +34,7 @@ look-loop-at-preserved g t c further =
     let place = c.in-Some-get.place.now in
     c.loop-at.invariant
     (none_from c.args.bounds.steps c.args.bounds.devices table m number at (nothing _ _ c.in_ok-found.field-0 c.in_default.is c.in_ok-found.ensures)
-    (λ within. all_ways _ _ (NoneBy c.args.bounds.steps c.args.bounds.devices table m number at) (first_alone (get nat_eq table.onward number) place (NoneBy c.args.bounds.steps c.args.bounds.devices table m number at) (sym c.in-Some-get.ensures.value) (none_by c.args.bounds.steps c.args.bounds.devices table m number at place c.in-Some-3.next c.in_ok-next.field-0 c.in_ok-next.ensures c.in-Some-3.is further)) (nothing _ _ c.in_ok-found-2.field-0 c.in_default-2.is c.in_ok-found-2.ensures)))
+    (λ within. all_ways _ _ (NoneBy c.args.bounds.steps c.args.bounds.devices table m number at) (first_alone (get nat_eq table.onward number) place (NoneBy c.args.bounds.steps c.args.bounds.devices table m number at) (sym c.in-Some-get.ensures.value) (none_by c.args.bounds.steps c.args.bounds.devices table m number at place c.in-Some-number_behind.next c.number_behind.result c.number_behind.ensures c.in-Some-number_behind.is further)) (nothing _ _ c.in_ok-found-2.field-0 c.in_default-2.is c.in_ok-found-2.ensures)))
 
 pub look-returns : goal.look-returns
 look-returns g t c =
@@ -54,8 +54,8 @@ pub look_aside-returns : goal.look_aside-returns
 look_aside-returns g t c = all_in_all (NoneBy c.args.bounds.steps c.args.bounds.devices c.args.self.now (g.S.Store.record_of c.args.store.now).present c.args.number c.args.at) c.deref-place-items.result.now (noted c.args.self.now.forks c.args.number) c.loop-place.place-index c.loop-place-test.false (c.deref-place-items.ensures.value ∙ ap places_in c.in-Some.ensures.value) c.loop-place.invariant
 
 pub look_behind-returns-in_default : goal.look_behind-returns-in_default
-look_behind-returns-in_default g t c = none_beyond c.args.bounds.steps c.args.bounds.devices c.args.self.now (g.S.Store.record_of c.args.store.now).present c.args.number c.args.at c.args.place c.in_ok-next.field-0 c.in_ok-next.ensures c.in_default.is
+look_behind-returns-in_default g t c = none_beyond c.args.bounds.steps c.args.bounds.devices c.args.self.now (g.S.Store.record_of c.args.store.now).present c.args.number c.args.at c.args.place c.number_behind.result c.number_behind.ensures c.in_default.is
 
 pub look_behind-returns : goal.look_behind-returns
 look_behind-returns g t c =
-    none_too _ _ _ c.in_ok-found.found (λ further. none_by c.args.bounds.steps c.args.bounds.devices c.args.self.now (g.S.Store.record_of c.args.store.now).present c.args.number c.args.at c.args.place c.in-Some.next c.in_ok-next.field-0 c.in_ok-next.ensures c.in-Some.is further) c.in_ok-found.ensures
+    none_too _ _ _ c.in_ok-found.found (λ further. none_by c.args.bounds.steps c.args.bounds.devices c.args.self.now (g.S.Store.record_of c.args.store.now).present c.args.number c.args.at c.args.place c.in-Some.next c.number_behind.result c.number_behind.ensures c.in-Some.is further) c.in_ok-found.ensures
