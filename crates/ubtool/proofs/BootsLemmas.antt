@@ -20,7 +20,8 @@ use Rattle.tool_words.specs.Asked.{InputsShown}
 use Rattle.tool_words.specs.declared.ask.BootsAsk.{BootsAsk}
 use Rattle.ubtool.specs.BootsOfFiles.{AreUnchanged, FromAllFiles, HasReadChanges, IsChangesFault, RefusesFrom, TellsBootsFrom, TellsBootsOfCopies, boots_refusal, changes_path, limits_in, runs_asked}
 use Rattle.ubtool.specs.BootsOfImages.{BootLimits, RefusesBoots, TellsBoots}
-use Rattle.ubtool.specs.Given.{FromFiles, Given, given_by, script_of}
+use Rattle.ubtool.specs.Given.{Given}
+use Rattle.ubtool.specs.GivenByFiles.{FromFiles, given_by, script_of}
 use Rattle.ubtool.specs.RehearsingFiles.{LeavesOutput}
 use Rattle.ubtool.specs.declared.fault.ProgramFault.TheVariants.{Shared}
 use Rattle.ubtool.specs.declared.rehearsal_error.RehearsalError.{RehearsalError}

@@ -6,7 +6,8 @@ use Rattle.envimage.specs.declared.image.ByteOrder.{ByteOrder}
 use Rattle.tool_words.specs.Asked.{InputsShown}
 use Rattle.tool_words.specs.declared.ask.CausesAsk.{CausesAsk}
 use Rattle.ubtool.specs.CausesOfImages.{RefusesCauses, TellsCauses}
-use Rattle.ubtool.specs.Given.{FromFiles, Given, given_by, script_of}
+use Rattle.ubtool.specs.Given.{Given}
+use Rattle.ubtool.specs.GivenByFiles.{FromFiles, given_by, script_of}
 use Rattle.ubtool.specs.declared.rehearsal_error.RehearsalError.{RehearsalError}
 use Rattle.rehearse_rules.specs.declared.rehearse_error.RehearseError.TheVariants as rehearsal
 use Rattle.ubtool.specs.declared.rehearsal_error.RehearsalError.TheVariants as refused

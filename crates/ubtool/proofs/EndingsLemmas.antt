@@ -7,7 +7,8 @@ use Rattle.rehearse_terms.specs.Bounds.{BoundsShown}
 use Rattle.tool_words.specs.Asked.{InputsShown}
 use Rattle.tool_words.specs.declared.ask.EndingsAsk.{EndingsAsk}
 use Rattle.ubtool.specs.EndingsOfImages.{RefusesEndings, TellsEndings}
-use Rattle.ubtool.specs.Given.{FromFiles, Given, all_runs, given_by, script_of}
+use Rattle.ubtool.specs.Given.{Given, all_runs}
+use Rattle.ubtool.specs.GivenByFiles.{FromFiles, given_by, script_of}
 use Rattle.ubtool.specs.declared.rehearsal_error.RehearsalError.{RehearsalError}
 use Rattle.rehearse_rules.specs.declared.rehearse_error.RehearseError.TheVariants as rehearsal
 use Rattle.ubtool.specs.declared.rehearsal_error.RehearsalError.TheVariants as refused

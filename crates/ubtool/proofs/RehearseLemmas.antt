@@ -11,7 +11,8 @@ use Rattle.rehearse_runs.specs.declared.listing.Finish.{Finish}
 use Rattle.tool_words.specs.Asked.{InputsShown}
 use Rattle.tool_words.specs.declared.ask.RehearseAsk.{RehearseAsk}
 use Rattle.tool_images.specs.FileFaults.{path_form}
-use Rattle.ubtool.specs.Given.{FromFiles, Given, given_by, script_of}
+use Rattle.ubtool.specs.Given.{Given}
+use Rattle.ubtool.specs.GivenByFiles.{FromFiles, given_by, script_of}
 use Rattle.ubtool.specs.Headline.{Rehearses}
 use Rattle.ubtool.specs.Refusing.{Refuses}
 use Rattle.tool_files.specs.Told.{Told}

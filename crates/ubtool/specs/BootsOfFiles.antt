@@ -24,7 +24,8 @@ use Rattle.tool_words.specs.declared.ask.ValueAsk.{ValueAsk}
 use Rattle.rehearse_terms.specs.State.{Text}
 use Rattle.ubtool.specs.BootsOfImages.{BootLimits, RefusesBoots, TellsBoots}
 use Rattle.ubtool.specs.Faults.{reported}
-use Rattle.ubtool.specs.Given.{FromFiles, Given, all_runs}
+use Rattle.ubtool.specs.Given.{Given, all_runs}
+use Rattle.ubtool.specs.GivenByFiles.{FromFiles}
 use Rattle.ubtool.specs.Room.{room_if, room_of}
 use Rattle.ubtool.specs.declared.fault.ProgramFault.{ProgramFault}
 use Rattle.ubtool.specs.declared.fault.ProgramFault.TheVariants as program

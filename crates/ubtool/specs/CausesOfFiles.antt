@@ -9,7 +9,8 @@ use Rattle.tool_words.specs.declared.ask.CausesAsk.{CausesAsk}
 use Rattle.ubtool.specs.CausesOfImages.{RefusesCauses, TellsCauses}
 use Rattle.tool_images.specs.FileFaults.{path_form}
 use Rattle.board_files.specs.BoardFiles.{IsNotRead}
-use Rattle.ubtool.specs.Given.{FromFiles, Given, all_runs}
+use Rattle.ubtool.specs.Given.{Given, all_runs}
+use Rattle.ubtool.specs.GivenByFiles.{FromFiles}
 use Rattle.rehearse_rules.specs.declared.rehearse_error.RehearseError.TheVariants as rehearsal
 use Rattle.tool_images.specs.declared.error.ToolError.TheVariants as tool
 use Rattle.ubtool.specs.Faults.{reported}

@@ -9,7 +9,8 @@ use Rattle.tool_words.specs.declared.ask.EndingsAsk.{EndingsAsk}
 use Rattle.ubtool.specs.EndingsOfImages.{RefusesEndings, TellsEndings}
 use Rattle.tool_images.specs.FileFaults.{path_form}
 use Rattle.board_files.specs.BoardFiles.{IsNotRead}
-use Rattle.ubtool.specs.Given.{FromFiles, Given, all_runs}
+use Rattle.ubtool.specs.Given.{Given, all_runs}
+use Rattle.ubtool.specs.GivenByFiles.{FromFiles}
 use Rattle.rehearse_rules.specs.declared.rehearse_error.RehearseError.TheVariants as rehearsal
 use Rattle.tool_images.specs.declared.error.ToolError.TheVariants as tool
 use Rattle.ubtool.specs.Faults.{reported}

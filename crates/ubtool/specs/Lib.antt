@@ -1,5 +1,6 @@
 pub mod Faults
 pub mod Given
+pub mod GivenByFiles
 pub mod ListsShown
 pub mod LookedShown
 pub mod BoardEnvironment

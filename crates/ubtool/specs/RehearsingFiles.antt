@@ -10,7 +10,8 @@ use Rattle.tool_words.specs.declared.ask.RehearseAsk.{RehearseAsk}
 use Rattle.rehearse_terms.specs.WantedShown.{wanted_word}
 use Rattle.tool_images.specs.FileFaults.{path_form}
 use Rattle.board_files.specs.BoardFiles.{IsNotRead}
-use Rattle.ubtool.specs.Given.{FromFiles, Given}
+use Rattle.ubtool.specs.Given.{Given}
+use Rattle.ubtool.specs.GivenByFiles.{FromFiles}
 use Rattle.ubtool.specs.Headline.{LeavesRecords, Rehearses}
 use Rattle.tool_files.specs.CallOrder.{OnlyReads}
 use Rattle.ubtool.specs.Refusing.{Refuses}

@@ -5,7 +5,7 @@ ghost use Rattle.board_files.specs.BoardFiles.{list_of};
 ghost use Rattle.ubtool.specs.Faults.{CountsShared};
 ghost use Rattle.tool_steps.specs.Images.{copies};
 ghost use Rattle.ubtool.specs.RehearsingFiles.{LeavesOutput, RehearsesCopies, RehearsesFrom, refusal_of};
-ghost use Rattle.ubtool.specs.Given.{given_by, script_of};
+ghost use Rattle.ubtool.specs.GivenByFiles.{given_by, script_of};
 ghost use Rattle.tool_words.specs.CommandAnswers.{asking_of, inputs_shown};
 
 use crate::beginning::DeviceText;

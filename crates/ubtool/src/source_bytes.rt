@@ -6,7 +6,7 @@ ghost use Rattle.tool_steps.specs.Images.{copies};
 ghost use Rattle.tool_steps.specs.PrintingFiles.{first_bytes, second_bytes};
 ghost use Rattle.board_files.specs.BoardFiles.{list_of, list_read};
 ghost use Rattle.device_list.specs.CommandsShown.{files_shown};
-ghost use Rattle.ubtool.specs.Given.{script_of};
+ghost use Rattle.ubtool.specs.GivenByFiles.{script_of};
 
 use board_files::BoardFiles;
 use device_list::FileTexts;

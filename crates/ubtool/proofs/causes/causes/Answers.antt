@@ -7,7 +7,7 @@ use Rattle.ubtool.specs.CausesOfFiles.{TellsCausesFrom}
 use Rattle.tool_words.specs.CommandAnswers.{inputs_shown}
 use Rattle.tool_steps.specs.Images.{copies}
 use Rattle.ubtool.specs.CausesOfFiles.{runs_asked}
-use Rattle.ubtool.specs.Given.{given_by, script_of}
+use Rattle.ubtool.specs.GivenByFiles.{given_by, script_of}
 use Rattle.ubtool.specs.RehearsingFiles.{LeavesOutput}
 use Rattle.ubtool.proofs.CausesTurnLemmas.{told-sound}
 use Rattle.ubtool.proofs.CausesLemmas.{causes-found, causes-refused, unread, leaves-refused}

@@ -7,7 +7,7 @@ use Rattle.ubtool.specs.EndingsOfFiles.{TellsFrom}
 use Rattle.tool_words.specs.CommandAnswers.{inputs_shown}
 use Rattle.tool_steps.specs.Images.{copies}
 use Rattle.ubtool.specs.EndingsOfFiles.{all_asked, bytes_allowed}
-use Rattle.ubtool.specs.Given.{given_by, script_of}
+use Rattle.ubtool.specs.GivenByFiles.{given_by, script_of}
 use Rattle.ubtool.specs.RehearsingFiles.{LeavesOutput}
 use Rattle.ubtool.proofs.EndingsTurnLemmas.{told-sound}
 use Rattle.ubtool.proofs.EndingsLemmas.{leaves-refused, tells-found, tells-refused, unread}

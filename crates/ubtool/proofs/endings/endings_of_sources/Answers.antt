@@ -2,7 +2,8 @@ use Rattle.std.proofs.Common.{◌≡◌, ◌∙◌, ap, subst, map, string_bytes
 use Rattle.std.specs.Borrow.{Bor}
 use Rattle.std.specs.Option.{option_copied}
 use Rattle.text.specs.TextsShown.{option_bytes}
-use Rattle.ubtool.specs.Given.{Given, all_runs, given, given_by, script_of}
+use Rattle.ubtool.specs.Given.{Given, all_runs, given}
+use Rattle.ubtool.specs.GivenByFiles.{given_by, script_of}
 use Rattle.tool_steps.specs.Images.{copies}
 use Rattle.ubtool.specs.EndingsOfFiles.{TellsCopies, all_asked}
 use Rattle.ubtool.proofs.EndingsLemmas.{copies-told, same-runs}
